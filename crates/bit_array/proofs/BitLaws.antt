@@ -6,13 +6,13 @@ use Rattle.std.proofs.lemmas.Bool.{cases_eq, cases_lt}
 use Rattle.std.proofs.lemmas.List.{get_or_past, get_or-set_same, get_or-set_other, length-set, length-replicate, get_or-replicate}
 use Rattle.std.proofs.lemmas.List.FromFn.{length-map-range_with_len, get_or-map-range_with_len, fill_by_all}
 use Rattle.std.proofs.lemmas.Nat.Bits.{bit_at-zero}
-use Rattle.bit_array.specs.Bits.{bit_of, bits_of}
+use Rattle.bit_array.specs.Bits.{bit_in, bits_of}
 
 pub length-bits_of : (words : List ℕ) (len : ℕ) → length (bits_of words len) ≡ len
-length-bits_of words len = length-map-range_with_len (bit_of words) 0 len
+length-bits_of words len = length-map-range_with_len (bit_in words) 0 len
 
-pub get-bits_of : (words : List ℕ) (len i : ℕ) → i < len → slice_index_or (bits_of words len) i false ≡ bit_of words i
-get-bits_of words len i h = get_or-map-range_with_len (bit_of words) 0 len i i false h (omega arith)
+pub get-bits_of : (words : List ℕ) (len i : ℕ) → i < len → slice_index_or (bits_of words len) i false ≡ bit_in words i
+get-bits_of words len i h = get_or-map-range_with_len (bit_in words) 0 len i i false h (omega arith)
 
 pub past-bits_of : (words : List ℕ) (len i : ℕ) → len ≤ i → slice_index_or (bits_of words len) i false ≡ false
 past-bits_of words len i h = get_or_past (bits_of words len) i false (let e = length-bits_of words len in omega (arith, e))
@@ -31,9 +31,9 @@ as_number false = refl
 -- a bit of the words, one of which was changed at one place
 bit-changed : (words : List ℕ) (len i x : ℕ) (bit : Bool) → len ≤ 64 * length words → i < len →
     bit_at x (i % 64) ≡ cond bit 1 0 → ((k : ℕ) → k < 64 → k ≢ i % 64 → bit_at x k ≡ bit_at (slice_index_or words (i / 64) 0) k) →
-    (k : ℕ) → k < len → slice_index_or (slice_set (bits_of words len) i bit) k false ≡ bit_of (slice_set words (i / 64) x) k
+    (k : ℕ) → k < len → slice_index_or (slice_set (bits_of words len) i bit) k false ≡ bit_in (slice_set words (i / 64) x) k
 bit-changed words len i x bit room h same others k g = elim (cases_eq k i) [
-  | inl e ↦ subst (λ j. slice_index_or (slice_set (bits_of words len) i bit) j false ≡ bit_of (slice_set words (i / 64) x) j) (sym e)
+  | inl e ↦ subst (λ j. slice_index_or (slice_set (bits_of words len) i bit) j false ≡ bit_in (slice_set words (i / 64) x) j) (sym e)
       (get_or-set_same (bits_of words len) i bit false (let l = length-bits_of words len in omega (arith, l))
       ∙ sym (ap (λ w. bit_at w (i % 64) == 1) (get_or-set_same words (i / 64) x 0 (omega arith)) ∙ (ap (λ n. n == 1) same ∙ as_number bit)))
   | inr ne ↦ get_or-set_other (bits_of words len) i k bit false ne ∙ (get-bits_of words len k g ∙ elim (cases_eq (k / 64) (i / 64)) [
@@ -50,14 +50,14 @@ pub bits-changed : (words : List ℕ) (len i x : ℕ) (bit : Bool) → len ≤ 6
     bit_at x (i % 64) ≡ cond bit 1 0 → ((k : ℕ) → k < 64 → k ≢ i % 64 → bit_at x k ≡ bit_at (slice_index_or words (i / 64) 0) k) →
     bits_of (slice_set words (i / 64) x) len ≡ slice_set (bits_of words len) i bit
 bits-changed words len i x bit room h same others =
-    sym (fill_by_all (bit_of (slice_set words (i / 64) x)) (slice_set (bits_of words len) i bit) len false
+    sym (fill_by_all (bit_in (slice_set words (i / 64) x)) (slice_set (bits_of words len) i bit) len false
     (length-set (bits_of words len) i bit ∙ length-bits_of words len)
     (bit-changed words len i x bit room h same others))
 
 -- no word has a bit
 pub no-bits : (count len : ℕ) → ◌≡◌ {A = List Bool} (bits_of (replicate count 0) len) (replicate len false)
 no-bits count len =
-    sym (fill_by_all (bit_of (replicate count 0)) (replicate len false) len false (length-replicate len false) (λ k h. get_or-replicate len k false false h ∙ sym (none k)))
+    sym (fill_by_all (bit_in (replicate count 0)) (replicate len false) len false (length-replicate len false) (λ k h. get_or-replicate len k false false h ∙ sym (none k)))
   where
     zero_word : (p : ℕ) → ◌≡◌ {A = ℕ} (slice_index_or (replicate {A = ℕ} count 0) p 0) 0
     zero_word p = elim (cases_lt p count) [
@@ -65,5 +65,5 @@ no-bits count len =
       | inr h ↦ get_or_past (replicate count 0) p 0 (let e : length (replicate {A = ℕ} count 0) ≡ count = length-replicate {A = ℕ} count 0 in omega (arith, e))
     ]
 
-    none : (k : ℕ) → ◌≡◌ {A = Bool} (bit_of (replicate {A = ℕ} count 0) k) false
+    none : (k : ℕ) → ◌≡◌ {A = Bool} (bit_in (replicate {A = ℕ} count 0) k) false
     none k = ap (λ w. bit_at w (k % 64) == 1) (zero_word (k / 64)) ∙ ap (λ n. n == 1) (bit_at-zero (k % 64))

@@ -7,7 +7,7 @@ use Rattle.std.specs.List.{range_with_len}
 use Rattle.std.proofs.lemmas.Bool.{cases_eq, and_parts, eq-eqb, ne_eqb, ltb-true}
 use Rattle.std.proofs.lemmas.Option.{same_Some}
 use Rattle.tsd_model.specs.Rank.{rank_of}
-use Rattle.tsd_model.specs.Placing.{in_rank_order, sorted_by_rank, first_of}
+use Rattle.tsd_model.specs.Placing.{in_rank_order, sorted_by_rank, first_block}
 use Rattle.tsd_model.specs.declared.requests.PlaceKind.{PlaceKind}
 use Rattle.block_alloc.specs.LiveMap.{is_live, is_free}
 use Rattle.block_alloc.specs.Choosing.{free_blocks, all_blocks, chosen, is_free_run, runs, chosen_run}
@@ -100,7 +100,7 @@ get-take (suc n) [] i b e = e
 get-take (suc n) (x ∷ xs) zero b e = e
 get-take (suc n) (x ∷ xs) (suc i) b e = get-take n xs i b e
 
-get-first : (xs : List ℕ) (b : ℕ) → first_of xs ≡ Some b → slice_get xs 0 ≡ Some b
+get-first : (xs : List ℕ) (b : ℕ) → first_block xs ≡ Some b → slice_get xs 0 ≡ Some b
 get-first [] b e = e
 get-first (x ∷ xs) b e = e
 

@@ -8,7 +8,7 @@ use Rattle.std.proofs.lemmas.List.{get_or-set_other}
 use Rattle.std.proofs.lemmas.List.FromFn.{get_or-map-range_with_len, fill_by_all}
 use Rattle.image_device.specs.Image.{Image, put_at}
 use Rattle.image_layout.specs.Areas.{bitmap_start, slots_start}
-use Rattle.image_layout.specs.Image.{is_marked}
+use Rattle.image_layout.specs.Image.{is_bit_set}
 use Rattle.tsd_model.specs.declared.geometry.Geometry.{Geometry}
 use Rattle.block_alloc.specs.LiveMap.{is_live}
 use Rattle.block_alloc.specs.Bytes.{bit_in, bits_of, bitmap_byte, bitmap_sector_bytes}
@@ -17,7 +17,7 @@ use Rattle.block_alloc.proofs.BitLaws.{get-bits_of}
 use Rattle.block_alloc.proofs.ByteLaws.{bit-bitmap_byte}
 
 -- the block's bit in an image whose sector of that bit has these bytes
-pub marked_by : (x : Image) (g : Geometry) (b : ℕ) (bytes : List ℕ) → x (sector_of g b) ≡ bytes → is_marked x g b ≡ (bit_at (slice_index bytes (b / 8 % 512)) (b % 8) == 1)
+pub marked_by : (x : Image) (g : Geometry) (b : ℕ) (bytes : List ℕ) → x (sector_of g b) ≡ bytes → is_bit_set x g b ≡ (bit_at (slice_index bytes (b / 8 % 512)) (b % 8) == 1)
 marked_by x g b bytes e = ap (λ s. bit_at (slice_index s (b / 8 % 512)) (b % 8) == 1) e
 
 put_here : (sector n : ℕ) (bytes : List ℕ) (x : Image) → n ≡ sector → put_at sector bytes x n ≡ bytes
@@ -81,8 +81,8 @@ batch_is_stored live now g x y stored patched = λ b h. elim (patched b h) [
 
 -- ---- the sectors of an image's bitmap decide what it says
 -- an image has the bits of one map alone
-pub one_map : (live : List Bool) (g : Geometry) (x : Image) → length live ≡ g.blocks → IsStored live g x → live ≡ map (is_marked x g) (range_with_len 0 g.blocks)
-one_map live g x each stored = fill_by_all (is_marked x g) live g.blocks false each (λ b h. sym (stored b h))
+pub one_map : (live : List Bool) (g : Geometry) (x : Image) → length live ≡ g.blocks → IsStored live g x → live ≡ map (is_bit_set x g) (range_with_len 0 g.blocks)
+one_map live g x each stored = fill_by_all (is_bit_set x g) live g.blocks false each (λ b h. sym (stored b h))
 
 -- and another one with the same sectors has them too
 pub same_sectors : (live : List Bool) (g : Geometry) (x y : Image) → ((n : ℕ) → bitmap_start g ≤ n → n < slots_start g → y n ≡ x n) → IsStored live g x → IsStored live g y

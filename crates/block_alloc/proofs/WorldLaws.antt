@@ -7,7 +7,7 @@ use Rattle.std.proofs.lemmas.Bool.{cases_lt, le-ltb}
 use Rattle.std.proofs.lemmas.List.{length-map, get_or-map, ext_get_or}
 use Rattle.std.proofs.lemmas.List.Sums.{sum_by-cons}
 use Rattle.tsd_model.specs.Rank.{rank_of}
-use Rattle.tsd_model.specs.Placing.{hint_block, sorted_by_rank, first_of}
+use Rattle.tsd_model.specs.Placing.{hint_block, sorted_by_rank, first_block}
 use Rattle.tsd_model.specs.Placing.{free_blocks as free_blocks_of, chosen as chosen_of, is_free_run as is_free_run_of, runs as runs_of, chosen_run as chosen_run_of}
 use Rattle.tsd_model.specs.World.{World, contents}
 use Rattle.tsd_model.specs.World.{is_free as is_free_in, free_count as free_count_of}
@@ -50,7 +50,7 @@ runs_same live w same count =
     ap (λ p. filter p (range_with_len 0 (length live))) (run_in live w same count) ∙ ap (λ n. filter (is_free_run_of w count) (range_with_len 0 n)) same.each_block
 
 pub chosen_run_same : (live : List Bool) (w : World) → IsMapOf live w → (kind : PlaceKind) (hint : Hint) (count : ℕ) → chosen_run kind live (hint_block hint) count ≡ chosen_run_of kind w hint count
-chosen_run_same live w same kind hint count = ap (λ bs. first_of (sorted_by_rank (rank_of kind (hint_block hint)) bs)) (runs_same live w same count)
+chosen_run_same live w same kind hint count = ap (λ bs. first_block (sorted_by_rank (rank_of kind (hint_block hint)) bs)) (runs_same live w same count)
 
 -- and as many are
 count-map : {X : Type 0} (os : List (Option X)) → count_by not (map is_some os) ≡ count_by is_none os

@@ -2,7 +2,7 @@
 use Rattle.std.specs.Prelude.{◌≡◌, ℕ, ◌<◌, ◌≤◌, Bool, nat_le, List, [], filter, take, length, Option}
 use Rattle.std.specs.List.{list_all, range_with_len}
 use Rattle.tsd_model.specs.Rank.{rank_of}
-use Rattle.tsd_model.specs.Placing.{sorted_by_rank, first_of}
+use Rattle.tsd_model.specs.Placing.{sorted_by_rank, first_block}
 use Rattle.tsd_model.specs.declared.requests.PlaceKind.{PlaceKind}
 use Rattle.block_alloc.specs.LiveMap.{is_free, free_count}
 use Rattle.block_alloc.specs.declared.choose.RunRefusal.{RunRefusal}
@@ -33,7 +33,7 @@ runs live count = filter (is_free_run live count) (all_blocks live)
 
 -- where the run begins whose first block has the least rank
 abbrev pub chosen_run : PlaceKind → List Bool → ℕ → ℕ → Option ℕ
-chosen_run kind live hint count = first_of (sorted_by_rank (rank_of kind hint) (runs live count))
+chosen_run kind live hint count = first_block (sorted_by_rank (rank_of kind hint) (runs live count))
 
 -- ---- refusals, with both numbers
 -- fewer blocks are free than are wanted

@@ -3,7 +3,7 @@ use Rattle.std.specs.Prelude.{◌≡◌, ◌≢◌, ◌⊎◌, ℕ, ◌+◌, ◌
 use Rattle.image_device.specs.Image.{Image, put_at}
 use Rattle.image_layout.specs.declared.offset.Patch.{Patch}
 use Rattle.image_layout.specs.Areas.{bitmap_start, slots_start}
-use Rattle.image_layout.specs.Image.{is_marked}
+use Rattle.image_layout.specs.Image.{is_bit_set}
 use Rattle.image_layout.specs.Offsets.{bit_offset}
 use Rattle.tsd_model.specs.declared.geometry.Geometry.{Geometry}
 use Rattle.block_alloc.specs.Bytes.{bitmap_sector_bytes}
@@ -11,7 +11,7 @@ use Rattle.block_alloc.specs.LiveMap.{is_live}
 
 -- the bit of this block is 1 where it is live, and else 0
 abbrev pub IsStoredAt : List Bool → Geometry → Image → ℕ → Type 0
-IsStoredAt live g image b = is_marked image g b ≡ is_live live b
+IsStoredAt live g image b = is_bit_set image g b ≡ is_live live b
 
 -- the bit of each block
 abbrev pub IsStored : List Bool → Geometry → Image → Type 0

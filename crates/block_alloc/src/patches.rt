@@ -6,7 +6,7 @@ ghost use Rattle.std.specs.List.{range_with_len};
 ghost use Rattle.image_device.specs.Agreeing.{AgreeWithin};
 ghost use Rattle.image_device.specs.Image.{Image};
 ghost use Rattle.image_layout.specs.Areas.{bitmap_start, slots_start};
-ghost use Rattle.image_layout.specs.Image.{is_marked};
+ghost use Rattle.image_layout.specs.Image.{is_bit_set};
 ghost use Rattle.tsd_model.specs.declared.geometry.Geometry.{Geometry};
 ghost use Rattle.block_alloc.specs.Stored.{IsStored, ArePatched, patched};
 
@@ -21,7 +21,7 @@ pub fn patches_keep_the_bitmap()
 
     // An image has the bits of one map alone, and the bitmap's sectors decide which.
     ensures one_map { (live : List Bool) (g : Geometry) (x : Image) → length live ≡ g.blocks → IsStored live g x
-        → live ≡ map (is_marked x g) (range_with_len 0 g.blocks) }
+        → live ≡ map (is_bit_set x g) (range_with_len 0 g.blocks) }
     ensures same_sectors { (live : List Bool) (g : Geometry) (x y : Image)
         → AgreeWithin (bitmap_start g) (slots_start g) x y → IsStored live g x → IsStored live g y }
 {}

@@ -16,7 +16,7 @@ use Rattle.tsd_model.specs.Records.{is_of_version, is_record_of, kept, kept_of, 
 use Rattle.image_layout.specs.Header.{IsVersion}
 use Rattle.image_layout.specs.Image.{kept_len}
 use Rattle.cap_store.specs.Store.{IsOfVersion, IsRecord, AreRecords}
-use Rattle.cap_store.specs.Stored.{kept_as, kept_bytes, record_bytes, record_at}
+use Rattle.cap_store.specs.Stored.{kept_as, kept_bytes, record_bytes, sector_record}
 
 -- there are two versions
 pub for_version : (P : ℕ → Type 0) → P 1 → P 2 → (version : ℕ) → IsVersion version → P version
@@ -91,7 +91,7 @@ read_back version (Plain c) is = subst (λ v. kept_as v c.bytes ≡ Plain c) (sy
 read_back version (Digested d) is = subst (λ v. kept_as v d ≡ Digested d) (sym is.0) refl
 
 pub records_back : (version : ℕ) (rs : List Record) (rest : List ℕ) (k : ℕ) (r : Record) → AreRecords version rs → slice_get rs k ≡ Some r
-    → record_at version (flat_map record_bytes rs ++ rest) k ≡ r
+    → sector_record version (flat_map record_bytes rs ++ rest) k ≡ r
 records_back version [] rest k r are is = absurd (none-some r is)
 records_back version (x ∷ xs) rest zero r are is =
     let first : IsRecord version x = are zero x refl in
@@ -106,7 +106,7 @@ records_back version (x ∷ xs) rest zero r are is =
     ap (λ n. take len (drop n (flat_map record_bytes (x ∷ xs) ++ rest))) at_read ∙ ap (take len) whole ∙ take_at R (W ++ T) len (kept_long version x.read first.read) in
     let write : take len (drop (2 * len * 0 + len) (flat_map record_bytes (x ∷ xs) ++ rest)) ≡ W =
     ap (λ n. take len (drop n (flat_map record_bytes (x ∷ xs) ++ rest))) at_write ∙ ap (λ l. take len (drop len l)) whole ∙ ap (take len) (drop_at R (W ++ T) len (kept_long version x.read first.read)) ∙ take_at W T len (kept_long version x.write first.write) in
-    let is_x : record_at version (flat_map record_bytes (x ∷ xs) ++ rest) 0 ≡ x = λ i. record {
+    let is_x : sector_record version (flat_map record_bytes (x ∷ xs) ++ rest) 0 ≡ x = λ i. record {
       read = (ap (kept_as version) read ∙ read_back version x.read first.read) i;
       write = (ap (kept_as version) write ∙ read_back version x.write first.write) i;
     } in
@@ -122,7 +122,7 @@ records_back version (x ∷ xs) rest (suc k) r are is =
     let at_write : 2 * len * suc k + len ≡ 2 * len + (2 * len * k + len) = omega arith in
     let read : drop (2 * len * suc k) all ≡ drop (2 * len * k) T = ap (λ n. drop n all) at_read ∙ past (2 * len * k) in
     let write : drop (2 * len * suc k + len) all ≡ drop (2 * len * k + len) T = ap (λ n. drop n all) at_write ∙ past (2 * len * k + len) in
-    let moved : record_at version all (suc k) ≡ record_at version T k = λ i. record { read = kept_as version (take len (read i)); write = kept_as version (take len (write i)) } in
+    let moved : sector_record version all (suc k) ≡ sector_record version T k = λ i. record { read = kept_as version (take len (read i)); write = kept_as version (take len (write i)) } in
     moved ∙ records_back version xs rest k r (λ b s at. are (suc b) s at) is
 
 -- ---- records written one after another

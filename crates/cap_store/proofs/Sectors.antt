@@ -13,7 +13,7 @@ use Rattle.image_layout.specs.Header.{IsVersion}
 use Rattle.image_layout.specs.Image.{Image, kept_len, kept_offset}
 use Rattle.cap_store.specs.Changes.{patch_of, KeepsStored}
 use Rattle.cap_store.specs.Store.{AreRecords, IsRecord, IsTable, Store}
-use Rattle.cap_store.specs.Stored.{sector_of, caps_sector_bytes, kept_as, part_of, per_sector, record_at, record_bytes, records_in, stored_record, IsStored, IsStoredBut}
+use Rattle.cap_store.specs.Stored.{sector_of, caps_sector_bytes, kept_as, part_of, per_sector, sector_record, record_bytes, records_in, stored_record, IsStored, IsStoredBut}
 use Rattle.cap_store.proofs.RecordLaws.{blank, for_version, records_back, records_long}
 use Rattle.cap_store.proofs.Reading.{record_in}
 
@@ -123,7 +123,7 @@ read_there version rs y is few are other less put =
     let zeros : List ℕ = replicate (512 - 2 * kept_len version * length (records_in version rs part)) 0 in
     let stored : stored_record version y other ≡ r =
     ap (stored_record version y) here ∙ record_in y part k version is rest.1
-    ∙ ap (λ l. record_at version l k) put
+    ∙ ap (λ l. sector_record version l k) put
     ∙ records_back version (records_in version rs part) zeros k r (part_are version rs part are) cut in
     held ∙ ap Some (sym stored)
 

@@ -47,8 +47,8 @@ abbrev pub kept_as : ℕ → List ℕ → KeptCap
 kept_as version bytes = cond (version == 2) (Digested bytes) (Plain (record { bytes = bytes }))
 
 -- the record at a position of a sector with these bytes, counted from 0
-abbrev pub record_at : ℕ → List ℕ → ℕ → Record
-record_at version bytes position = record {
+abbrev pub sector_record : ℕ → List ℕ → ℕ → Record
+sector_record version bytes position = record {
   read = kept_as version (take (kept_len version) (drop (2 * kept_len version * position) bytes));
   write = kept_as version (take (kept_len version) (drop (2 * kept_len version * position + kept_len version) bytes));
 }

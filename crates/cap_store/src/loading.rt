@@ -5,7 +5,7 @@ ghost use Rattle.image_device.specs.Calls.{Rests, Uses};
 ghost use Rattle.image_device.specs.Counts.{CountsFault};
 ghost use Rattle.image_layout.specs.Header.{IsVersion};
 ghost use Rattle.cap_store.specs.Store.{AreRecords, IsRecord};
-ghost use Rattle.cap_store.specs.Stored.{per_sector, record_at, IsStored};
+ghost use Rattle.cap_store.specs.Stored.{per_sector, sector_record, IsStored};
 
 use crate::sector::{per_sector, record_in};
 use image_device::{Device, Failed};
@@ -18,8 +18,8 @@ fn set_records(version: u32, bytes: &[u8; SECTOR_BYTES], first: usize, records: 
     requires first { first ≤ length records.old }
     ensures before { (block : ℕ) → block < first → slice_get records.new block ≡ slice_get records.old block }
     ensures here { (k : ℕ) → k < per_sector version → first + k < length records.old
-        → slice_get records.new (first + k) ≡ Some (record_at version bytes.now k) }
-    ensures kept { (k : ℕ) → k < per_sector version → IsRecord version (record_at version bytes.now k) }
+        → slice_get records.new (first + k) ≡ Some (sector_record version bytes.now k) }
+    ensures kept { (k : ℕ) → k < per_sector version → IsRecord version (sector_record version bytes.now k) }
 {
     let end = records.len().min(first + per_sector(version));
     for block in first..end {

@@ -6,7 +6,8 @@ ghost use Rattle.std.specs.List.{flat_map};
 ghost use Rattle.image_layout.specs.Image.{kept_len};
 ghost use Rattle.image_layout.specs.Header.{IsVersion};
 ghost use Rattle.cap_store.specs.Store.{AreRecords, IsRecord};
-ghost use Rattle.cap_store.specs.Stored.{caps_sector_bytes, kept_as, kept_bytes, per_sector, record_at, record_bytes};
+ghost use Rattle.cap_store.specs.Stored.{caps_sector_bytes, kept_as, kept_bytes, per_sector, sector_record};
+ghost use Rattle.cap_store.specs.Stored.{record_bytes};
 
 use image_layout::header::DIGEST_VERSION;
 use image_layout::sectors::SECTOR_BYTES;
@@ -66,7 +67,7 @@ fn kept_in(version: u32, bytes: &[u8; SECTOR_BYTES], at: usize) -> KeptCap
 pub(crate) fn record_in(version: u32, bytes: &[u8; SECTOR_BYTES], position: usize) -> Record
     requires version { IsVersion version }
     requires inside { position < per_sector version }
-    ensures value { result ≡ record_at version bytes.now position }
+    ensures value { result ≡ sector_record version bytes.now position }
     ensures kept { IsRecord version result }
 {
     let len = kept_len(version);

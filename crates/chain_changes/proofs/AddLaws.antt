@@ -4,13 +4,12 @@ use Rattle.std.proofs.lemmas.Bool.{and_from, and_parts, eq-eqb, eqb-true}
 use Rattle.std.proofs.lemmas.Bool.Decides.{nat_tests}
 use Rattle.std.specs.Prelude.{slice_index_or}
 use Rattle.tsd_model.specs.Geometry.{block_len}
-use Rattle.tsd_model.specs.World.{World, has_number}
+use Rattle.tsd_model.specs.World.{World, has_number, are_apart}
 use Rattle.tsd_model.specs.Pairs.{holds, is_pair}
-use Rattle.tsd_model.specs.Step.{filled}
+use Rattle.tsd_model.specs.Step.{filled, written}
 use Rattle.fs_trees.specs.Names.{Name, is_name}
 use Rattle.fs_trees.specs.Tree.{a_file, with_at}
 use Rattle.fs_trees.specs.Fields.{Entry, all_named}
-use Rattle.fs_trees.specs.Inode.{are_apart}
 use Rattle.fs_trees.specs.Cluster.{entries_room, entries_of, directory_bytes}
 use Rattle.fs_trees.specs.Needs.{clusters_for}
 use Rattle.fs_trees.specs.ChainTree.{blocks_of, links, ChainFile, Chains, chain_blocks, names_max, chain_tree}
@@ -21,12 +20,12 @@ use Rattle.fs_laws.proofs.CountLaws.{times, times-append, apart_times}
 use Rattle.fs_port.specs.View.{DiskView}
 use Rattle.fs_client.specs.declared.client.Client.{Client}
 use Rattle.fs_client.specs.Client.{write_by}
-use Rattle.fs_client.specs.Steps.{Leads, written, no_room_in}
+use Rattle.fs_client.specs.Steps.{Leads, no_room_in}
 use Rattle.fs_client.specs.Changing.{refused_on}
 use Rattle.chain_layout.specs.Block.{cluster_of, block_len_of}
-use Rattle.chain_layout.specs.Held.{cluster_in, entries_in}
+use Rattle.chain_layout.specs.Held.{dir_cluster, entries_in}
 use Rattle.chain_layout.specs.Listed.{entry_blocks}
-use Rattle.chain_layout.specs.ReadsBack.{are_small}
+use Rattle.chain_layout.specs.ReadsBack.{HaveFourBytes}
 use Rattle.chain_reading.specs.Chained.{IsFrom, AreOthers}
 use Rattle.chain_reading.specs.Changed.{file_blocks, file_pairs, file_names, relinked}
 use Rattle.chain_reading.specs.Decided.{IsNewFile, FileAdded, FileSet}
@@ -49,17 +48,17 @@ pub small_block : (b : ℕ) → b + 1 < 2 ^ 32 → nat_lt b (2 ^ 32) ≡ true
 small_block b h = grind (arith, nat_tests)
 
 -- the directory's cluster with other entries, as it is read
-module _ (c : Client) (old : DiskView) (n : Name) (page : Page) (x : Putting c old n page) (es : List Entry) (named : all_named es ≡ true) (room : length es ≤ entries_room (block_len old.world.geometry)) (small : are_small (entry_blocks es)) where
+module _ (c : Client) (old : DiskView) (n : Name) (page : Page) (x : Putting c old n page) (es : List Entry) (named : all_named es ≡ true) (room : length es ≤ entries_room (block_len old.world.geometry)) (small : HaveFourBytes (entry_blocks es)) where
   sized : (16 ≤ block_len old.world.geometry) × (block_len old.world.geometry ≤ 4096)
   sized = page_sized old.world c.root x.chains x.under x.valid.valid x.before page x.behind x.parts x.read
 
-  pub page_reads : (w : World) → w.geometry ≡ old.world.geometry → ReadsAs (block_len w.geometry) (filled (block_len w.geometry) (directory_bytes (cluster_of (cluster_in page.cluster)).next es)) (cluster_of (cluster_in page.cluster)).next es
-  page_reads w size = subst (λ k. ReadsAs (block_len k) (filled (block_len k) (directory_bytes (cluster_of (cluster_in page.cluster)).next es)) (cluster_of (cluster_in page.cluster)).next es) (sym size)
-      (directory_read (block_len old.world.geometry) (cluster_of (cluster_in page.cluster)).next es sized.1
+  pub page_reads : (w : World) → w.geometry ≡ old.world.geometry → ReadsAs (block_len w.geometry) (filled (block_len w.geometry) (directory_bytes (cluster_of (dir_cluster page.cluster)).next es)) (cluster_of (dir_cluster page.cluster)).next es
+  page_reads w size = subst (λ k. ReadsAs (block_len k) (filled (block_len k) (directory_bytes (cluster_of (dir_cluster page.cluster)).next es)) (cluster_of (dir_cluster page.cluster)).next es) (sym size)
+      (directory_read (block_len old.world.geometry) (cluster_of (dir_cluster page.cluster)).next es sized.1
       (page_linked old.world c.root x.chains x.under x.valid.valid x.before page x.behind x.parts x.read) room named small)
 
-  pub page_fits : length (directory_bytes (cluster_of (cluster_in page.cluster)).next es) ≤ block_len old.world.geometry
-  page_fits = directory_fits (block_len old.world.geometry) (cluster_of (cluster_in page.cluster)).next es sized.0 named room
+  pub page_fits : length (directory_bytes (cluster_of (dir_cluster page.cluster)).next es) ≤ block_len old.world.geometry
+  page_fits = directory_fits (block_len old.world.geometry) (cluster_of (dir_cluster page.cluster)).next es sized.0 named room
 
 -- ---- a new file whose first block is named there
 
@@ -84,12 +83,12 @@ module _ (c : Client) (old : DiskView) (n : Name) (page : Page) (x : Putting c o
     held = λ a b h. link_held c.root old.world page.block (stage c old n page x) blocks mid.world nf.making a b (ap (λ bs. holds (links (page.block ∷ bs)) a b) (sym own_is) ∙ h);
   }
 
-  own_entries : entries_of (block_len mid.world.geometry) (cluster_of (cluster_in page.cluster)) ≡ Some (entries_in page.cluster)
-  own_entries = ap (λ g. entries_of (block_len g) (cluster_of (cluster_in page.cluster))) nf.making.geometry ∙ page_entries old.world c.root x.chains x.under x.valid.valid x.before page x.behind x.parts x.read
+  own_entries : entries_of (block_len mid.world.geometry) (cluster_of (dir_cluster page.cluster)) ≡ Some (entries_in page.cluster)
+  own_entries = ap (λ g. entries_of (block_len g) (cluster_of (dir_cluster page.cluster))) nf.making.geometry ∙ page_entries old.world c.root x.chains x.under x.valid.valid x.before page x.behind x.parts x.read
 
   -- ---- a new name
 
-  module _ (others : AreOthers n (file_names x.chains.files)) (few : length x.chains.files < names_max) (roomy : length (entries_in page.cluster) < entries_room (block_len_of (cluster_in page.cluster))) where
+  module _ (others : AreOthers n (file_names x.chains.files)) (few : length x.chains.files < names_max) (roomy : length (entries_in page.cluster) < entries_room (block_len_of (dir_cluster page.cluster))) where
     abbrev more : List Entry
     more = entries_in page.cluster ++ (record { name = n; block = slice_index_or blocks 0 0 } ∷ [])
 
@@ -100,21 +99,21 @@ module _ (c : Client) (old : DiskView) (n : Name) (page : Page) (x : Putting c o
     more_room =
         let same = ap entries_room x.read.read.whole in
         let sum = length-append (entries_in page.cluster) (record { name = n; block = slice_index_or blocks 0 0 } ∷ []) in
-        fewer (length (entries_in page.cluster)) (entries_room (block_len_of (cluster_in page.cluster))) (entries_room (block_len old.world.geometry)) (length more) roomy same sum
+        fewer (length (entries_in page.cluster)) (entries_room (block_len_of (dir_cluster page.cluster))) (entries_room (block_len old.world.geometry)) (length more) roomy same sum
       where
         fewer : (k r s m : ℕ) → k < r → r ≡ s → m ≡ k + 1 → m ≤ s
         fewer k r s m h e q = omega (arith, h, e, q)
 
-    more_small : are_small (entry_blocks (entries_in page.cluster ++ (record { name = n; block = slice_index_or blocks 0 0 } ∷ [])))
+    more_small : HaveFourBytes (entry_blocks (entries_in page.cluster ++ (record { name = n; block = slice_index_or blocks 0 0 } ∷ [])))
     more_small = small_both (entries_in page.cluster) (record { name = n; block = slice_index_or blocks 0 0 } ∷ []) (page_small old.world c.root x.chains x.under x.valid.valid x.before page x.behind x.parts x.read) (and_from (nat_lt (slice_index_or blocks 0 0) (2 ^ 32)) true entered_small refl)
 
     abbrev bytes : List ℕ
-    bytes = directory_bytes (cluster_of (cluster_in page.cluster)).next (entries_in page.cluster ++ (record { name = n; block = slice_index_or blocks 0 0 } ∷ []))
+    bytes = directory_bytes (cluster_of (dir_cluster page.cluster)).next (entries_in page.cluster ++ (record { name = n; block = slice_index_or blocks 0 0 } ∷ []))
 
-    pub add_fits : length (directory_bytes (cluster_of (cluster_in page.cluster)).next (entries_in page.cluster ++ (record { name = n; block = slice_index_or blocks 0 0 } ∷ []))) ≤ block_len mid.world.geometry
+    pub add_fits : length (directory_bytes (cluster_of (dir_cluster page.cluster)).next (entries_in page.cluster ++ (record { name = n; block = slice_index_or blocks 0 0 } ∷ []))) ≤ block_len mid.world.geometry
     add_fits = subst (λ g. length bytes ≤ block_len g) (sym nf.making.geometry) (page_fits c old n page x more more_named more_room more_small)
 
-    reads : ReadsAs (block_len mid.world.geometry) (filled (block_len mid.world.geometry) bytes) (cluster_of (cluster_in page.cluster)).next more
+    reads : ReadsAs (block_len mid.world.geometry) (filled (block_len mid.world.geometry) bytes) (cluster_of (dir_cluster page.cluster)).next more
     reads = page_reads c old n page x more more_named more_room more_small mid.world nf.making.geometry
 
     added : FileAdded mid.world c.root x.chains x.before (page_link page) x.behind (filled (block_len mid.world.geometry) bytes) reads.cluster entered_file
@@ -129,8 +128,8 @@ module _ (c : Client) (old : DiskView) (n : Name) (page : Page) (x : Putting c o
     same_directory = same_blocks x.before (page_link page) reads.cluster x.behind ∙ ap blocks_of (sym x.parts)
 
     pub add_decided : (granted : ◌≡◌ {A = Option FsRefusal} (refused_on (mounted_by c) old (ask.Put (n ∷ []) body)) None)
-        → Leads mid.world (write_by c page.block (directory_bytes (cluster_of (cluster_in page.cluster)).next (entries_in page.cluster ++ (record { name = n; block = slice_index_or blocks 0 0 } ∷ [])))) (written mid.world page.block (directory_bytes (cluster_of (cluster_in page.cluster)).next (entries_in page.cluster ++ (record { name = n; block = slice_index_or blocks 0 0 } ∷ []))))
-        → Decided c old (ask.Put (n ∷ []) body) (written mid.world page.block (directory_bytes (cluster_of (cluster_in page.cluster)).next (entries_in page.cluster ++ (record { name = n; block = slice_index_or blocks 0 0 } ∷ [])))) None_loose
+        → Leads mid.world (write_by c page.block (directory_bytes (cluster_of (dir_cluster page.cluster)).next (entries_in page.cluster ++ (record { name = n; block = slice_index_or blocks 0 0 } ∷ [])))) (written mid.world page.block (directory_bytes (cluster_of (dir_cluster page.cluster)).next (entries_in page.cluster ++ (record { name = n; block = slice_index_or blocks 0 0 } ∷ []))))
+        → Decided c old (ask.Put (n ∷ []) body) (written mid.world page.block (directory_bytes (cluster_of (dir_cluster page.cluster)).next (entries_in page.cluster ++ (record { name = n; block = slice_index_or blocks 0 0 } ∷ [])))) None_loose
     add_decided granted leads = decided c old n page x blocks mid.world nf.making body bytes None_loose next leads added.becomes.under
         (added.becomes.tree ∙ ap (λ y. with_at (n ∷ []) (a_file y) (chain_tree mid.world c.root)) nf.holds) granted
         (λ b h. elim (among_parts next.directory added.before entered_file added.behind b h) [
@@ -175,18 +174,18 @@ module _ (c : Client) (old : DiskView) (n : Name) (page : Page) (x : Putting c o
         as_many : (all old_all f b m r : ℕ) → all ≡ old_all → old_all ≡ f + suc b → m ≡ f + suc b → all ≤ r → m ≤ r
         as_many all old_all f b m r e p q h = omega (arith, e, p, q, h)
 
-    set_small : are_small (entry_blocks (at.front ++ (record { name = n; block = slice_index_or blocks 0 0 } ∷ at.back)))
+    set_small : HaveFourBytes (entry_blocks (at.front ++ (record { name = n; block = slice_index_or blocks 0 0 } ∷ at.back)))
     set_small =
-        let all = small_parts at.front (at.entry ∷ at.back) (subst (λ es. are_small (entry_blocks es)) at.parts (page_small old.world c.root x.chains x.under x.valid.valid x.before page x.behind x.parts x.read)) in
+        let all = small_parts at.front (at.entry ∷ at.back) (subst (λ es. HaveFourBytes (entry_blocks es)) at.parts (page_small old.world c.root x.chains x.under x.valid.valid x.before page x.behind x.parts x.read)) in
         small_both at.front (record { name = n; block = slice_index_or blocks 0 0 } ∷ at.back) all.0 (and_from (nat_lt (slice_index_or blocks 0 0) (2 ^ 32)) _ entered_small (small_parts (at.entry ∷ []) at.back all.1).1)
 
     abbrev bytes_set : List ℕ
-    bytes_set = directory_bytes (cluster_of (cluster_in page.cluster)).next (at.front ++ (record { name = n; block = slice_index_or blocks 0 0 } ∷ at.back))
+    bytes_set = directory_bytes (cluster_of (dir_cluster page.cluster)).next (at.front ++ (record { name = n; block = slice_index_or blocks 0 0 } ∷ at.back))
 
-    pub set_fits : length (directory_bytes (cluster_of (cluster_in page.cluster)).next (at.front ++ (record { name = n; block = slice_index_or blocks 0 0 } ∷ at.back))) ≤ block_len mid.world.geometry
+    pub set_fits : length (directory_bytes (cluster_of (dir_cluster page.cluster)).next (at.front ++ (record { name = n; block = slice_index_or blocks 0 0 } ∷ at.back))) ≤ block_len mid.world.geometry
     set_fits = subst (λ g. length bytes_set ≤ block_len g) (sym nf.making.geometry) (page_fits c old n page x others_too set_named set_room set_small)
 
-    reads_set : ReadsAs (block_len mid.world.geometry) (filled (block_len mid.world.geometry) bytes_set) (cluster_of (cluster_in page.cluster)).next others_too
+    reads_set : ReadsAs (block_len mid.world.geometry) (filled (block_len mid.world.geometry) bytes_set) (cluster_of (dir_cluster page.cluster)).next others_too
     reads_set = page_reads c old n page x others_too set_named set_room set_small mid.world nf.making.geometry
 
     the_set : FileSet mid.world c.root x.chains x.before (page_link page) x.behind (filled (block_len mid.world.geometry) bytes_set) reads_set.cluster at.entry entered_file
@@ -217,8 +216,8 @@ module _ (c : Client) (old : DiskView) (n : Name) (page : Page) (x : Putting c o
     old_there = file_has_first mid.world c.root x.chains (under_now c old n page x blocks mid.world nf.making) nf.making.valid (primary_now c.root old.world page.block (stage c old n page x) blocks mid.world nf.making) the_set.before the_set.old the_set.behind the_set.files page.block at.entry the_set.was
 
     pub set_lets : (granted : ◌≡◌ {A = Option FsRefusal} (refused_on (mounted_by c) old (ask.Put (n ∷ []) body)) None)
-        → Leads mid.world (write_by c page.block (directory_bytes (cluster_of (cluster_in page.cluster)).next (at.front ++ (record { name = n; block = slice_index_or blocks 0 0 } ∷ at.back)))) (written mid.world page.block (directory_bytes (cluster_of (cluster_in page.cluster)).next (at.front ++ (record { name = n; block = slice_index_or blocks 0 0 } ∷ at.back))))
-        → LetsGo c old (ask.Put (n ∷ []) body) (written mid.world page.block (directory_bytes (cluster_of (cluster_in page.cluster)).next (at.front ++ (record { name = n; block = slice_index_or blocks 0 0 } ∷ at.back)))) page.block first
+        → Leads mid.world (write_by c page.block (directory_bytes (cluster_of (dir_cluster page.cluster)).next (at.front ++ (record { name = n; block = slice_index_or blocks 0 0 } ∷ at.back)))) (written mid.world page.block (directory_bytes (cluster_of (dir_cluster page.cluster)).next (at.front ++ (record { name = n; block = slice_index_or blocks 0 0 } ∷ at.back))))
+        → LetsGo c old (ask.Put (n ∷ []) body) (written mid.world page.block (directory_bytes (cluster_of (dir_cluster page.cluster)).next (at.front ++ (record { name = n; block = slice_index_or blocks 0 0 } ∷ at.back)))) page.block first
     unfolding decided
     set_lets granted leads = record {
       decided = decided c old n page x blocks mid.world nf.making body bytes_set (This_loose page.block first) after leads the_set.becomes.under

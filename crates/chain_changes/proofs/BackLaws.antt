@@ -2,7 +2,7 @@
 use Rattle.std.proofs.Common.{◌≡◌, ℕ, ◌<◌, ◌≤◌, Bool, true, false, not, cond, ◌&&◌, ◌||◌, ◌==◌, nat_lt, List, [], ◌∷◌, length, refl, sym, ◌∙◌, ap, subst, inl, inr, arith, Option, Some, None}
 use Rattle.std.proofs.lemmas.Bool.{and_parts, and_from, or_cases, or_left, or_right, eq-eqb, eqb-true, not-true, ltb-false, false_from_ne_true}
 use Rattle.std.specs.Prelude.{is_some, is_none, slice_index_or}
-use Rattle.tsd_model.specs.World.{World, contents, is_live, is_free, is_primary, has_number}
+use Rattle.tsd_model.specs.World.{World, contents, is_live, is_free, is_primary, has_number, are_apart}
 use Rattle.tsd_model.specs.Pairs.{holds, is_pair}
 use Rattle.tsd_model.specs.Doomed.{doomed}
 use Rattle.tsd_model.specs.Valid.{IsValid}
@@ -13,7 +13,6 @@ use Rattle.disk_laws.proofs.DoomLaws.{not_primary}
 use Rattle.graph_laws.specs.Counts.{stays}
 use Rattle.graph_laws.proofs.DoomedLaws.{doomed_least, doomed_from}
 use Rattle.graph_laws.proofs.SettleLaws.{settle_same, valid_is_settled, none_doomed}
-use Rattle.fs_trees.specs.Inode.{are_apart}
 use Rattle.fs_trees.specs.ChainTree.{links}
 use Rattle.fs_client.specs.Steps.{dropped}
 use Rattle.fs_client.proofs.RunLaws.{clash_free_live}

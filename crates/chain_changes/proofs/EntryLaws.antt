@@ -21,7 +21,7 @@ use Rattle.chain_layout.specs.Block.{cluster_of}
 use Rattle.chain_layout.specs.Held.{entries_in}
 use Rattle.chain_layout.specs.Held as held
 use Rattle.chain_layout.specs.Listed.{entry_blocks}
-use Rattle.chain_layout.specs.ReadsBack.{are_small}
+use Rattle.chain_layout.specs.ReadsBack.{HaveFourBytes}
 use Rattle.chain_layout.proofs.BackLaws.{head_back, entries_back}
 use Rattle.chain_reading.specs.Chained.{IsFrom, placed, AreFiles, AreEntries}
 use Rattle.chain_reading.proofs.ChainedLaws.{files_split, entries_split}
@@ -71,7 +71,7 @@ pub record ReadsAs (len : ℕ) (bytes : List ℕ) (next : Option ℕ) (es : List
   pub next_is : cluster.next ≡ next
   pub entries_are : entries_of len cluster ≡ Some es
 
-pub directory_read : (len : ℕ) (next : Option ℕ) (es : List Entry) → len ≤ 4096 → link_field next < 2 ^ 32 → length es ≤ entries_room len → all_named es ≡ true → are_small (entry_blocks es) → ReadsAs len (filled len (directory_bytes next es)) next es
+pub directory_read : (len : ℕ) (next : Option ℕ) (es : List Entry) → len ≤ 4096 → link_field next < 2 ^ 32 → length es ≤ entries_room len → all_named es ≡ true → HaveFourBytes (entry_blocks es) → ReadsAs len (filled len (directory_bytes next es)) next es
 directory_read len next es short linked room named small =
     let rest : List ℕ = replicate (len - length (directory_bytes next es)) 0 in
     let few : length es < 2 ^ 32 = omega arith in
@@ -102,7 +102,7 @@ from_first w b (l ∷ ls) is = let here : l.block ≡ b = cc in (l, ls, refl, he
 small_block : (w : World) → IsValid w → (b : ℕ) → is_live w b ≡ true → nat_lt b (2 ^ 32) ≡ true
 small_block w valid b live = let below = live_small w valid b live in grind (arith, nat_tests)
 
-files_small : (w : World) → IsValid w → (from : ℕ) (es : List Entry) (fs : List ChainFile) → AreFiles w (placed from es) fs → are_small (entry_blocks es)
+files_small : (w : World) → IsValid w → (from : ℕ) (es : List Entry) (fs : List ChainFile) → AreFiles w (placed from es) fs → HaveFourBytes (entry_blocks es)
 files_small w valid from [] fs are = refl
 files_small w valid from (e ∷ es) [] are = absurd are
 files_small w valid from (e ∷ es) (f ∷ fs) are =
@@ -135,14 +135,14 @@ pub named_both : (es fs : List Entry) → all_named es ≡ true → all_named fs
 named_both [] fs h k = k
 named_both (e ∷ es) fs h k = let parts = and_parts (is_name e.name) (all_named es) h in and_from (is_name e.name) (all_named (es ++ fs)) parts.0 (named_both es fs parts.1 k)
 
-pub small_parts : (es fs : List Entry) → are_small (entry_blocks (es ++ fs)) → are_small (entry_blocks es) × are_small (entry_blocks fs)
+pub small_parts : (es fs : List Entry) → HaveFourBytes (entry_blocks (es ++ fs)) → HaveFourBytes (entry_blocks es) × HaveFourBytes (entry_blocks fs)
 small_parts [] fs h = (refl, h)
 small_parts (e ∷ es) fs h =
     let parts = and_parts (nat_lt e.block (2 ^ 32)) _ h in
     let later = small_parts es fs parts.1 in
     (and_from (nat_lt e.block (2 ^ 32)) _ parts.0 later.0, later.1)
 
-pub small_both : (es fs : List Entry) → are_small (entry_blocks es) → are_small (entry_blocks fs) → are_small (entry_blocks (es ++ fs))
+pub small_both : (es fs : List Entry) → HaveFourBytes (entry_blocks es) → HaveFourBytes (entry_blocks fs) → HaveFourBytes (entry_blocks (es ++ fs))
 small_both [] fs h k = k
 small_both (e ∷ es) fs h k = let parts = and_parts (nat_lt e.block (2 ^ 32)) _ h in and_from (nat_lt e.block (2 ^ 32)) _ parts.0 (small_both es fs parts.1 k)
 
@@ -153,7 +153,7 @@ module _ (w : World) (root : ℕ) (c : Chains) (under : chains_under w root ≡ 
   page_has = has_chains w root c under
 
   pub page_live : is_live w page.block ≡ true
-  page_live = cluster_live w page.block (cluster_of (held.cluster_in page.cluster)) read.read.says
+  page_live = cluster_live w page.block (cluster_of (held.dir_cluster page.cluster)) read.read.says
 
   pub page_within : page.block < length w.blocks
   page_within = live_below w.blocks page.block page_live
@@ -163,13 +163,13 @@ module _ (w : World) (root : ℕ) (c : Chains) (under : chains_under w root ≡ 
       ∙ (ap (λ xs. has_number xs page.block) (blocks-append ls (page_link page ∷ ms)) ∙ number_right (blocks_of ls) _ page.block (first_in page.block (blocks_of ms))))
 
   -- its entries
-  pub page_entries : entries_of (block_len w.geometry) (cluster_of (held.cluster_in page.cluster)) ≡ Some (entries_in page.cluster)
-  page_entries = own_entries w page.block (block_len w.geometry) (cluster_of (held.cluster_in page.cluster)) (entries_in page.cluster) refl read.read.says read.entries
+  pub page_entries : entries_of (block_len w.geometry) (cluster_of (held.dir_cluster page.cluster)) ≡ Some (entries_in page.cluster)
+  page_entries = own_entries w page.block (block_len w.geometry) (cluster_of (held.dir_cluster page.cluster)) (entries_in page.cluster) refl read.read.says read.entries
 
   pub page_all_named : (all_named (entries_in page.cluster) ≡ true) × (length (entries_in page.cluster) ≤ entries_room (block_len w.geometry))
-  page_all_named = entries_named (block_len w.geometry) (cluster_of (held.cluster_in page.cluster)) (entries_in page.cluster) page_entries
+  page_all_named = entries_named (block_len w.geometry) (cluster_of (held.dir_cluster page.cluster)) (entries_in page.cluster) page_entries
 
-  pub page_linked : link_field (cluster_of (held.cluster_in page.cluster)).next < 2 ^ 32
+  pub page_linked : link_field (cluster_of (held.dir_cluster page.cluster)).next < 2 ^ 32
   page_linked = page.cluster.cluster.linked
 
   pub page_sized : (16 ≤ block_len w.geometry) × (block_len w.geometry ≤ 4096)
@@ -187,7 +187,7 @@ module _ (w : World) (root : ℕ) (c : Chains) (under : chains_under w root ≡ 
         ]
       ]
 
-  pub page_small : are_small (entry_blocks (entries_in page.cluster))
+  pub page_small : HaveFourBytes (entry_blocks (entries_in page.cluster))
   page_small =
       let len = block_len w.geometry in
       let listing = page_has.listing in

@@ -4,15 +4,14 @@ use Rattle.std.proofs.lemmas.Bool.{and_from, and_parts, or_cases, or_left, or_ri
 use Rattle.std.specs.Prelude.{drop, slice_index_or}
 use Rattle.std.specs.Option.{option_and_then}
 use Rattle.tsd_model.specs.Geometry.{block_len}
-use Rattle.tsd_model.specs.World.{World, has_number}
+use Rattle.tsd_model.specs.World.{World, has_number, are_apart}
 use Rattle.tsd_model.specs.Pairs.{holds, is_pair}
-use Rattle.tsd_model.specs.Step.{filled}
+use Rattle.tsd_model.specs.Step.{filled, written}
 use Rattle.disk_laws.proofs.ChangeLaws.{contents-other, contents-same}
 use Rattle.disk_laws.proofs.DoomLaws.{live_below}
 use Rattle.fs_trees.specs.Names.{Name, is_name}
 use Rattle.fs_trees.specs.Tree.{a_file, with_at}
 use Rattle.fs_trees.specs.Fields.{Entry, all_named}
-use Rattle.fs_trees.specs.Inode.{are_apart}
 use Rattle.fs_trees.specs.Cluster.{Cluster, cluster_in, entries_room, entries_of, directory_bytes}
 use Rattle.fs_trees.specs.Needs.{clusters_for}
 use Rattle.fs_trees.specs.ChainTree.{Link, blocks_of, links, ChainFile, chain_bytes, Chains, chain_blocks, names_max, chain_tree}
@@ -23,13 +22,13 @@ use Rattle.fs_port.specs.View.{DiskView}
 use Rattle.fs_port.specs.Files.{IsEitherTree}
 use Rattle.fs_client.specs.declared.client.Client.{Client}
 use Rattle.fs_client.specs.Client.{write_by}
-use Rattle.fs_client.specs.Steps.{Leads, written, no_room_in}
+use Rattle.fs_client.specs.Steps.{Leads, no_room_in}
 use Rattle.fs_client.specs.Changing.{refused_on}
 use Rattle.chain_layout.specs.Block.{cluster_of}
 use Rattle.chain_layout.specs.Held as held
 use Rattle.chain_layout.specs.Held.{entries_in}
 use Rattle.chain_layout.specs.Listed.{entry_blocks}
-use Rattle.chain_layout.specs.ReadsBack.{are_small}
+use Rattle.chain_layout.specs.ReadsBack.{HaveFourBytes}
 use Rattle.chain_reading.specs.Chained.{IsFrom, AreOthers}
 use Rattle.chain_reading.specs.Changed.{file_blocks, file_pairs, file_names, relinked}
 use Rattle.chain_reading.specs.Decided.{IsNewCluster, Becomes}
@@ -85,7 +84,7 @@ module _ (c : Client) (old : DiskView) (n : Name) (page : Page) (x : Putting c o
   one_named : all_named (record { name = n; block = slice_index_or blocks 1 0 } ∷ []) ≡ true
   one_named = and_from (is_name n) true x.named refl
 
-  one_small : are_small (entry_blocks (record { name = n; block = slice_index_or blocks 1 0 } ∷ []))
+  one_small : HaveFourBytes (entry_blocks (record { name = n; block = slice_index_or blocks 1 0 } ∷ []))
   one_small = and_from (nat_lt (slice_index_or blocks 1 0) (2 ^ 32)) true (small_block (slice_index_or blocks 1 0) (linkable (slice_index_or blocks 1 0) (second_there blocks some))) refl
 
   abbrev bytes_one : List ℕ
@@ -167,7 +166,7 @@ module _ (c : Client) (old : DiskView) (n : Name) (page : Page) (x : Putting c o
       grows : Becomes w c.root page.block (filled (block_len mid.world.geometry) entered) next (with_at (n ∷ []) (a_file (chain_bytes nf.links)) (chain_tree w c.root))
       grows = the_directory_grows w c.root x.chains x.before (page_link page) m (filled (block_len mid.world.geometry) entered) cl es e new_file making_one.valid.raw.sized
           (under_now c old n page x blocks w making_one) (record { position = last_parts; within = within_now c old n page x blocks w making_one; read = reads_two.read }) reads_two.next_is
-          (ap (λ g. entries_of (block_len g) (cluster_of (held.cluster_in page.cluster))) nf.making.geometry ∙ page_entries old.world c.root x.chains x.under x.valid.valid x.before page x.behind x.parts x.read)
+          (ap (λ g. entries_of (block_len g) (cluster_of (held.dir_cluster page.cluster))) nf.making.geometry ∙ page_entries old.world c.root x.chains x.under x.valid.valid x.before page x.behind x.parts x.read)
           reads_two.entries_are is_new_cluster others few
 
       -- the directory's blocks, before and after

@@ -8,9 +8,8 @@ use Rattle.std.proofs.Math.Nat.{div-le_self, mul-le-mul_right}
 use Rattle.std.specs.Prelude.{max, drop}
 use Rattle.std.specs.Int.{div_ceil}
 use Rattle.tsd_model.specs.Geometry.{block_len}
-use Rattle.tsd_model.specs.World.{World, has_number}
+use Rattle.tsd_model.specs.World.{World, has_number, are_apart}
 use Rattle.tsd_model.specs.Valid.{IsValid}
-use Rattle.fs_trees.specs.Inode.{are_apart}
 use Rattle.fs_trees.specs.Cluster.{bytes_room}
 use Rattle.fs_trees.specs.Needs.{clusters_for}
 use Rattle.fs_trees.specs.ChainTree.{Link, blocks_of, is_filled}

@@ -9,21 +9,20 @@ use Rattle.std.specs.Prelude.{take, drop, is_some, replicate, max}
 use Rattle.std.specs.Int.{div_ceil}
 use Rattle.tsd_model.specs.Geometry.{block_len}
 use Rattle.tsd_model.specs.declared.geometry.Geometry.{Geometry}
-use Rattle.tsd_model.specs.World.{World, is_live, is_free, free_count, has_number}
+use Rattle.tsd_model.specs.World.{World, is_live, is_free, free_count, has_number, are_apart}
 use Rattle.tsd_model.specs.Pairs.{holds}
 use Rattle.tsd_model.specs.Valid.{IsValid}
-use Rattle.tsd_model.specs.Step.{filled}
+use Rattle.tsd_model.specs.Step.{filled, written}
 use Rattle.disk_laws.proofs.ChangeLaws.{contents-other}
 use Rattle.disk_laws.proofs.DoomLaws.{live_below}
 use Rattle.fs_trees.specs.Names.{Path}
 use Rattle.fs_trees.specs.Tree.{Tree, a_file, a_dir, at, is_there, is_dir, bytes_in, with_at}
-use Rattle.fs_trees.specs.Inode.{are_apart}
 use Rattle.fs_trees.specs.Cluster.{Cluster, cluster_in, bytes_room, part_bytes}
 use Rattle.fs_trees.specs.ChainTree.{Link, blocks_of, links, is_filled, chain_bytes, Chains, chain_blocks, chain_pairs, chains_under, as_tree, tree_of_files, chain_tree}
 use Rattle.fs_trees.specs.Layouts.{by_chains, IsTidy}
 use Rattle.fs_trees.specs.Needs.{need_of, clusters_for}
 use Rattle.fs_trees.specs.Outside.{is_under}
-use Rattle.fs_trees.specs.Refusals.{Need, when, first_of, lost_on_the_way, missing, no_file, too_big, no_room, refusal}
+use Rattle.fs_trees.specs.Refusals.{RoomNeed, when, first_of, lost_on_the_way, missing, no_file, too_big, no_room, refusal}
 use Rattle.fs_trees.specs.declared.ask.ShellAsk.{ShellAsk}
 use Rattle.fs_trees.specs.declared.ask.ShellAsk.TheVariants as ask
 use Rattle.fs_trees.specs.declared.ask.ShellKind.TheVariants as kind
@@ -38,24 +37,25 @@ use Rattle.fs_port.specs.Files.{IsEitherTree}
 use Rattle.fs_client.specs.declared.client.Client.{Client}
 use Rattle.fs_client.specs.Client.{write_by}
 use Rattle.fs_client.specs.May.{MayWrite}
-use Rattle.fs_client.specs.Steps.{Leads, written, no_room_in}
+use Rattle.fs_client.specs.Steps.{Leads, no_room_in}
 use Rattle.fs_client.specs.Changing.{refused_on}
 use Rattle.fs_client.proofs.AskLaws.{is_mounted}
 use Rattle.fs_client.proofs.RunLaws.{clash_free_live}
 use Rattle.chain_layout.specs.Block.{cluster_of}
 use Rattle.chain_layout.specs.Held.{part_in}
 use Rattle.chain_layout.specs.Held as held
-use Rattle.chain_reading.specs.Chained.{IsFrom, IsFile, PlacedEntry, AreFiles}
+use Rattle.chain_reading.specs.Chained.{IsFrom, IsChainFile, PlacedEntry, AreFiles}
 use Rattle.chain_reading.specs.Changed.{file_blocks, relinked}
 use Rattle.chain_reading.specs.Decided.{Becomes, grown, Lengthens}
 use Rattle.chain_reading.proofs.ChainedLaws.{entries_of_files}
 use Rattle.chain_reading.proofs.ChangeLaws.{HasChains, has_chains, IsRight, right_is, blocks-append}
 use Rattle.chain_reading.proofs.DecidedLaws.{the_file_grows}
 use Rattle.chain_reading.specs.declared.walking.Part.{Part}
-use Rattle.chain_reading.specs.Asking.{tree_of, mounted_by}
+use Rattle.chain_reading.specs.Asking.{tree_under, mounted_by}
 use Rattle.chain_reading.specs.Finding.{no_file_found}
 use Rattle.chain_changes.specs.Making.{Stage, IsAside}
-use Rattle.chain_changes.specs.Filling.{AreLinkable, first_block, ArePartsOf}
+use Rattle.tsd_model.specs.Placing.{first_block}
+use Rattle.chain_changes.specs.Filling.{AreLinkable, ArePartsOf}
 use Rattle.chain_changes.proofs.FileLaws.{long_room, file_filled}
 use Rattle.chain_changes.proofs.MakingLaws.{aside_now, tree_same, primary_now, link_held, source_under, new_unnamed, was_live}
 use Rattle.chain_changes.proofs.PartLaws.{parts_bytes}
@@ -70,13 +70,13 @@ use Rattle.chain_changes.proofs.AfterLaws.{Decided, None_loose, decided_either}
 
 -- ---- the refusals of an append to a file that is there
 
-pub append_refused : (g : Geometry) (t : Tree) (free held : ℕ) (n : Need) (path : Path) (x y : List ℕ) → is_there t ≡ true → ◌≡◌ {A = Option FsRefusal} (lost_on_the_way t path) None → at t path ≡ a_file y → refusal kind.Chain g t free held n (ask.Append path x) ≡ first_of (no_room g free held n)
+pub append_refused : (g : Geometry) (t : Tree) (free held : ℕ) (n : RoomNeed) (path : Path) (x y : List ℕ) → is_there t ≡ true → ◌≡◌ {A = Option FsRefusal} (lost_on_the_way t path) None → at t path ≡ a_file y → refusal kind.Chain g t free held n (ask.Append path x) ≡ first_of (no_room g free held n)
 append_refused g t free held n path x y there way file =
     is_mounted t (lost_on_the_way t path ∷ missing t path ∷ no_file t path ∷ too_big kind.Chain g (length (bytes_in (at t path)) + length x) ∷ no_room g free held n) there
     ∙ (ap (λ o. first_of (o ∷ missing t path ∷ no_file t path ∷ None ∷ no_room g free held n)) way
     ∙ ap (λ z. first_of (when (not (is_there z)) no.NoEntry ∷ when (is_dir z) no.IsDir ∷ None ∷ no_room g free held n)) file)
 
-pub append_lost : (g : Geometry) (t : Tree) (free held : ℕ) (n : Need) (path : Path) (x : List ℕ) (e : FsRefusal) → is_there t ≡ true → no_file_found t path ≡ Some e → refusal kind.Chain g t free held n (ask.Append path x) ≡ Some e
+pub append_lost : (g : Geometry) (t : Tree) (free held : ℕ) (n : RoomNeed) (path : Path) (x : List ℕ) (e : FsRefusal) → is_there t ≡ true → no_file_found t path ≡ Some e → refusal kind.Chain g t free held n (ask.Append path x) ≡ Some e
 append_lost g t free held n path x e there h =
     is_mounted t (lost_on_the_way t path ∷ missing t path ∷ no_file t path ∷ too_big kind.Chain g (length (bytes_in (at t path)) + length x) ∷ no_room g free held n) there
     ∙ of_three (lost_on_the_way t path) (missing t path) (no_file t path) h
@@ -110,12 +110,12 @@ module _ (c : Client) (first : DiskView) (path : Path) (x : List ℕ) (part : Pa
   whole = right_is first.world last.chains has.right
 
   -- the file of one of the entries
-  file_is : (q : PlacedEntry) × IsFile first.world q.0 q.1 last.file
+  file_is : (q : PlacedEntry) × IsChainFile first.world q.0 q.1 last.file
   file_is =
       let split = entries_of_files first.world has.listing.entries last.front (last.file ∷ last.back) (subst (AreFiles first.world has.listing.entries) last.among has.listing.files) in
       by_rest split.1 split.4
     where
-      by_rest : (qs : List PlacedEntry) → AreFiles first.world qs (last.file ∷ last.back) → (q : PlacedEntry) × IsFile first.world q.0 q.1 last.file
+      by_rest : (qs : List PlacedEntry) → AreFiles first.world qs (last.file ∷ last.back) → (q : PlacedEntry) × IsChainFile first.world q.0 q.1 last.file
       by_rest [] are = absurd are
       by_rest (q ∷ qs) are = (q, are.0)
 
@@ -143,14 +143,14 @@ module _ (c : Client) (first : DiskView) (path : Path) (x : List ℕ) (part : Pa
     reached = is_under_root first.world c.root last.chains last.under valid primary d last_named;
   }
 
-  at_path : at (tree_of c first) path ≡ a_file (chain_bytes last.file.chain)
+  at_path : at (tree_under c first) path ≡ a_file (chain_bytes last.file.chain)
   at_path =
-      ap (at (tree_of c first)) last.named ∙ (ap (λ o. at (as_tree o) (last.file.name ∷ [])) last.under
+      ap (at (tree_under c first)) last.named ∙ (ap (λ o. at (as_tree o) (last.file.name ∷ [])) last.under
       ∙ (ap (λ n. at (a_dir tt (tree_of_files last.chains.files)) (n ∷ [])) file_is.1.name
       ∙ file_entry first.world c.root last.chains last.under valid primary last.front last.file last.back last.among file_is.0.0 file_is.0.1 file_is.1))
 
-  way : ◌≡◌ {A = Option FsRefusal} (lost_on_the_way (tree_of c first) path) None
-  way = ap (lost_on_the_way (tree_of c first)) last.named ∙ ap (λ o. lost_on_the_way (as_tree o) (last.file.name ∷ [])) last.under
+  way : ◌≡◌ {A = Option FsRefusal} (lost_on_the_way (tree_under c first) path) None
+  way = ap (lost_on_the_way (tree_under c first)) last.named ∙ ap (λ o. lost_on_the_way (as_tree o) (last.file.name ∷ [])) last.under
 
   module _ (taken : ℕ) (is : taken ≡ min (room - length (part_in part.cluster)) (length x)) (some : 0 < length x) where
     abbrev rest : List ℕ
@@ -163,7 +163,7 @@ module _ (c : Client) (first : DiskView) (path : Path) (x : List ℕ) (part : Pa
     long = long_room first.world valid
 
     -- so many clusters more
-    pub more_is : clusters_for first.world.geometry (length (bytes_in (at (tree_of c first) path)) + length x) - clusters_for first.world.geometry (length (bytes_in (at (tree_of c first) path))) ≡ clusters_more (block_len first.world.geometry) (drop taken x)
+    pub more_is : clusters_for first.world.geometry (length (bytes_in (at (tree_under c first) path)) + length x) - clusters_for first.world.geometry (length (bytes_in (at (tree_under c first) path))) ≡ clusters_more (block_len first.world.geometry) (drop taken x)
     more_is =
         let old = ap (λ z. length (bytes_in z)) at_path ∙ (ap (λ ls. length (chain_bytes ls)) last.last.parts ∙ size.bytes) in
         let cut = length-drop taken x in
@@ -174,7 +174,7 @@ module _ (c : Client) (first : DiskView) (path : Path) (x : List ℕ) (part : Pa
     -- the refusal that applies first is want of room for them
     pub refused_is : refused_on (mounted_by c) first (ask.Append path x) ≡ no_room_in first.world (clusters_more (block_len first.world.geometry) (drop taken x)) (clusters_more (block_len first.world.geometry) (drop taken x))
     refused_is =
-        append_refused first.world.geometry (tree_of c first) (free_count first.world) (length first.world.pairs) (need_of kind.Chain first.world c.root (tree_of c first) (ask.Append path x)) path x (chain_bytes last.file.chain) stage.there way at_path
+        append_refused first.world.geometry (tree_under c first) (free_count first.world) (length first.world.pairs) (need_of kind.Chain first.world c.root (tree_under c first) (ask.Append path x)) path x (chain_bytes last.file.chain) stage.there way at_path
         ∙ ap (λ n. no_room_in first.world n n) more_is
 
     own_length : length own ≡ used + taken
@@ -291,7 +291,7 @@ module _ (c : Client) (first : DiskView) (path : Path) (x : List ℕ) (part : Pa
           ∙ (sym (append_assoc front p x)
           ∙ ap (λ y. y ++ x) (sym (ap chain_bytes last.last.parts ∙ (flat_map-append (λ l. take l.cluster.used l.cluster.body) last.last.before (part_link part ∷ []) ∙ ap (λ y. front ++ y) (append-nil p))))))))
 
-      tree_mid : chain_tree mid.world c.root ≡ tree_of c first
+      tree_mid : chain_tree mid.world c.root ≡ tree_under c first
       tree_mid = tree_same c.root first.world d stage blocks mid.world tail.making
 
       inside : is_inside mid.world c.root (write_by c d bytes) ≡ true
@@ -324,7 +324,7 @@ module _ (c : Client) (first : DiskView) (path : Path) (x : List ℕ) (part : Pa
         chains = after;
         under = becomes.under;
         tree = becomes.tree ∙ (ap (λ p. with_at p (a_file (chain_bytes (last.last.before ++ relinked (part_link part) cl ∷ tail.links))) (chain_tree mid.world c.root)) (sym last.named)
-            ∙ (ap (λ y. with_at path (a_file y) (chain_tree mid.world c.root)) (bytes_now ∙ ap (λ z. bytes_in z ++ x) (sym at_path)) ∙ ap (with_at path (a_file (bytes_in (at (tree_of c first) path) ++ x))) tree_mid));
+            ∙ (ap (λ y. with_at path (a_file y) (chain_tree mid.world c.root)) (bytes_now ∙ ap (λ z. bytes_in z ++ x) (sym at_path)) ∙ ap (with_at path (a_file (bytes_in (at (tree_under c first) path) ++ x))) tree_mid));
         taken = λ k free lives. more_in last.chains last.front last.file last.back last.among last.last.before (part_link part) last.last.parts cl tail.links k (ap (λ xs. has_number xs k) tail.blocks_are ∙ lived k free lives);
         clean = λ tidy k y named h. inl (pair_named tidy k y named h);
       }

@@ -1,9 +1,8 @@
 -- Pairs along a chain.
 use Rattle.std.proofs.Common.{◌≡◌, ℕ, Bool, true, false, not, ◌||◌, ◌==◌, List, [], ◌∷◌, ◌++◌, refl, sym, ◌∙◌, ap, subst, inl, inr, ◌⊎◌}
 use Rattle.std.proofs.lemmas.Bool.{and_parts, and_from, or_cases, or_left, or_right, eq-eqb, eqb-true, not-true, false_from_ne_true}
-use Rattle.tsd_model.specs.World.{has_number}
+use Rattle.tsd_model.specs.World.{has_number, are_apart}
 use Rattle.tsd_model.specs.Pairs.{holds, is_pair}
-use Rattle.fs_trees.specs.Inode.{are_apart}
 use Rattle.fs_trees.specs.ChainTree.{links}
 use Rattle.fs_laws.proofs.ListLaws.{in_append}
 

@@ -5,7 +5,7 @@ use Rattle.std.specs.Prelude.{is_some, is_none}
 use Rattle.tsd_model.specs.Geometry.{block_len}
 use Rattle.tsd_model.specs.World.{World, contents, is_live, is_free, has_number}
 use Rattle.tsd_model.specs.Pairs.{holds, is_pair}
-use Rattle.tsd_model.specs.Step.{filled, with_new_blocks}
+use Rattle.tsd_model.specs.Step.{filled, with_new_blocks, written}
 use Rattle.disk_laws.proofs.ChangeLaws.{contents-other, live-with_contents, free_may}
 use Rattle.disk_laws.proofs.StayLaws.{live-new_blocks}
 use Rattle.fs_trees.specs.Tree.{is_there}
@@ -21,7 +21,7 @@ use Rattle.fs_laws.proofs.OutsideLaws.{outside_twice}
 use Rattle.fs_laws.proofs.UnderLaws.{each_under, root_under, target_under}
 use Rattle.fs_client.specs.declared.client.Client.{Client}
 use Rattle.fs_client.specs.Client.{write_by, alloc_by}
-use Rattle.fs_client.specs.Steps.{Leads, written}
+use Rattle.fs_client.specs.Steps.{Leads}
 use Rattle.fs_client.proofs.RunLaws.{clash_free_live, others_same}
 use Rattle.fs_client.proofs.NewLaws.{contents_off, lives_new, holds_new}
 use Rattle.chain_changes.specs.Making.{Stage, Making, IsAside}

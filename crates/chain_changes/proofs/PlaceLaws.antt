@@ -15,7 +15,7 @@ use Rattle.chain_reading.specs.declared.walking.Page.{Page}
 use Rattle.chain_reading.specs.declared.finding.Lookup.{Lookup}
 use Rattle.chain_reading.specs.declared.finding.Lookup.TheVariants.{Taken, Free}
 use Rattle.chain_reading.specs.Ahead.{IsDirectoryAhead}
-use Rattle.chain_reading.specs.Asking.{MayAsk, tree_of}
+use Rattle.chain_reading.specs.Asking.{MayAsk, tree_under}
 use Rattle.chain_reading.specs.Finding.{IsNameFound, no_way}
 use Rattle.chain_reading.proofs.KnownLaws.{IsKnown, is_known, tree_known, taken_name, free_name, names_of_files}
 use Rattle.chain_reading.proofs.ListLaws.{entries_unique}
@@ -36,20 +36,20 @@ module _ (told : Type 0) (c : Client) (old new : DiskView) (t : told) (may : May
         (found known.chains.directory known.has.listing.entries known.ahead);
   }
 
-  pub lost : (m : Name) (ns : Path) → lost_on_the_way (tree_of c old) (n ∷ m ∷ ns) ≡ Some (no_way position)
+  pub lost : (m : Name) (ns : Path) → lost_on_the_way (tree_under c old) (n ∷ m ∷ ns) ≡ Some (no_way position)
   lost m ns = by_place position (found known.chains.directory known.has.listing.entries known.ahead)
     where
-      by_place : (p : Lookup) → IsNameFound c new n known.chains.directory known.has.listing.entries p → lost_on_the_way (tree_of c old) (n ∷ m ∷ ns) ≡ Some (no_way p)
+      by_place : (p : Lookup) → IsNameFound c new n known.chains.directory known.has.listing.entries p → lost_on_the_way (tree_under c old) (n ∷ m ∷ ns) ≡ Some (no_way p)
       by_place (Taken page position first) taken =
           ap (λ x. lost_on_the_way x (n ∷ m ∷ ns)) (tree_known c old known) ∙ ap (λ x. lost_on_the_way x (m ∷ ns)) (taken_name c old new known seen n page position first taken)
       by_place (Free page count) free =
           ap (λ x. lost_on_the_way x (n ∷ m ∷ ns)) (tree_known c old known) ∙ ap (λ x. lost_on_the_way x (m ∷ ns)) (free_name c old new known seen n free.0)
 
 -- nothing stands at the path of a free name
-pub free_at : (c : Client) (first mid : DiskView) (path : Path) (n : Name) (page : Page) (count : ℕ) → mid.world ≡ first.world → path ≡ n ∷ [] → IsLookupOf c mid n (Free page count) → at (tree_of c first) path ≡ nothing
+pub free_at : (c : Client) (first mid : DiskView) (path : Path) (n : Name) (page : Page) (count : ℕ) → mid.world ≡ first.world → path ≡ n ∷ [] → IsLookupOf c mid n (Free page count) → at (tree_under c first) path ≡ nothing
 free_at c first mid path n page count same path_is found =
     let has = has_chains mid.world c.root found.chains found.under in
     let free = found.found has.listing.entries has.listing.in_order in
     let others = subst (AreOthers n) (sym (names_of_files mid.world has.listing.entries found.chains.files has.listing.files)) free.0 in
-    ap (at (tree_of c first)) path_is ∙ (ap (λ w. at (chain_tree w c.root) (n ∷ [])) (sym same)
+    ap (at (tree_under c first)) path_is ∙ (ap (λ w. at (chain_tree w c.root) (n ∷ [])) (sym same)
     ∙ (ap (λ o. at (as_tree o) (n ∷ [])) found.under ∙ tree_lacks n found.chains.files others))

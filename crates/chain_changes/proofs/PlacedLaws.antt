@@ -31,16 +31,16 @@ use Rattle.fs_client.specs.May.{Looked}
 use Rattle.fs_client.specs.Steps.{no_room_in}
 use Rattle.fs_client.specs.Changing.{refused_on, lookup_refusal}
 use Rattle.chain_layout.specs.Block.{cluster_of, block_len_of}
-use Rattle.chain_layout.specs.Held.{cluster_in, entries_in}
+use Rattle.chain_layout.specs.Held.{dir_cluster, entries_in}
 use Rattle.chain_layout.specs.Listed.{listed_at}
 use Rattle.chain_reading.specs.Chained.{PlacedEntry, AreOthers}
 use Rattle.chain_reading.specs.Changed.{file_names}
 use Rattle.chain_reading.proofs.ChangeLaws.{HasChains, has_chains, right_is}
 use Rattle.chain_reading.proofs.FileLaws.{tree_lacks}
-use Rattle.chain_changes.specs.Filling.{first_block}
+use Rattle.tsd_model.specs.Placing.{first_block}
 use Rattle.chain_reading.specs.declared.walking.Page.{Page}
 use Rattle.chain_reading.specs.declared.finding.Lookup.TheVariants.{Taken, Free}
-use Rattle.chain_reading.specs.Asking.{tree_of, mounted_by}
+use Rattle.chain_reading.specs.Asking.{tree_under, mounted_by}
 use Rattle.chain_reading.specs.Finding.{placed_names, page_link, is_roomy, IsEntry, IsLookupTaken, IsRoomiest}
 use Rattle.chain_reading.proofs.KnownLaws.{IsKnown, names_of_files, entry_file, taken_name}
 use Rattle.chain_changes.specs.Lookups.{IsLookupOf}
@@ -92,8 +92,8 @@ listed_behind (d ∷ es) new =
     ap (λ k. take (suc (length es)) (d ∷ es) ++ new ∷ drop k (d ∷ es)) more ∙ ap (λ xs. d ∷ xs) (listed_behind es new)
 
 -- how many entries a cluster has
-pub entries_used : (page : Page) → length (entries_in page.cluster) ≡ (cluster_of (cluster_in page.cluster)).used
-entries_used page = length-entries (cluster_of (cluster_in page.cluster)).used (cluster_of (cluster_in page.cluster)).body
+pub entries_used : (page : Page) → length (entries_in page.cluster) ≡ (cluster_of (dir_cluster page.cluster)).used
+entries_used page = length-entries (cluster_of (dir_cluster page.cluster)).used (cluster_of (dir_cluster page.cluster)).body
 
 -- the bytes with an entry in place of another, or behind all
 pub set_bytes : (next : Option ℕ) (n : Name) (b : ℕ) (es : List Entry) (position first : ℕ) (at : IsEntry n es position first) → directory_bytes next (listed_at position (record { name = n; block = b }) es) ≡ directory_bytes next (at.front ++ (record { name = n; block = b } ∷ at.back))
@@ -108,7 +108,7 @@ add_bytes next n b es position at =
 
 -- ---- what was found
 
-module _ (c : Client) (old : DiskView) (n : Name) (page : Page) (valid : IsValidNow old) (tree : is_there (tree_of c old) ≡ true) (primary : c.root < old.world.geometry.primaries) (named : is_name n ≡ true) where
+module _ (c : Client) (old : DiskView) (n : Name) (page : Page) (valid : IsValidNow old) (tree : is_there (tree_under c old) ≡ true) (primary : c.root < old.world.geometry.primaries) (named : is_name n ≡ true) where
   pub the_taken : (position first : ℕ) (at : IsLookupOf c old n (Taken page position first)) → IsLookupTaken c old n at.chains.directory page position first
   the_taken position first at = let has : HasChains old.world c.root at.chains = has_chains old.world c.root at.chains at.under in at.found has.listing.entries has.listing.in_order
 
@@ -158,28 +158,28 @@ module _ (c : Client) (old : DiskView) (n : Name) (page : Page) (valid : IsValid
     abbrev pub putting_new : Putting c old n page
     putting_new = record { valid = valid; tree = tree; primary = primary; named = named; chains = at.chains; under = at.under; before = the_roomiest.before; behind = the_roomiest.behind; parts = the_roomiest.parts; read = the_roomiest.read; may = the_roomiest.may }
 
-    same_room : entries_room (block_len_of (cluster_in page.cluster)) ≡ entries_room (block_len old.world.geometry)
+    same_room : entries_room (block_len_of (dir_cluster page.cluster)) ≡ entries_room (block_len old.world.geometry)
     same_room = ap entries_room the_roomiest.read.read.whole
 
     -- whether the directory has room for one more
-    pub roomy_there : length (entries_in page.cluster) < entries_room (block_len_of (cluster_in page.cluster)) → has_room old.world at.chains ≡ true
+    pub roomy_there : length (entries_in page.cluster) < entries_room (block_len_of (dir_cluster page.cluster)) → has_room old.world at.chains ≡ true
     roomy_there less =
         let used = entries_used page in
         let same = same_room in
         let r = the_roomiest in
-        let test : is_roomy (block_len old.world.geometry) (page_link page) ≡ true = roomy_test (cluster_of (cluster_in page.cluster)).used (entries_room (block_len old.world.geometry)) (omega (arith, used, same, less)) in
+        let test : is_roomy (block_len old.world.geometry) (page_link page) ≡ true = roomy_test (cluster_of (dir_cluster page.cluster)).used (entries_room (block_len old.world.geometry)) (omega (arith, used, same, less)) in
         ap (list_any (is_roomy (block_len old.world.geometry))) r.parts
         ∙ (any-append (is_roomy (block_len old.world.geometry)) r.before (page_link page ∷ r.behind) ∙ or_right (list_any (is_roomy (block_len old.world.geometry)) r.before) _ (or_left (is_roomy (block_len old.world.geometry) (page_link page)) _ test))
       where
         roomy_test : (a b : ℕ) → a < b → nat_lt a b ≡ true
         roomy_test a b h = grind (arith, nat_tests)
 
-    module _ (full : entries_room (block_len_of (cluster_in page.cluster)) ≤ length (entries_in page.cluster)) where
+    module _ (full : entries_room (block_len_of (dir_cluster page.cluster)) ≤ length (entries_in page.cluster)) where
       full_page : is_roomy (block_len old.world.geometry) (page_link page) ≡ false
       full_page =
           let used = entries_used page in
           let same = same_room in
-          full_test (cluster_of (cluster_in page.cluster)).used (entries_room (block_len old.world.geometry)) (omega (arith, used, same, full))
+          full_test (cluster_of (dir_cluster page.cluster)).used (entries_room (block_len old.world.geometry)) (omega (arith, used, same, full))
         where
           full_test : (a b : ℕ) → b ≤ a → nat_lt a b ≡ false
           full_test a b h = grind (arith, nat_tests)
@@ -254,7 +254,7 @@ abbrev by_any : Client → DiskView → Path → List ℕ → Option Chains → 
 by_any c old path body o = refusal kind.Chain old.world.geometry (as_tree o) (free_count old.world) (length old.world.pairs)
     (chain_need old.world.geometry (as_tree o) (option_map_or (has_room old.world) o true) (ask.Put path body)) (ask.Put path body)
 
-pub refused_lost : (c : Client) (old : DiskView) → is_there (tree_of c old) ≡ true → (path : Path) (body : List ℕ) (e : FsRefusal) → lookup_refusal (tree_of c old) path no.IsDir ≡ Some e → refused_on (mounted_by c) old (ask.Put path body) ≡ Some e
+pub refused_lost : (c : Client) (old : DiskView) → is_there (tree_under c old) ≡ true → (path : Path) (body : List ℕ) (e : FsRefusal) → lookup_refusal (tree_under c old) path no.IsDir ≡ Some e → refused_on (mounted_by c) old (ask.Put path body) ≡ Some e
 refused_lost c old there path body e h =
     let f = found old.world c.root there in
     let cs = f.chains in

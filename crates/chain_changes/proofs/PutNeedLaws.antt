@@ -7,7 +7,7 @@ use Rattle.fs_trees.specs.Names.{Name, Path, name_lt, are_distinct}
 use Rattle.fs_trees.specs.Tree.{Entries, none, file, dir, nothing, a_file, a_dir, Tree, entry, is_there, is_dir, names, before, with_entry}
 use Rattle.fs_trees.specs.ChainTree.{ChainFile, chain_bytes, names_max, tree_of_files}
 use Rattle.fs_trees.specs.Needs.{need, clusters_for, chain_need}
-use Rattle.fs_trees.specs.Refusals.{Need, when, first_of, no_file, dir_full, too_big, no_room, refusal}
+use Rattle.fs_trees.specs.Refusals.{RoomNeed, when, first_of, no_file, dir_full, too_big, no_room, refusal}
 use Rattle.fs_trees.specs.declared.ask.ShellAsk.TheVariants as ask
 use Rattle.fs_trees.specs.declared.ask.ShellKind.TheVariants as kind
 use Rattle.fs_trees.specs.declared.refusal.FsRefusal.{FsRefusal}
@@ -48,7 +48,7 @@ names_counted (f ∷ fs) h =
 
 -- ---- what refuses it
 
-module _ (g : Geometry) (es : FileEntries) (free held : ℕ) (n : Need) (x : List ℕ) where
+module _ (g : Geometry) (es : FileEntries) (free held : ℕ) (n : RoomNeed) (x : List ℕ) where
   abbrev t : Tree
   t = a_dir tt es
 

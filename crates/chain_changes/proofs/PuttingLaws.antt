@@ -5,14 +5,13 @@ use Rattle.std.proofs.lemmas.List.{length-drop}
 use Rattle.std.proofs.lemmas.List.Sums.{count_by-le-length}
 use Rattle.std.specs.Prelude.{is_some, is_none}
 use Rattle.tsd_model.specs.Geometry.{block_len}
-use Rattle.tsd_model.specs.World.{World, contents, is_live, is_free, has_number}
+use Rattle.tsd_model.specs.World.{World, contents, is_live, is_free, has_number, are_apart}
 use Rattle.tsd_model.specs.Pairs.{holds}
-use Rattle.tsd_model.specs.Step.{filled}
+use Rattle.tsd_model.specs.Step.{filled, written}
 use Rattle.disk_laws.proofs.ChangeLaws.{contents-other}
 use Rattle.disk_laws.proofs.DoomLaws.{live_below}
 use Rattle.fs_trees.specs.Names.{Name, is_name}
 use Rattle.fs_trees.specs.Tree.{a_file, is_there, with_at}
-use Rattle.fs_trees.specs.Inode.{are_apart}
 use Rattle.fs_trees.specs.Cluster.{bytes_room}
 use Rattle.fs_trees.specs.Needs.{clusters_for}
 use Rattle.fs_trees.specs.ChainTree.{Link, blocks_of, links, is_filled, Chains, chain_blocks, chain_pairs, chains_under, chain_tree}
@@ -30,18 +29,18 @@ use Rattle.fs_port.specs.Files.{IsEitherTree}
 use Rattle.fs_client.specs.declared.client.Client.{Client}
 use Rattle.fs_client.specs.Client.{write_by}
 use Rattle.fs_client.specs.May.{MayWrite}
-use Rattle.fs_client.specs.Steps.{Leads, written, no_room_in}
+use Rattle.fs_client.specs.Steps.{Leads, no_room_in}
 use Rattle.fs_client.specs.Changing.{refused_on}
 use Rattle.fs_client.proofs.RoomLaws.{there_is_room}
 use Rattle.fs_client.proofs.RunLaws.{clash_free_live}
-use Rattle.chain_reading.specs.Chained.{IsFrom, IsFile}
+use Rattle.chain_reading.specs.Chained.{IsFrom, IsChainFile}
 use Rattle.chain_reading.proofs.ChangeLaws.{has_chains, right_is}
 use Rattle.chain_changes.specs.Making.{Stage, Making, IsAside}
 use Rattle.chain_changes.specs.Filling.{NewFile}
 use Rattle.chain_changes.proofs.MakingLaws.{named_live, tree_same, primary_now, source_under, aside_now}
 use Rattle.chain_reading.specs.declared.walking.Page.{Page}
 use Rattle.chain_reading.specs.Standing.{IsPage}
-use Rattle.chain_reading.specs.Asking.{tree_of, mounted_by}
+use Rattle.chain_reading.specs.Asking.{tree_under, mounted_by}
 use Rattle.chain_reading.specs.Finding.{page_link}
 use Rattle.chain_changes.proofs.EntryLaws.{page_live, page_named}
 use Rattle.chain_changes.proofs.RemoveLaws.{is_under_root}
@@ -51,7 +50,7 @@ use Rattle.chain_changes.proofs.AfterLaws.{Decided, decided_either}
 -- the cluster of the directory that is to have the entry, where the call begins
 pub record Putting (c : Client) (old : DiskView) (n : Name) (page : Page) : Type 0 where
   pub valid : IsValidNow old
-  pub tree : is_there (tree_of c old) ≡ true
+  pub tree : is_there (tree_under c old) ≡ true
   pub primary : c.root < old.world.geometry.primaries
   pub named : is_name n ≡ true
   pub chains : Chains
@@ -183,7 +182,7 @@ module _ (c : Client) (old : DiskView) (n : Name) (page : Page) (x : Putting c o
         blocks-length (l ∷ ls) = ap suc (blocks-length ls)
 
     -- in a world in which its clusters stand still
-    pub file_in : (w : World) → w.geometry ≡ old.world.geometry → (namer b : ℕ) → IsFrom w (Some b) nf.links → IsFile w namer (record { name = n; block = b }) (record { name = n; from = namer; chain = nf.links })
+    pub file_in : (w : World) → w.geometry ≡ old.world.geometry → (namer b : ℕ) → IsFrom w (Some b) nf.links → IsChainFile w namer (record { name = n; block = b }) (record { name = n; from = namer; chain = nf.links })
     file_in w size namer b from = record {
       name = refl;
       from = refl;

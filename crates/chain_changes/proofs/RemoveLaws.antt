@@ -7,7 +7,7 @@ use Rattle.tsd_model.specs.Geometry.{block_len}
 use Rattle.tsd_model.specs.World.{World, is_live, is_free, free_count, has_number}
 use Rattle.tsd_model.specs.Pairs.{holds, is_pair}
 use Rattle.tsd_model.specs.Valid.{IsValid}
-use Rattle.tsd_model.specs.Step.{filled}
+use Rattle.tsd_model.specs.Step.{filled, written}
 use Rattle.disk_laws.proofs.ChangeLaws.{live-with_contents, contents-other}
 use Rattle.fs_trees.specs.Names.{Name, Path, are_distinct}
 use Rattle.fs_trees.specs.Tree.{nothing, a_file, entry, at, is_there, names_in, with_at}
@@ -31,17 +31,17 @@ use Rattle.fs_port.specs.Files.{IsEitherTree}
 use Rattle.fs_client.specs.declared.client.Client.{Client}
 use Rattle.fs_client.specs.Client.{write_by}
 use Rattle.fs_client.specs.May.{MayWrite, Looked}
-use Rattle.fs_client.specs.Steps.{Leads, Went, written}
+use Rattle.fs_client.specs.Steps.{Leads, Went}
 use Rattle.fs_client.specs.Changing.{refused_on, lookup_refusal}
 use Rattle.fs_client.proofs.AskLaws.{rm_none}
 use Rattle.fs_client.proofs.RunLaws.{as_before, clash_free_live}
 use Rattle.fs_client.proofs.MayLaws.{may_after}
 use Rattle.fs_client.proofs.TidyLaws.{named_reached}
 use Rattle.chain_layout.specs.Block.{cluster_of}
-use Rattle.chain_layout.specs.Held.{cluster_in, entries_in}
+use Rattle.chain_layout.specs.Held.{dir_cluster, entries_in}
 use Rattle.chain_layout.specs.Listed.{unlisted_at, entry_blocks}
-use Rattle.chain_layout.specs.ReadsBack.{are_small}
-use Rattle.chain_reading.specs.Chained.{IsFile}
+use Rattle.chain_layout.specs.ReadsBack.{HaveFourBytes}
+use Rattle.chain_reading.specs.Chained.{IsChainFile}
 use Rattle.chain_reading.specs.Changed.{file_blocks, file_pairs, file_names, relinked}
 use Rattle.chain_reading.specs.Decided.{FileRemoved}
 use Rattle.chain_reading.proofs.ChangeLaws.{HasChains, has_chains, IsRight, right_is, blocks-append, file_pairs-append}
@@ -49,7 +49,7 @@ use Rattle.chain_reading.proofs.DecidedLaws.{entry_is_removed}
 use Rattle.chain_reading.proofs.FileLaws.{distinct_parts, tree_has}
 use Rattle.chain_reading.specs.declared.walking.Page.{Page}
 use Rattle.chain_reading.specs.declared.finding.Lookup.TheVariants.{Taken}
-use Rattle.chain_reading.specs.Asking.{tree_of, mounted_by}
+use Rattle.chain_reading.specs.Asking.{tree_under, mounted_by}
 use Rattle.chain_reading.specs.Finding.{page_link, IsLookupTaken}
 use Rattle.chain_changes.specs.Lookups.{IsLookupOf}
 use Rattle.chain_changes.proofs.EntryLaws.{ReadsAs, directory_read, directory_fits, from_first, named_parts, named_both, small_parts, small_both, page_live, page_within, page_named, page_entries, page_all_named, page_linked, page_sized, page_small}
@@ -92,7 +92,7 @@ module _ (w : World) (root : ℕ) (c : Chains) (under : chains_under w root ≡ 
       named_reached w root (named_at kind.Chain w root) valid (named_is_under kind.Chain w root primary there) b (ap (λ o. has_number (by_chains o).blocks b) under ∙ named)
 
   -- the file of an entry
-  module _ (before : List ChainFile) (old : ChainFile) (behind : List ChainFile) (files : c.files ≡ before ++ (old ∷ behind)) (d : ℕ) (e : Entry) (was : IsFile w d e old) where
+  module _ (before : List ChainFile) (old : ChainFile) (behind : List ChainFile) (files : c.files ≡ before ++ (old ∷ behind)) (d : ℕ) (e : Entry) (was : IsChainFile w d e old) where
     pub file_entry : entry e.name (tree_of_files c.files) ≡ a_file (chain_bytes old.chain)
     file_entry =
         let parts = distinct_parts old.name (file_names before) (file_names behind) (ap are_distinct (sym (names_between before old behind) ∙ ap file_names (sym files)) ∙ whole.names) in
@@ -118,12 +118,12 @@ module _ (w : World) (root : ℕ) (c : Chains) (under : chains_under w root ≡ 
 
 pub record Taking (c : Client) (first mid : DiskView) (path : Path) (n : Name) (page : Page) (position b : ℕ) : Type 0 where
   pub valid : IsValid first.world
-  pub tree : is_there (tree_of c first) ≡ true
+  pub tree : is_there (tree_under c first) ≡ true
   pub primary : c.root < first.world.geometry.primaries
   pub seen : Looked first mid
   pub path_is : path ≡ n ∷ []
   pub found : IsLookupOf c mid n (Taken page position b)
-  pub way : ◌≡◌ {A = Option FsRefusal} (lookup_refusal (tree_of c first) path no.IsDir) None
+  pub way : ◌≡◌ {A = Option FsRefusal} (lookup_refusal (tree_under c first) path no.IsDir) None
 
 module _ (c : Client) (first mid : DiskView) (path : Path) (n : Name) (page : Page) (position b : ℕ) (x : Taking c first mid path n page position b) where
   abbrev w : World
@@ -157,7 +157,7 @@ module _ (c : Client) (first mid : DiskView) (path : Path) (n : Name) (page : Pa
   fs = taken.entry.back
 
   abbrev bytes : List ℕ
-  bytes = directory_bytes (cluster_of (cluster_in page.cluster)).next (unlisted_at position (entries_in page.cluster))
+  bytes = directory_bytes (cluster_of (dir_cluster page.cluster)).next (unlisted_at position (entries_in page.cluster))
 
   news : unlisted_at position (entries_in page.cluster) ≡ es ++ fs
   news = ap (unlisted_at position) taken.entry.parts ∙ (ap (λ k. unlisted_at k (es ++ (e ∷ fs))) (sym taken.entry.count) ∙ unlisted es e fs)
@@ -180,20 +180,20 @@ module _ (c : Client) (first mid : DiskView) (path : Path) (n : Name) (page : Pa
   sized : (16 ≤ block_len mid.world.geometry) × (block_len mid.world.geometry ≤ 4096)
   sized = page_sized mid.world c.root x.found.chains x.found.under valid taken.before page taken.behind taken.parts taken.read
 
-  pub fits : length (directory_bytes (cluster_of (cluster_in page.cluster)).next (unlisted_at position (entries_in page.cluster))) ≤ block_len mid.world.geometry
-  fits = subst (λ xs. length (directory_bytes (cluster_of (cluster_in page.cluster)).next xs) ≤ block_len mid.world.geometry) (sym news)
-      (directory_fits (block_len mid.world.geometry) (cluster_of (cluster_in page.cluster)).next (es ++ fs) sized.0 news_named news_few)
+  pub fits : length (directory_bytes (cluster_of (dir_cluster page.cluster)).next (unlisted_at position (entries_in page.cluster))) ≤ block_len mid.world.geometry
+  fits = subst (λ xs. length (directory_bytes (cluster_of (dir_cluster page.cluster)).next xs) ≤ block_len mid.world.geometry) (sym news)
+      (directory_fits (block_len mid.world.geometry) (cluster_of (dir_cluster page.cluster)).next (es ++ fs) sized.0 news_named news_few)
 
   pub may_write : MayWrite c mid d
   may_write = taken.may
 
-  reads : ReadsAs (block_len mid.world.geometry) (filled (block_len mid.world.geometry) bytes) (cluster_of (cluster_in page.cluster)).next (es ++ fs)
-  reads = subst (λ xs. ReadsAs (block_len mid.world.geometry) (filled (block_len mid.world.geometry) (directory_bytes (cluster_of (cluster_in page.cluster)).next xs)) (cluster_of (cluster_in page.cluster)).next (es ++ fs)) (sym news)
-      (directory_read (block_len mid.world.geometry) (cluster_of (cluster_in page.cluster)).next (es ++ fs) sized.1
+  reads : ReadsAs (block_len mid.world.geometry) (filled (block_len mid.world.geometry) bytes) (cluster_of (dir_cluster page.cluster)).next (es ++ fs)
+  reads = subst (λ xs. ReadsAs (block_len mid.world.geometry) (filled (block_len mid.world.geometry) (directory_bytes (cluster_of (dir_cluster page.cluster)).next xs)) (cluster_of (dir_cluster page.cluster)).next (es ++ fs)) (sym news)
+      (directory_read (block_len mid.world.geometry) (cluster_of (dir_cluster page.cluster)).next (es ++ fs) sized.1
       (page_linked mid.world c.root x.found.chains x.found.under valid taken.before page taken.behind taken.parts taken.read) news_few news_named
-      (let parts = small_parts es (e ∷ fs) (subst (λ xs. are_small (entry_blocks xs)) taken.entry.parts small) in small_both es fs parts.0 (small_parts (e ∷ []) fs parts.1).1))
+      (let parts = small_parts es (e ∷ fs) (subst (λ xs. HaveFourBytes (entry_blocks xs)) taken.entry.parts small) in small_both es fs parts.0 (small_parts (e ∷ []) fs parts.1).1))
     where
-      small : are_small (entry_blocks (entries_in page.cluster))
+      small : HaveFourBytes (entry_blocks (entries_in page.cluster))
       small = page_small mid.world c.root x.found.chains x.found.under valid taken.before page taken.behind taken.parts taken.read
 
   live : is_live mid.world d ≡ true
@@ -218,13 +218,13 @@ module _ (c : Client) (first mid : DiskView) (path : Path) (n : Name) (page : Pa
   old_entry = file_entry mid.world c.root x.found.chains x.found.under valid primary removed.before removed.old removed.behind removed.files d e removed.was
 
   -- the file is there
-  at_path : at (tree_of c first) path ≡ a_file (chain_bytes removed.old.chain)
+  at_path : at (tree_under c first) path ≡ a_file (chain_bytes removed.old.chain)
   at_path =
-      ap (at (tree_of c first)) x.path_is ∙ (ap (λ v. at (chain_tree v c.root) (n ∷ [])) (sym x.seen.world)
+      ap (at (tree_under c first)) x.path_is ∙ (ap (λ v. at (chain_tree v c.root) (n ∷ [])) (sym x.seen.world)
       ∙ (ap (λ o. at (as_tree o) (n ∷ [])) x.found.under ∙ (ap (λ m. entry m (tree_of_files cs.files)) (sym taken.entry.name) ∙ old_entry)))
 
   pub none_refuses : ◌≡◌ {A = Option FsRefusal} (refused_on (mounted_by c) first (ask.Rm path)) None
-  none_refuses = rm_none kind.Chain first.world.geometry (tree_of c first) (free_count first.world) (length first.world.pairs) (need_of kind.Chain first.world c.root (tree_of c first) (ask.Rm path)) x.tree path x.way
+  none_refuses = rm_none kind.Chain first.world.geometry (tree_under c first) (free_count first.world) (length first.world.pairs) (need_of kind.Chain first.world c.root (tree_under c first) (ask.Rm path)) x.tree path x.way
       (ap is_there at_path) (ap (λ y. nat_lt 0 (length (names_in y))) at_path)
 
   named_d : has_number (chain_blocks cs) d ≡ true

@@ -1,6 +1,7 @@
 -- What the calls that make a chain leave.
-use Rattle.std.specs.Prelude.{◌≡◌, ℕ, ◌+◌, ◌^◌, ◌<◌, false, List, [], ◌∷◌, length, take, drop, Option, Some, None}
+use Rattle.std.specs.Prelude.{◌≡◌, ℕ, ◌+◌, ◌^◌, ◌<◌, false, List, [], ◌∷◌, length, take, drop}
 use Rattle.std.specs.Prelude.{IsTrue}
+use Rattle.tsd_model.specs.Placing.{first_block}
 use Rattle.tsd_model.specs.Geometry.{block_len}
 use Rattle.tsd_model.specs.World.{World, contents, has_number}
 use Rattle.fs_trees.specs.Cluster.{bytes_room}
@@ -56,10 +57,6 @@ abbrev pub MadeWith : ℕ → List ℕ → World → World → Type 0
 MadeWith root written begun w =
     (first : World) (source : ℕ) (blocks : List ℕ) → Stage root first source → Making root first source blocks begun
     → AreNew written blocks → Making root first source blocks w
-
-abbrev pub first_block : List ℕ → Option ℕ
-first_block [] = None
-first_block (b ∷ bs) = Some b
 
 -- the clusters hold the bytes, each its part in turn: as many as there is room for
 abbrev pub ArePartsOf : ℕ → List ℕ → List Link → Type 0

@@ -14,7 +14,8 @@ use Rattle.chain_reading.specs.Chained.{IsFrom}
 use Rattle.chain_reading.specs.declared.walking.Part.{Part}
 use Rattle.chain_reading.specs.Standing.{IsPartOfRoot}
 use Rattle.chain_changes.specs.Making.{Making}
-use Rattle.chain_changes.specs.Filling.{first_block, ArePartsOf}
+use Rattle.tsd_model.specs.Placing.{first_block}
+use Rattle.chain_changes.specs.Filling.{ArePartsOf}
 
 -- a cluster of a file that was read, as one of its chain
 abbrev pub part_link : Part → Link

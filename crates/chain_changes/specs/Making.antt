@@ -1,11 +1,10 @@
 -- A chain in the making: new blocks that hang from one that the root reaches, each pointed to by the one before, and
 -- that nothing names.
 use Rattle.std.specs.Prelude.{◌≡◌, ℕ, ◌<◌, false, ◌||◌, List, ◌∷◌, IsTrue}
-use Rattle.tsd_model.specs.World.{World, contents, is_live, is_free, has_number}
+use Rattle.tsd_model.specs.World.{World, contents, is_live, is_free, has_number, are_apart}
 use Rattle.tsd_model.specs.Pairs.{holds}
 use Rattle.tsd_model.specs.Valid.{IsValid}
 use Rattle.fs_trees.specs.Tree.{is_there}
-use Rattle.fs_trees.specs.Inode.{are_apart}
 use Rattle.fs_trees.specs.ChainTree.{links, chain_tree}
 use Rattle.fs_trees.specs.Layouts.{named_at}
 use Rattle.fs_trees.specs.Outside.{is_under, OthersStay}

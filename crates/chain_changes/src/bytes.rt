@@ -3,14 +3,14 @@
 ghost use Rattle.std.specs.Prelude.{◌≡◌, ◌≤◌, ◌<◌, ◌+◌, ◌*◌, ℕ, length, take, drop, false};
 ghost use Rattle.std.specs.Prelude.{IsTrue, IfErr, OnOk};
 ghost use Rattle.tsd_model.specs.Geometry.{block_len};
-ghost use Rattle.tsd_model.specs.World.{has_number};
+ghost use Rattle.tsd_model.specs.World.{has_number, are_apart};
 ghost use Rattle.fs_trees.specs.Cluster.{bytes_room};
-ghost use Rattle.fs_trees.specs.Inode.{are_apart};
 ghost use Rattle.fs_trees.specs.declared.refusal.FsRefusal.TheVariants as no;
 ghost use Rattle.fs_port.specs.Calls.{IsValidNow};
 ghost use Rattle.fs_client.specs.May.{MayWrite};
 ghost use Rattle.fs_port.specs.Runs.{Runs};
-ghost use Rattle.chain_changes.specs.Filling.{AreLinkable, AsideWith, first_block, Wrote};
+ghost use Rattle.tsd_model.specs.Placing.{first_block};
+ghost use Rattle.chain_changes.specs.Filling.{AreLinkable, AsideWith, Wrote};
 
 use chain_layout::{bytes_room, file_part};
 use fs_client::{Client, write_block};

@@ -4,7 +4,7 @@ ghost use Rattle.std.specs.Prelude.{◌≡◌, ◌≢◌, [], ◌∷◌, None, S
 ghost use Rattle.fs_trees.specs.declared.refusal.FsRefusal.TheVariants as no;
 ghost use Rattle.fs_client.specs.May.{OnlyLooks};
 ghost use Rattle.fs_client.specs.Changing.{lookup_refusal};
-ghost use Rattle.chain_reading.specs.Asking.{MayAsk, tree_of};
+ghost use Rattle.chain_reading.specs.Asking.{MayAsk, tree_under};
 ghost use Rattle.chain_reading.specs.Finding.{IsLookupWithin};
 ghost use Rattle.chain_changes.specs.Lookups.{IsLookupOf};
 
@@ -25,10 +25,10 @@ pub fn look_up<'a, K: Blocks>(
     ensures found { K.told → IfOk result (λ found. IsLookupOf client.now (K.view disk.new) found.1.now found.0) }
     ensures path { IfOk result (λ found. path.now ≡ found.1.now ∷ []) }
     ensures within { IfOk result (λ found. IsLookupWithin found.0) }
-    ensures none { K.told → OnOk result (lookup_refusal (tree_of client.now (K.view disk.old)) path.now at_root
+    ensures none { K.told → OnOk result (lookup_refusal (tree_under client.now (K.view disk.old)) path.now at_root
         ≡ None) }
     ensures refused { K.told → IfErr result (λ e. e ≢ no.Device
-        → lookup_refusal (tree_of client.now (K.view disk.old)) path.now at_root ≡ Some e) }
+        → lookup_refusal (tree_under client.now (K.view disk.old)) path.now at_root ≡ Some e) }
     ensures looks { OnlyLooks K.told (K.view disk.old) (K.view disk.new) result }
 {
     match path.as_slice() {

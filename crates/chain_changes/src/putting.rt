@@ -9,7 +9,7 @@ ghost use Rattle.fs_trees.specs.declared.ask.ShellAsk.TheVariants as ask;
 ghost use Rattle.fs_port.specs.Files.{Answers};
 ghost use Rattle.fs_port.specs.Runs.{Changes};
 ghost use Rattle.chain_layout.specs.Block.{block_len_of};
-ghost use Rattle.chain_layout.specs.Held.{cluster_in, entries_in};
+ghost use Rattle.chain_layout.specs.Held.{dir_cluster, entries_in};
 ghost use Rattle.chain_reading.specs.Asking.{MayAsk, mounted_by};
 ghost use Rattle.chain_reading.specs.declared.finding.Lookup.TheVariants.{Taken, Free};
 ghost use Rattle.chain_changes.specs.Lookups.{IsLookupOf};
@@ -82,7 +82,7 @@ fn add<K: Blocks>(
     requires may { MayAsk K.told client.now (K.view disk.old) }
     requires found { K.told → IsLookupOf client.now (K.view disk.old) name.now (Free page.now count) }
     requires few { count < names_max }
-    requires room { length (entries_in page.now.cluster) < entries_room (block_len_of (cluster_in page.now.cluster)) }
+    requires room { length (entries_in page.now.cluster) < entries_room (block_len_of (dir_cluster page.now.cluster)) }
     requires named { IsTrue (is_name name.now) }
     ensures answer { K.told → Answers (mounted_by client.now) (K.view disk.old) (K.view disk.new)
         (ask.Put (name.now ∷ []) bytes.now) result (λ _ answer. answer ≡ done) }
@@ -116,7 +116,7 @@ fn extend<K: Blocks>(
     requires may { MayAsk K.told client.now (K.view disk.old) }
     requires found { K.told → IsLookupOf client.now (K.view disk.old) name.now (Free page.now count) }
     requires few { count < names_max }
-    requires full { entries_room (block_len_of (cluster_in page.now.cluster)) ≤ length (entries_in page.now.cluster) }
+    requires full { entries_room (block_len_of (dir_cluster page.now.cluster)) ≤ length (entries_in page.now.cluster) }
     requires named { IsTrue (is_name name.now) }
     ensures answer { K.told → Answers (mounted_by client.now) (K.view disk.old) (K.view disk.new)
         (ask.Put (name.now ∷ []) bytes.now) result (λ _ answer. answer ≡ done) }

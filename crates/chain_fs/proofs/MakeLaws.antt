@@ -7,10 +7,10 @@ use Rattle.tsd_model.specs.World.{World, is_live}
 use Rattle.tsd_model.specs.Valid.{IsValid}
 use Rattle.disk_laws.proofs.DoomLaws.{live_below}
 use Rattle.fs_trees.specs.Cluster.{Cluster, cluster_in, directory_bytes}
-use Rattle.fs_trees.specs.ChainTree.{Link, cluster_at, link_by, next_of, chain_at, files_in, with_directory, with_files, chains_under, as_tree}
+use Rattle.fs_trees.specs.ChainTree.{Link, cluster_at, chain_by_next, next_of, chain_at, files_in, with_directory, with_files, chains_under, as_tree}
 use Rattle.fs_trees.specs.Layouts.{by_chains}
 use Rattle.fs_trees.specs.declared.ask.ShellKind.TheVariants as kind
-use Rattle.fs_client.specs.Steps.{written}
+use Rattle.tsd_model.specs.Step.{written}
 use Rattle.fs_client.specs.Changing.{IsEmptied}
 use Rattle.fs_client.proofs.WriteLaws.{block_long, written_here}
 use Rattle.chain_layout.proofs.BackLaws.{head_back, entries_back}
@@ -43,7 +43,7 @@ module _ (w : World) (root : ℕ) (valid : IsValid w) (primary : root < w.geomet
 
   chain_next : (n : ℕ) → 0 < n → chain_at next n root ≡ Some directory
   chain_next zero h = absurd (omega arith)
-  chain_next (suc more) h = ap (λ o. link_by (λ d. chain_at next more d) root o (next_of o)) says_next
+  chain_next (suc more) h = ap (λ o. chain_by_next (λ d. chain_at next more d) root o (next_of o)) says_next
 
   files_next : files_in next directory ≡ Some []
   files_next = listing_from next directory [] (record {

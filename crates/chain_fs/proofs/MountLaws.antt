@@ -3,10 +3,9 @@ use Rattle.std.proofs.Common.{◌≡◌, ℕ, ◌<◌, Bool, true, ◌&&◌, [],
 use Rattle.std.proofs.lemmas.Bool.{and_parts}
 use Rattle.std.specs.Prelude.{map, unwrap_or}
 use Rattle.std.specs.List.{list_all}
-use Rattle.tsd_model.specs.World.{World}
+use Rattle.tsd_model.specs.World.{World, are_apart}
 use Rattle.tsd_model.specs.Pairs.{holds}
 use Rattle.fs_trees.specs.Names.{are_distinct}
-use Rattle.fs_trees.specs.Inode.{are_apart}
 use Rattle.fs_trees.specs.Tree.{is_there}
 use Rattle.fs_trees.specs.ChainTree.{chain_blocks, chain_pairs, chain_tree}
 use Rattle.fs_trees.specs.Layouts.{by_chains, named_at}

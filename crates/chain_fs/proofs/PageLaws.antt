@@ -19,7 +19,7 @@ use Rattle.fs_client.specs.Trimming.{IsWay, MayTrim, Trimmed, Trims, OnlyNamed, 
 use Rattle.fs_client.proofs.TrimLaws.{way_still, may_by_way}
 use Rattle.chain_layout.specs.Listed.{next_blocks, entry_blocks}
 use Rattle.chain_layout.specs.Block.{cluster_of}
-use Rattle.chain_layout.specs.Held.{blocks_in, entries_in, cluster_in as page_cluster}
+use Rattle.chain_layout.specs.Held.{blocks_in, entries_in, dir_cluster as page_cluster}
 use Rattle.chain_reading.specs.Standing.{entries_at, IsPage}
 use Rattle.chain_reading.specs.declared.walking.Page.{Page}
 use Rattle.chain_reading.proofs.WalkLaws.{link_of, IsWalked, walk_starts, walk_ends, one_more}

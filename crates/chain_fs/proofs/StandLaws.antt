@@ -4,9 +4,8 @@ use Rattle.std.proofs.lemmas.Bool.{and_parts, and_from, or_cases, or_left, or_ri
 use Rattle.std.specs.Prelude.{flat_map}
 use Rattle.std.specs.Option.{option_and_then}
 use Rattle.tsd_model.specs.Geometry.{block_len}
-use Rattle.tsd_model.specs.World.{World, has_number}
+use Rattle.tsd_model.specs.World.{World, has_number, are_apart}
 use Rattle.tsd_model.specs.Pairs.{holds, is_pair}
-use Rattle.fs_trees.specs.Inode.{are_apart}
 use Rattle.fs_trees.specs.Fields.{Entry}
 use Rattle.fs_trees.specs.Cluster.{Cluster, entries_of}
 use Rattle.fs_trees.specs.ChainTree.{Link, ChainFile, Chains, cluster_at, blocks_of, links, chain_pairs}
@@ -15,7 +14,7 @@ use Rattle.fs_port.specs.View.{DiskView}
 use Rattle.fs_client.specs.declared.client.Client.{Client}
 use Rattle.fs_client.specs.Trimming.{Trimmed}
 use Rattle.fs_client.proofs.TrimLaws.{under_still}
-use Rattle.chain_reading.specs.Chained.{PlacedEntry, IsFrom, IsFile, AreFiles, AreEntries, placed}
+use Rattle.chain_reading.specs.Chained.{PlacedEntry, IsFrom, IsChainFile, AreFiles, AreEntries, placed}
 use Rattle.chain_reading.proofs.ChainedLaws.{from_same, files_same}
 use Rattle.chain_reading.specs.Standing.{entries_at}
 use Rattle.chain_fs.specs.Tidying.{named_of, IsIn, BeginsAt, AreChainsUnder}
@@ -140,16 +139,16 @@ apart_two (x ∷ xs) ys a h m k =
 
 -- ---- entries and their files
 
-file_entry : (w : World) (ps : List PlacedEntry) (fs : List ChainFile) (f : ChainFile) → AreFiles w ps fs → IsIn f fs → (p : PlacedEntry) × IsIn p ps × IsFile w p.0 p.1 f
+file_entry : (w : World) (ps : List PlacedEntry) (fs : List ChainFile) (f : ChainFile) → AreFiles w ps fs → IsIn f fs → (p : PlacedEntry) × IsIn p ps × IsChainFile w p.0 p.1 f
 file_entry w ps [] f are h = absurd h
 file_entry w [] (g ∷ fs) f are h = absurd are
-file_entry w (p ∷ ps) (g ∷ fs) f are (inl e) = (p, inl refl, subst (IsFile w p.0 p.1) e are.0)
+file_entry w (p ∷ ps) (g ∷ fs) f are (inl e) = (p, inl refl, subst (IsChainFile w p.0 p.1) e are.0)
 file_entry w (p ∷ ps) (g ∷ fs) f are (inr h) = let rest = file_entry w ps fs f are.1 h in (rest.0, inr rest.1, rest.2)
 
-entry_file : (w : World) (ps : List PlacedEntry) (fs : List ChainFile) (p : PlacedEntry) → AreFiles w ps fs → IsIn p ps → (f : ChainFile) × IsIn f fs × IsFile w p.0 p.1 f
+entry_file : (w : World) (ps : List PlacedEntry) (fs : List ChainFile) (p : PlacedEntry) → AreFiles w ps fs → IsIn p ps → (f : ChainFile) × IsIn f fs × IsChainFile w p.0 p.1 f
 entry_file w [] fs p are h = absurd h
 entry_file w (q ∷ ps) [] p are h = absurd are
-entry_file w (q ∷ ps) (f ∷ fs) p are (inl e) = (f, inl refl, subst (λ x. IsFile w x.0 x.1 f) e are.0)
+entry_file w (q ∷ ps) (f ∷ fs) p are (inl e) = (f, inl refl, subst (λ x. IsChainFile w x.0 x.1 f) e are.0)
 entry_file w (q ∷ ps) (f ∷ fs) p are (inr h) = let rest = entry_file w ps fs p are.1 h in (rest.0, inr rest.1, rest.2)
 
 -- the entries in a block of the directory are among all
@@ -211,7 +210,7 @@ module _ (c : Client) (k : Chains) (v : DiskView) (s : AreChainsUnder c k v) whe
   rest = flat_map (λ f. blocks_of f.chain) k.files
 
   -- a file is that of an entry
-  pub of_entry : (f : ChainFile) → IsIn f k.files → (p : PlacedEntry) × IsIn p s.entries × IsFile v.world p.0 p.1 f
+  pub of_entry : (f : ChainFile) → IsIn f k.files → (p : PlacedEntry) × IsIn p s.entries × IsChainFile v.world p.0 p.1 f
   of_entry f h = file_entry v.world s.entries k.files f s.files h
 
   pub from_directory : (f : ChainFile) → IsIn f k.files → has_number (blocks_of k.directory) f.from ≡ true

@@ -1,9 +1,8 @@
 -- A tree of chains whose clusters let go of what they don't name, one after the other.
 use Rattle.std.specs.Prelude.{◌≡◌, ℕ, ◌⊎◌, List, [], ◌∷◌, Some, unwrap_or, IsTrue}
 use Rattle.tsd_model.specs.Geometry.{block_len}
-use Rattle.tsd_model.specs.World.{World, has_number}
+use Rattle.tsd_model.specs.World.{World, has_number, are_apart}
 use Rattle.tsd_model.specs.Pairs.{holds}
-use Rattle.fs_trees.specs.Inode.{are_apart}
 use Rattle.fs_trees.specs.ChainTree.{Link, ChainFile, Chains, blocks_of, chain_blocks, chains_under}
 use Rattle.fs_trees.specs.Layouts.{Named, by_chains}
 use Rattle.fs_laws.specs.Stays.{IsUnder}

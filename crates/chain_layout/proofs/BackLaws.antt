@@ -10,7 +10,7 @@ use Rattle.fs_trees.specs.Fields.{only_if, Entry, entry_bytes, entries, all_name
 use Rattle.fs_trees.specs.Cluster.{Cluster, cluster_in, link_in, link_field, entries_of, entries_room, cluster_bytes}
 use Rattle.fs_laws.proofs.EncodingLaws.{all_small, entries_read_back}
 use Rattle.chain_layout.specs.Listed.{entry_blocks}
-use Rattle.chain_layout.specs.ReadsBack.{are_small, is_linked}
+use Rattle.chain_layout.specs.ReadsBack.{HaveFourBytes, is_linked}
 use Rattle.std.specs.List.{list_all}
 
 small_entries : (es : List Entry) → list_all (λ n. nat_lt n (2 ^ 32)) (entry_blocks es) ≡ all_small es
@@ -18,7 +18,7 @@ small_entries [] = refl
 small_entries (e ∷ es) = ap (λ t. nat_lt e.block (2 ^ 32) && t) (small_entries es)
 
 -- by the head that was read
-pub entries_back : (len : ℕ) (next : Option ℕ) (es : List Entry) (rest : List ℕ) (c : Cluster) → length es ≤ entries_room len → all_named es ≡ true → are_small (entry_blocks es)
+pub entries_back : (len : ℕ) (next : Option ℕ) (es : List Entry) (rest : List ℕ) (c : Cluster) → length es ≤ entries_room len → all_named es ≡ true → HaveFourBytes (entry_blocks es)
     → c.used ≡ length es → c.body ≡ flat_map entry_bytes es ++ rest → entries_of len c ≡ Some es
 entries_back len next es rest c room named small is_used is_body =
     let read = ap (λ k. entries k c.body) is_used ∙ (ap (entries (length es)) is_body ∙ entries_read_back es rest named (sym (small_entries es) ∙ small)) in

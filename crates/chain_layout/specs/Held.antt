@@ -9,8 +9,8 @@ use Rattle.chain_layout.specs.declared.file.FileCluster.{FileCluster}
 
 -- ---- of the directory
 
-abbrev pub cluster_in : DirectoryCluster → Cluster
-cluster_in d = d.cluster
+abbrev pub dir_cluster : DirectoryCluster → Cluster
+dir_cluster d = d.cluster
 
 abbrev pub entries_in : DirectoryCluster → List Entry
 entries_in d = entries (cluster_of d.cluster).used (cluster_of d.cluster).body

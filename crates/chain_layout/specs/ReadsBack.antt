@@ -8,8 +8,8 @@ use Rattle.fs_trees.specs.Cluster.{directory_bytes, part_bytes}
 use Rattle.chain_layout.specs.Listed.{entry_blocks}
 
 -- numbers of four bytes
-abbrev pub are_small : List ℕ → Type 0
-are_small ns = IsTrue (list_all (λ n. nat_lt n (2 ^ 32)) ns)
+abbrev pub HaveFourBytes : List ℕ → Type 0
+HaveFourBytes ns = IsTrue (list_all (λ n. nat_lt n (2 ^ 32)) ns)
 
 abbrev pub is_linked : Option ℕ → Type 0
 is_linked next = link_field next < 2 ^ 32
@@ -26,7 +26,7 @@ abbrev pub EntriesReadBack : Type 0
 EntriesReadBack =
     (len : ℕ) (next : Option ℕ) (es : List Entry) (rest : List ℕ)
     → is_linked next → length es < 2 ^ 32 → length es ≤ entries_room len → all_named es ≡ true
-    → are_small (entry_blocks es)
+    → HaveFourBytes (entry_blocks es)
     → option_and_then (entries_of len) (cluster_in (directory_bytes next es ++ rest)) ≡ Some es
 
 -- the bytes of a file's cluster, whatever stands behind

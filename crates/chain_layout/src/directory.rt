@@ -80,12 +80,12 @@ impl DirectoryCluster {
     ghost use Rattle.std.specs.List.{list_any};
     ghost use Rattle.fs_trees.specs.Names.{are_distinct};
     ghost use Rattle.chain_layout.specs.Listed.{entry_blocks, is_among};
-    ghost use Rattle.chain_layout.specs.Held.{cluster_in, entries_in, blocks_in};
+    ghost use Rattle.chain_layout.specs.Held.{dir_cluster, entries_in, blocks_in};
 
     /// The cluster as one of the directory, where it is one.
     pub fn of(cluster: Cluster) -> Option<DirectoryCluster>
         ensures value { option_map entries_in result ≡ entries_of (block_len_of cluster) (cluster_of cluster) }
-        ensures kept { IfSome result (λ d. cluster_in d ≡ cluster) }
+        ensures kept { IfSome result (λ d. dir_cluster d ≡ cluster) }
     {
         let count = cluster.used() as usize;
         if count > entries_room(cluster.block_len()) || !are_named(cluster.body(), count) {
@@ -96,7 +96,7 @@ impl DirectoryCluster {
 
     /// What it says as any cluster does.
     pub fn cluster(&self) -> &Cluster
-        ensures { result.now ≡ cluster_in self.now }
+        ensures { result.now ≡ dir_cluster self.now }
     {
         &self.cluster
     }
@@ -104,7 +104,7 @@ impl DirectoryCluster {
     /// How many entries it has.
     pub fn count(&self) -> usize
         ensures value { result ≡ length (entries_in self.now) }
-        ensures fits { result ≤ entries_room (block_len_of (cluster_in self.now)) }
+        ensures fits { result ≤ entries_room (block_len_of (dir_cluster self.now)) }
         ensures few { result ≤ 127 }
     {
         self.count
@@ -112,8 +112,8 @@ impl DirectoryCluster {
 
     /// Whether it has room for one entry more.
     pub fn has_room(&self) -> bool
-        ensures { result ≡ nat_lt (cluster_of (cluster_in self.now)).used
-            (entries_room (block_len_of (cluster_in self.now))) }
+        ensures { result ≡ nat_lt (cluster_of (dir_cluster self.now)).used
+            (entries_room (block_len_of (dir_cluster self.now))) }
     {
         self.count < entries_room(self.cluster.block_len())
     }

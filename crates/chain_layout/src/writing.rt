@@ -6,7 +6,7 @@ ghost use Rattle.fs_trees.specs.Fields.{entries, entry_bytes};
 ghost use Rattle.fs_trees.specs.Cluster.{link_field, entries_room, cluster_bytes, directory_bytes, part_bytes};
 ghost use Rattle.chain_layout.specs.Listed.{listed_at, unlisted_at};
 ghost use Rattle.chain_layout.specs.Block.{cluster_of, block_len_of};
-ghost use Rattle.chain_layout.specs.Held.{cluster_in, entries_in};
+ghost use Rattle.chain_layout.specs.Held.{dir_cluster, entries_in};
 
 use crate::cluster::MAGIC;
 use crate::directory::DirectoryCluster;
@@ -91,8 +91,8 @@ pub fn directory_of_one(name: &[u8], block: u32) -> Data
 pub fn directory_with(old: &DirectoryCluster, position: usize, name: &[u8], block: u32) -> Data
     requires named { length name.now ≤ 28 }
     requires within { position ≤ length (entries_in old.now) }
-    requires fits { position < entries_room (block_len_of (cluster_in old.now)) }
-    ensures { result ≡ directory_bytes (cluster_of (cluster_in old.now)).next
+    requires fits { position < entries_room (block_len_of (dir_cluster old.now)) }
+    ensures { result ≡ directory_bytes (cluster_of (dir_cluster old.now)).next
         (listed_at position (record { name = name.now; block = block }) (entries_in old.now)) }
 {
     let list = old.cluster().body();
@@ -110,7 +110,7 @@ pub fn directory_with(old: &DirectoryCluster, position: usize, name: &[u8], bloc
 /// The cluster of the directory without the entry at a position.
 pub fn directory_without(old: &DirectoryCluster, position: usize) -> Data
     requires { position < length (entries_in old.now) }
-    ensures { result ≡ directory_bytes (cluster_of (cluster_in old.now)).next
+    ensures { result ≡ directory_bytes (cluster_of (dir_cluster old.now)).next
         (unlisted_at position (entries_in old.now)) }
 {
     let count = old.count();

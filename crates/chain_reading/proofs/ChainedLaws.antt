@@ -8,21 +8,21 @@ use Rattle.tsd_model.specs.Geometry.{block_len}
 use Rattle.tsd_model.specs.World.{World, contents, has_number}
 use Rattle.fs_trees.specs.Fields.{only_if, Entry}
 use Rattle.fs_trees.specs.Cluster.{Cluster, cluster_in, entries_of, bytes_room}
-use Rattle.fs_trees.specs.ChainTree.{Link, cluster_at, before_rest, link_by, next_of, chain_at, blocks_of, is_filled, ChainFile, file_of, file_at, all_there, files_of, files_in}
-use Rattle.chain_reading.specs.Chained.{IsFrom, IsChain, IsFile, PlacedEntry, AreFiles, placed, AreEntries}
+use Rattle.fs_trees.specs.ChainTree.{Link, cluster_at, before_rest, chain_by_next, next_of, chain_at, blocks_of, is_filled, ChainFile, file_of, file_at, all_there, files_of, files_in}
+use Rattle.chain_reading.specs.Chained.{IsFrom, IsChain, IsChainFile, PlacedEntry, AreFiles, placed, AreEntries}
 
 -- ---- a chain
 
 chain_by : (w : World) (more b : ℕ) (o : Option Cluster) → cluster_at w b ≡ o
     → ((d : ℕ) (ls : List Link) → chain_at w more d ≡ Some ls → IsFrom w (Some d) ls × (length ls ≤ more))
-    → (ls : List Link) → link_by (λ d. chain_at w more d) b o (next_of o) ≡ Some ls → IsFrom w (Some b) ls × (length ls ≤ suc more)
+    → (ls : List Link) → chain_by_next (λ d. chain_at w more d) b o (next_of o) ≡ Some ls → IsFrom w (Some b) ls × (length ls ≤ suc more)
 chain_by w more b None there later ls e = absurd (cc)
 chain_by w more b (Some c) there later ls e = by_next c.next refl e
   where
     one : Link
     one = record { block = b; cluster = c }
 
-    by_next : (o : Option ℕ) → c.next ≡ o → link_by (λ d. chain_at w more d) b (Some c) o ≡ Some ls → IsFrom w (Some b) ls × (length ls ≤ suc more)
+    by_next : (o : Option ℕ) → c.next ≡ o → chain_by_next (λ d. chain_at w more d) b (Some c) o ≡ Some ls → IsFrom w (Some b) ls × (length ls ≤ suc more)
     by_next None is e =
         let same : record { block = b; cluster = c } ∷ [] ≡ ls = cc in
         subst (λ xs. IsFrom w (Some b) xs × (length xs ≤ suc more)) same ((refl, there, is), omega arith)
@@ -48,15 +48,15 @@ chain_of w more b [] is fits = absurd (cc)
 chain_of w zero b (l ∷ ls) is fits = absurd (omega arith)
 chain_of w (suc more) b (l ∷ ls) is fits =
     let here : b ≡ l.block = cc in
-    ap (λ x. link_by (λ d. chain_at w more d) x (cluster_at w x) (next_of (cluster_at w x))) here
-    ∙ (ap (λ o. link_by (λ d. chain_at w more d) l.block o (next_of o)) is.1
+    ap (λ x. chain_by_next (λ d. chain_at w more d) x (cluster_at w x) (next_of (cluster_at w x))) here
+    ∙ (ap (λ o. chain_by_next (λ d. chain_at w more d) l.block o (next_of o)) is.1
     ∙ by_rest ls is.2 (omega arith) (λ d g f. chain_of w more d ls g f))
   where
     by_rest : (ks : List Link) → IsFrom w l.cluster.next ks → length ks ≤ more → ((d : ℕ) → IsFrom w (Some d) ks → length ks ≤ more → chain_at w more d ≡ Some ks)
-        → link_by (λ d. chain_at w more d) l.block (Some l.cluster) l.cluster.next ≡ Some (l ∷ ks)
-    by_rest [] last fits later = ap (link_by (λ d. chain_at w more d) l.block (Some l.cluster)) last
+        → chain_by_next (λ d. chain_at w more d) l.block (Some l.cluster) l.cluster.next ≡ Some (l ∷ ks)
+    by_rest [] last fits later = ap (chain_by_next (λ d. chain_at w more d) l.block (Some l.cluster)) last
     by_rest (k ∷ ks) next fits later =
-        ap (link_by (λ d. chain_at w more d) l.block (Some l.cluster)) next.0
+        ap (chain_by_next (λ d. chain_at w more d) l.block (Some l.cluster)) next.0
         ∙ ap (before_rest l) (later k.block (refl, next.1, next.2) fits)
 
 pub chain_from : (w : World) (b : ℕ) (ls : List Link) → IsChain w b ls → chain_at w w.geometry.blocks b ≡ Some ls
@@ -64,20 +64,20 @@ chain_from w b ls is = chain_of w w.geometry.blocks b ls is.links is.short
 
 -- ---- a file
 
-pub file_is : (w : World) (from : ℕ) (e : Entry) (f : ChainFile) → file_at w from e ≡ Some f → IsFile w from e f
+pub file_is : (w : World) (from : ℕ) (e : Entry) (f : ChainFile) → file_at w from e ≡ Some f → IsChainFile w from e f
 file_is w from e f h = by_chain (chain_at w w.geometry.blocks e.block) refl h
   where
-    by_test : (ls : List Link) (t : Bool) → is_filled (bytes_room (block_len w.geometry)) ls ≡ t → IsChain w e.block ls → only_if t (λ _. Some (record { name = e.name; from = from; chain = ls })) ≡ Some f → IsFile w from e f
+    by_test : (ls : List Link) (t : Bool) → is_filled (bytes_room (block_len w.geometry)) ls ≡ t → IsChain w e.block ls → only_if t (λ _. Some (record { name = e.name; from = from; chain = ls })) ≡ Some f → IsChainFile w from e f
     by_test ls false filled is h = absurd (cc)
     by_test ls true filled is h =
         let same : record { name = e.name; from = from; chain = ls } ≡ f = cc in
-        subst (λ g. IsFile w from e g) same (record { name = refl; from = refl; chain = is; filled = filled })
+        subst (λ g. IsChainFile w from e g) same (record { name = refl; from = refl; chain = is; filled = filled })
 
-    by_chain : (o : Option (List Link)) → chain_at w w.geometry.blocks e.block ≡ o → file_of w from e o ≡ Some f → IsFile w from e f
+    by_chain : (o : Option (List Link)) → chain_at w w.geometry.blocks e.block ≡ o → file_of w from e o ≡ Some f → IsChainFile w from e f
     by_chain None at h = absurd (cc)
     by_chain (Some ls) at h = by_test ls (is_filled (bytes_room (block_len w.geometry)) ls) refl (chain_is w e.block ls at) h
 
-pub file_from : (w : World) (from : ℕ) (e : Entry) (f : ChainFile) → IsFile w from e f → file_at w from e ≡ Some f
+pub file_from : (w : World) (from : ℕ) (e : Entry) (f : ChainFile) → IsChainFile w from e f → file_at w from e ≡ Some f
 file_from w from e f is =
     ap (file_of w from e) (chain_from w e.block f.chain is.chain)
     ∙ (ap (λ t. only_if t (λ _. Some (record { name = e.name; from = from; chain = f.chain }))) is.filled

@@ -6,14 +6,13 @@ use Rattle.std.specs.Prelude.{map}
 use Rattle.std.specs.Option.{option_and_then}
 use Rattle.std.specs.List.{list_all}
 use Rattle.tsd_model.specs.Geometry.{block_len}
-use Rattle.tsd_model.specs.World.{World, contents, has_number}
+use Rattle.tsd_model.specs.World.{World, contents, has_number, are_apart}
 use Rattle.tsd_model.specs.Pairs.{holds}
 use Rattle.tsd_model.specs.Step.{with_contents}
 use Rattle.tsd_model.proofs.PairLaws.{all_of_held}
 use Rattle.disk_laws.proofs.ChangeLaws.{contents-other, contents-same}
 use Rattle.fs_trees.specs.Names.{are_distinct}
 use Rattle.fs_trees.specs.Fields.{only_if, Entry}
-use Rattle.fs_trees.specs.Inode.{are_apart}
 use Rattle.fs_trees.specs.Cluster.{Cluster, cluster_in, entries_of}
 use Rattle.fs_trees.specs.ChainTree.{Link, chain_at, blocks_of, links, ChainFile, files_in, Chains, chain_blocks, chain_pairs, names_max, are_right, with_files, with_directory, chains_under}
 use Rattle.fs_laws.proofs.ListLaws.{all_held, held_left, held_right, held_append, first_in}

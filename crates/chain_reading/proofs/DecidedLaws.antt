@@ -7,16 +7,15 @@ use Rattle.tsd_model.specs.Step.{with_contents}
 use Rattle.fs_laws.proofs.ListLaws.{in_append, first_in}
 use Rattle.std.specs.Prelude.{is_some}
 use Rattle.std.specs.Option.{option_and_then}
-use Rattle.tsd_model.specs.World.{World, contents, has_number}
+use Rattle.tsd_model.specs.World.{World, contents, has_number, are_apart}
 use Rattle.disk_laws.proofs.DoomLaws.{live_below}
 use Rattle.fs_trees.specs.Names.{Name, are_distinct}
 use Rattle.fs_trees.specs.Tree.{Tree, Entries, nothing, a_file, a_dir, with_entry, with_at}
 use Rattle.fs_trees.specs.Fields.{Entry}
-use Rattle.fs_trees.specs.Inode.{are_apart}
 use Rattle.fs_trees.specs.Cluster.{Cluster, cluster_in}
 use Rattle.fs_trees.specs.ChainTree.{Link, cluster_at, blocks_of, links, ChainFile, chain_bytes, Chains, chain_blocks, names_max, chains_under, as_tree, tree_of_files, chain_tree}
 use Rattle.fs_laws.proofs.CountLaws.{times, times-append, apart_times, times_apart}
-use Rattle.chain_reading.specs.Chained.{IsFrom, IsFile, PlacedEntry, AreFiles, placed, AreOthers}
+use Rattle.chain_reading.specs.Chained.{IsFrom, IsChainFile, PlacedEntry, AreFiles, placed, AreOthers}
 use Rattle.chain_reading.specs.Changed.{file_blocks, file_pairs, file_names, relinked}
 use Rattle.chain_reading.specs.Decided.{FilesInAnyOrder, NamesAreFound, FileSet, EntryIsSet, FileAdded, EntryIsAdded, FileRemoved, EntryIsRemoved, DirectoryGrows, grown, FileGrows}
 use Rattle.chain_reading.proofs.FileLaws.{distinct_parts, distinct_with, others_left, tree_moved, tree_set, tree_removed, tree_has, tree_lacks}
@@ -103,7 +102,7 @@ names-append [] gs = refl
 names-append (g ∷ fs) gs = ap (λ ns. g.name ∷ ns) (names-append fs gs)
 
 -- one file of one entry
-one_file : (w : World) (from : ℕ) (e : Entry) (f : ChainFile) → IsFile w from e f → AreFiles w (placed from (e ∷ [])) (f ∷ [])
+one_file : (w : World) (from : ℕ) (e : Entry) (f : ChainFile) → IsChainFile w from e f → AreFiles w (placed from (e ∷ [])) (f ∷ [])
 one_file w from e f is = (is, tt)
 
 pub entry_is_set : EntryIsSet

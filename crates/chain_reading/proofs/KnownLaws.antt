@@ -31,15 +31,15 @@ use Rattle.fs_client.specs.declared.client.Client.{Client}
 use Rattle.fs_client.specs.Client.{shown_at}
 use Rattle.fs_client.specs.May.{MayWrite, Looked}
 use Rattle.chain_layout.specs.Block.{cluster_of}
-use Rattle.chain_layout.specs.Held.{cluster_in, entries_in}
-use Rattle.chain_reading.specs.Chained.{IsFrom, IsFile, PlacedEntry, AreFiles, placed, AreEntries, AreOthers}
+use Rattle.chain_layout.specs.Held.{dir_cluster, entries_in}
+use Rattle.chain_reading.specs.Chained.{IsFrom, IsChainFile, PlacedEntry, AreFiles, placed, AreEntries, AreOthers}
 use Rattle.chain_reading.specs.Changed.{file_names, file_pairs}
 use Rattle.chain_reading.proofs.ChainedLaws.{files_split, entries_split}
 use Rattle.chain_reading.proofs.ChangeLaws.{HasChains, has_chains, right_is, placed-append, file_pairs-append}
 use Rattle.chain_reading.proofs.FileLaws.{tree_has, tree_lacks, others-append}
 use Rattle.chain_reading.specs.declared.walking.Page.{Page}
 use Rattle.chain_reading.specs.Ahead.{IsFileAhead, IsDirectoryAhead, HasDirectory}
-use Rattle.chain_reading.specs.Asking.{MayAsk, tree_of}
+use Rattle.chain_reading.specs.Asking.{MayAsk, tree_under}
 use Rattle.chain_reading.specs.Finding.{placed_names, no_way, IsLookupTaken, IsNameFound, IsFileOf, no_file_found, no_directory_found}
 use Rattle.chain_reading.proofs.WalkLaws.{link_of}
 use Rattle.chain_reading.proofs.ListLaws.{names_placed, names-append, own_entries, entries_unique}
@@ -93,7 +93,7 @@ is_known told c v t may sound =
 pub has_directory : (c : Client) (v : DiskView) → IsKnown c v → HasDirectory c v
 has_directory c v known = (known.chains.directory, known.has.listing.entries, known.ahead)
 
-pub tree_known : (c : Client) (v : DiskView) (known : IsKnown c v) → tree_of c v ≡ a_dir tt (tree_of_files known.chains.files)
+pub tree_known : (c : Client) (v : DiskView) (known : IsKnown c v) → tree_under c v ≡ a_dir tt (tree_of_files known.chains.files)
 tree_known c v known = ap as_tree known.under
 
 -- ---- the files of entries
@@ -110,7 +110,7 @@ record IsAmong (w : World) (b : ℕ) (e : Entry) (n : Name) (fs : List ChainFile
   file : ChainFile
   back : List ChainFile
   parts : fs ≡ front ++ (file ∷ back)
-  is : IsFile w b e file
+  is : IsChainFile w b e file
   others : AreOthers n (file_names front)
 
 -- an entry's file, where the entry is the first of its name
@@ -145,14 +145,14 @@ module _ (c : Client) (old new : DiskView) (known : IsKnown c old) (seen : Looke
     others_before = subst (AreOthers n) (sym (names-append taken.earlier (placed page.block taken.entry.front) ∙ ap (λ ns. placed_names taken.earlier ++ ns) (names_placed page.block taken.entry.front)))
         (others-append n (placed_names taken.earlier) (entry_names taken.entry.front) taken.others taken.entry.others)
 
-    pub entry_file : (f : ChainFile) × (fs : List ChainFile) × (gs : List ChainFile) × (known.chains.files ≡ fs ++ (f ∷ gs)) × IsFile old.world page.block taken.entry.entry f × AreOthers n (file_names fs)
+    pub entry_file : (f : ChainFile) × (fs : List ChainFile) × (gs : List ChainFile) × (known.chains.files ≡ fs ++ (f ∷ gs)) × IsChainFile old.world page.block taken.entry.entry f × AreOthers n (file_names fs)
     entry_file =
         let len = block_len old.world.geometry in
-        let all : AreEntries len (taken.before ++ (link_of page.block (cluster_of (cluster_in page.cluster)) ∷ taken.behind)) known.has.listing.entries = subst (λ xs. AreEntries len xs known.has.listing.entries) taken.parts known.has.listing.in_order in
-        let split = entries_split len taken.before (link_of page.block (cluster_of (cluster_in page.cluster)) ∷ taken.behind) known.has.listing.entries all in
+        let all : AreEntries len (taken.before ++ (link_of page.block (cluster_of (dir_cluster page.cluster)) ∷ taken.behind)) known.has.listing.entries = subst (λ xs. AreEntries len xs known.has.listing.entries) taken.parts known.has.listing.in_order in
+        let split = entries_split len taken.before (link_of page.block (cluster_of (dir_cluster page.cluster)) ∷ taken.behind) known.has.listing.entries all in
         let same_len : len ≡ block_len new.world.geometry = ap (λ w. block_len w.geometry) (sym seen.world) in
         let earlier : split.0 ≡ taken.earlier = entries_unique len taken.before split.0 taken.earlier split.3 (subst (λ k. AreEntries k taken.before taken.earlier) (sym same_len) taken.entries) in
-        let own = own_entries new.world page.block len (cluster_of (cluster_in page.cluster)) (entries_in page.cluster) same_len taken.read.read.says taken.read.entries in
+        let own = own_entries new.world page.block len (cluster_of (dir_cluster page.cluster)) (entries_in page.cluster) same_len taken.read.read.says taken.read.entries in
         let here : split.4.0 ≡ entries_in page.cluster = some_same (sym split.4.2 ∙ own) in
         let whole : known.has.listing.entries ≡ taken.earlier ++ (placed page.block (entries_in page.cluster) ++ split.4.1) =
         split.2 ∙ (ap (λ xs. xs ++ split.1) earlier ∙ (ap (λ xs. taken.earlier ++ xs) split.4.3 ∙ ap (λ xs. taken.earlier ++ (placed page.block xs ++ split.4.1)) here)) in
@@ -264,10 +264,10 @@ module _ (told : Type 0) (c : Client) (old new : DiskView) (t : told) (may : May
   the_known : IsKnown c old
   the_known = is_known told c old t may sound
 
-  pub place_lost : (m : Name) (ns : Path) → no_file_found (tree_of c old) (n ∷ m ∷ ns) ≡ Some (no_way position)
+  pub place_lost : (m : Name) (ns : Path) → no_file_found (tree_under c old) (n ∷ m ∷ ns) ≡ Some (no_way position)
   place_lost m ns = by_place position (found the_known.chains.directory the_known.has.listing.entries the_known.ahead)
     where
-      by_place : (p : Lookup) → IsNameFound c new n the_known.chains.directory the_known.has.listing.entries p → no_file_found (tree_of c old) (n ∷ m ∷ ns) ≡ Some (no_way p)
+      by_place : (p : Lookup) → IsNameFound c new n the_known.chains.directory the_known.has.listing.entries p → no_file_found (tree_under c old) (n ∷ m ∷ ns) ≡ Some (no_way p)
       by_place (Taken page position first) taken =
           ap (λ x. no_file_found x (n ∷ m ∷ ns)) (tree_known c old the_known)
           ∙ taken_lost (tree_of_files the_known.chains.files) n m ns (chain_bytes (entry_file c old new the_known seen n page position first taken).0.chain) (missing (a_dir tt (tree_of_files the_known.chains.files)) (n ∷ m ∷ ns) ∷ no_file (a_dir tt (tree_of_files the_known.chains.files)) (n ∷ m ∷ ns) ∷ []) (taken_name c old new the_known seen n page position first taken)
@@ -275,10 +275,10 @@ module _ (told : Type 0) (c : Client) (old new : DiskView) (t : told) (may : May
           ap (λ x. no_file_found x (n ∷ m ∷ ns)) (tree_known c old the_known)
           ∙ free_lost (tree_of_files the_known.chains.files) n m ns (missing (a_dir tt (tree_of_files the_known.chains.files)) (n ∷ m ∷ ns) ∷ no_file (a_dir tt (tree_of_files the_known.chains.files)) (n ∷ m ∷ ns) ∷ []) (free_name c old new the_known seen n free.0)
 
-  pub place_no_dir : (ns : Path) → no_directory_found (tree_of c old) (n ∷ ns) ≡ Some (no_way position)
+  pub place_no_dir : (ns : Path) → no_directory_found (tree_under c old) (n ∷ ns) ≡ Some (no_way position)
   place_no_dir ns = by_place position (found the_known.chains.directory the_known.has.listing.entries the_known.ahead)
     where
-      by_place : (p : Lookup) → IsNameFound c new n the_known.chains.directory the_known.has.listing.entries p → no_directory_found (tree_of c old) (n ∷ ns) ≡ Some (no_way p)
+      by_place : (p : Lookup) → IsNameFound c new n the_known.chains.directory the_known.has.listing.entries p → no_directory_found (tree_under c old) (n ∷ ns) ≡ Some (no_way p)
       by_place (Taken page position first) taken =
           ap (λ x. no_directory_found x (n ∷ ns)) (tree_known c old the_known)
           ∙ taken_no_dir (tree_of_files the_known.chains.files) n ns (chain_bytes (entry_file c old new the_known seen n page position first taken).0.chain) (taken_name c old new the_known seen n page position first taken)
@@ -286,13 +286,13 @@ module _ (told : Type 0) (c : Client) (old new : DiskView) (t : told) (may : May
 
 -- a name that was found, and one that wasn't
 module _ (told : Type 0) (c : Client) (old new : DiskView) (t : told) (may : MayAsk told c old) (sound : IsDiskSound old) (seen : Looked old new) (stays : Stays old new) (n : Name) where
-  pub no_name : (page : Page) (count : ℕ) → ((ls : List Link) (ps : List PlacedEntry) → IsDirectoryAhead c old ls ps → IsNameFound c new n ls ps (Free page count)) → no_file_found (tree_of c old) (n ∷ []) ≡ Some no.NoEntry
+  pub no_name : (page : Page) (count : ℕ) → ((ls : List Link) (ps : List PlacedEntry) → IsDirectoryAhead c old ls ps → IsNameFound c new n ls ps (Free page count)) → no_file_found (tree_under c old) (n ∷ []) ≡ Some no.NoEntry
   no_name page count found =
       let known = is_known told c old t may sound in
       ap (λ x. no_file_found x (n ∷ [])) (tree_known c old known) ∙ free_refused (tree_of_files known.chains.files) n (free_name c old new known seen n (found known.chains.directory known.has.listing.entries known.ahead).0)
 
   module _ (page : Page) (position first : ℕ) (found : (ls : List Link) (ps : List PlacedEntry) → IsDirectoryAhead c old ls ps → IsNameFound c new n ls ps (Taken page position first)) where
-    pub a_name : ◌≡◌ {A = Option FsRefusal} (no_file_found (tree_of c old) (n ∷ [])) None
+    pub a_name : ◌≡◌ {A = Option FsRefusal} (no_file_found (tree_under c old) (n ∷ [])) None
     a_name =
         let known = is_known told c old t may sound in
         let taken = found known.chains.directory known.has.listing.entries known.ahead in
@@ -316,8 +316,8 @@ module _ (told : Type 0) (c : Client) (old new : DiskView) (t : told) (may : May
         }
 
 -- `/` is a directory
-pub root_is_dir : (told : Type 0) (c : Client) (v : DiskView) → told → MayAsk told c v → IsDiskSound v → no_file_found (tree_of c v) [] ≡ Some no.IsDir
+pub root_is_dir : (told : Type 0) (c : Client) (v : DiskView) → told → MayAsk told c v → IsDiskSound v → no_file_found (tree_under c v) [] ≡ Some no.IsDir
 root_is_dir told c v t may sound = ap (λ x. no_file_found x []) (tree_known c v (is_known told c v t may sound))
 
-pub root_is_listed : (told : Type 0) (c : Client) (v : DiskView) → told → MayAsk told c v → IsDiskSound v → ◌≡◌ {A = Option FsRefusal} (no_directory_found (tree_of c v) []) None
+pub root_is_listed : (told : Type 0) (c : Client) (v : DiskView) → told → MayAsk told c v → IsDiskSound v → ◌≡◌ {A = Option FsRefusal} (no_directory_found (tree_under c v) []) None
 root_is_listed told c v t may sound = ap (λ x. no_directory_found x []) (tree_known c v (is_known told c v t may sound))

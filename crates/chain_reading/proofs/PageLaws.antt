@@ -15,7 +15,7 @@ use Rattle.fs_client.specs.declared.client.Client.{Client}
 use Rattle.fs_client.specs.May.{Looked, OnlyLooks}
 use Rattle.fs_client.proofs.LookLaws.{may_again}
 use Rattle.chain_reading.specs.Chained.{IsFrom, PlacedEntry, placed, AreEntries}
-use Rattle.chain_layout.specs.Held.{cluster_in}
+use Rattle.chain_layout.specs.Held.{dir_cluster}
 use Rattle.chain_reading.specs.Standing.{entries_at, IsAhead, IsRead, IsPage}
 use Rattle.chain_reading.specs.declared.walking.Page.{Page}
 use Rattle.chain_reading.specs.Finding.{placed_names}
@@ -99,7 +99,7 @@ pages_again c old new b ls ps seen stays valid pages = record {
 pub page_again : (old new : DiskView) (b : ℕ) (page : Page) → Looked old new → IsPage old.world b page → IsPage new.world page.block page
 page_again old new b page seen read = subst (λ w. IsPage w page.block page) (sym seen.world) (record {
   block = refl;
-  read = subst (λ d. IsRead old.world d (cluster_in page.cluster)) (sym read.block) read.read;
+  read = subst (λ d. IsRead old.world d (dir_cluster page.cluster)) (sym read.block) read.read;
   entries = ap (entries_at old.world) read.block ∙ read.entries;
 })
 

@@ -11,7 +11,7 @@ use Rattle.fs_trees.specs.declared.refusal.FsRefusal.{FsRefusal}
 use Rattle.fs_port.specs.View.{DiskView}
 use Rattle.fs_port.specs.Files.{step_on}
 use Rattle.fs_client.specs.declared.client.Client.{Client}
-use Rattle.chain_reading.specs.Asking.{mounted_by, tree_of}
+use Rattle.chain_reading.specs.Asking.{mounted_by, tree_under}
 use Rattle.chain_reading.specs.Finding.{no_file_found, no_directory_found}
 
 is_mounted : (t : Tree) (rest : List (Option FsRefusal)) → is_there t ≡ true → first_of (not_mounted t ∷ rest) ≡ first_of rest
@@ -19,29 +19,29 @@ is_mounted nothing rest h = absurd (cc)
 is_mounted (a_file x) rest h = refl
 is_mounted (a_dir d es) rest h = refl
 
-module _ (c : Client) (v : DiskView) (p : Path) (there : is_there (tree_of c v) ≡ true) where
-  pub cat_refused : (e : FsRefusal) → no_file_found (tree_of c v) p ≡ Some e → (step_on (mounted_by c) v (ask.Cat p)).answer ≡ refused e
-  cat_refused e h = ap (λ o. (judged (tree_of c v) 0 (ask.Cat p) o).answer) (is_mounted (tree_of c v) (lost_on_the_way (tree_of c v) p ∷ missing (tree_of c v) p ∷ no_file (tree_of c v) p ∷ []) there ∙ h)
+module _ (c : Client) (v : DiskView) (p : Path) (there : is_there (tree_under c v) ≡ true) where
+  pub cat_refused : (e : FsRefusal) → no_file_found (tree_under c v) p ≡ Some e → (step_on (mounted_by c) v (ask.Cat p)).answer ≡ refused e
+  cat_refused e h = ap (λ o. (judged (tree_under c v) 0 (ask.Cat p) o).answer) (is_mounted (tree_under c v) (lost_on_the_way (tree_under c v) p ∷ missing (tree_under c v) p ∷ no_file (tree_under c v) p ∷ []) there ∙ h)
 
-  pub cat_answered : ◌≡◌ {A = Option FsRefusal} (no_file_found (tree_of c v) p) None → (step_on (mounted_by c) v (ask.Cat p)).answer ≡ bytes (bytes_in (at (tree_of c v) p))
-  cat_answered h = ap (λ o. (judged (tree_of c v) 0 (ask.Cat p) o).answer) (is_mounted (tree_of c v) (lost_on_the_way (tree_of c v) p ∷ missing (tree_of c v) p ∷ no_file (tree_of c v) p ∷ []) there ∙ h)
+  pub cat_answered : ◌≡◌ {A = Option FsRefusal} (no_file_found (tree_under c v) p) None → (step_on (mounted_by c) v (ask.Cat p)).answer ≡ bytes (bytes_in (at (tree_under c v) p))
+  cat_answered h = ap (λ o. (judged (tree_under c v) 0 (ask.Cat p) o).answer) (is_mounted (tree_under c v) (lost_on_the_way (tree_under c v) p ∷ missing (tree_under c v) p ∷ no_file (tree_under c v) p ∷ []) there ∙ h)
 
-  pub cat_stays : (step_on (mounted_by c) v (ask.Cat p)).tree ≡ tree_of c v
-  cat_stays = by_refusal (refusal Chain v.world.geometry (tree_of c v) 0 0 (record { blocks = 0; pairs = 0 }) (ask.Cat p))
+  pub cat_stays : (step_on (mounted_by c) v (ask.Cat p)).tree ≡ tree_under c v
+  cat_stays = by_refusal (refusal Chain v.world.geometry (tree_under c v) 0 0 (record { blocks = 0; pairs = 0 }) (ask.Cat p))
     where
-      by_refusal : (o : Option FsRefusal) → (judged (tree_of c v) 0 (ask.Cat p) o).tree ≡ tree_of c v
+      by_refusal : (o : Option FsRefusal) → (judged (tree_under c v) 0 (ask.Cat p) o).tree ≡ tree_under c v
       by_refusal None = refl
       by_refusal (Some e) = refl
 
-  pub ls_refused : (e : FsRefusal) → no_directory_found (tree_of c v) p ≡ Some e → (step_on (mounted_by c) v (ask.Ls p)).answer ≡ refused e
-  ls_refused e h = ap (λ o. (judged (tree_of c v) 0 (ask.Ls p) o).answer) (is_mounted (tree_of c v) (lost_on_the_way (tree_of c v) p ∷ missing (tree_of c v) p ∷ no_dir (tree_of c v) p ∷ []) there ∙ h)
+  pub ls_refused : (e : FsRefusal) → no_directory_found (tree_under c v) p ≡ Some e → (step_on (mounted_by c) v (ask.Ls p)).answer ≡ refused e
+  ls_refused e h = ap (λ o. (judged (tree_under c v) 0 (ask.Ls p) o).answer) (is_mounted (tree_under c v) (lost_on_the_way (tree_under c v) p ∷ missing (tree_under c v) p ∷ no_dir (tree_under c v) p ∷ []) there ∙ h)
 
-  pub ls_answered : ◌≡◌ {A = Option FsRefusal} (no_directory_found (tree_of c v) p) None → (step_on (mounted_by c) v (ask.Ls p)).answer ≡ listed (names_in (at (tree_of c v) p))
-  ls_answered h = ap (λ o. (judged (tree_of c v) 0 (ask.Ls p) o).answer) (is_mounted (tree_of c v) (lost_on_the_way (tree_of c v) p ∷ missing (tree_of c v) p ∷ no_dir (tree_of c v) p ∷ []) there ∙ h)
+  pub ls_answered : ◌≡◌ {A = Option FsRefusal} (no_directory_found (tree_under c v) p) None → (step_on (mounted_by c) v (ask.Ls p)).answer ≡ listed (names_in (at (tree_under c v) p))
+  ls_answered h = ap (λ o. (judged (tree_under c v) 0 (ask.Ls p) o).answer) (is_mounted (tree_under c v) (lost_on_the_way (tree_under c v) p ∷ missing (tree_under c v) p ∷ no_dir (tree_under c v) p ∷ []) there ∙ h)
 
-  pub ls_stays : (step_on (mounted_by c) v (ask.Ls p)).tree ≡ tree_of c v
-  ls_stays = by_refusal (refusal Chain v.world.geometry (tree_of c v) 0 0 (record { blocks = 0; pairs = 0 }) (ask.Ls p))
+  pub ls_stays : (step_on (mounted_by c) v (ask.Ls p)).tree ≡ tree_under c v
+  ls_stays = by_refusal (refusal Chain v.world.geometry (tree_under c v) 0 0 (record { blocks = 0; pairs = 0 }) (ask.Ls p))
     where
-      by_refusal : (o : Option FsRefusal) → (judged (tree_of c v) 0 (ask.Ls p) o).tree ≡ tree_of c v
+      by_refusal : (o : Option FsRefusal) → (judged (tree_under c v) 0 (ask.Ls p) o).tree ≡ tree_under c v
       by_refusal None = refl
       by_refusal (Some e) = refl

@@ -5,10 +5,9 @@ use Rattle.std.specs.Prelude.{is_none}
 use Rattle.std.specs.Option.{option_and_then}
 use Rattle.std.specs.List.{list_all}
 use Rattle.tsd_model.specs.Geometry.{block_len}
-use Rattle.tsd_model.specs.World.{World, has_number}
+use Rattle.tsd_model.specs.World.{World, has_number, are_apart}
 use Rattle.tsd_model.specs.Pairs.{holds, is_pair}
 use Rattle.fs_trees.specs.Fields.{Entry}
-use Rattle.fs_trees.specs.Inode.{are_apart}
 use Rattle.fs_trees.specs.Cluster.{Cluster}
 use Rattle.fs_trees.specs.ChainTree.{Link, blocks_of, links, is_filled, ChainFile, names_max}
 use Rattle.fs_laws.proofs.ListLaws.{held_append, number_right}

@@ -16,7 +16,7 @@ use Rattle.fs_client.specs.May.{MayWrite, Looked, OnlyLooks}
 use Rattle.fs_client.proofs.LookLaws.{may_again}
 use Rattle.chain_layout.specs.Listed.{has_name, entry_blocks}
 use Rattle.chain_layout.specs.Block.{cluster_of, block_len_of}
-use Rattle.chain_layout.specs.Held.{cluster_in, entries_in}
+use Rattle.chain_layout.specs.Held.{dir_cluster, entries_in}
 use Rattle.chain_reading.specs.Chained.{PlacedEntry, placed, AreEntries, AreOthers}
 use Rattle.chain_reading.proofs.FileLaws.{others-append}
 use Rattle.chain_reading.specs.declared.walking.Page.{Page}
@@ -123,7 +123,7 @@ module _ (c : Client) (v : DiskView) (ls : List Link) (page : Page) (read : IsPa
 
   pub roomiest_more : (best : Option Page) → IsRoomiestOf c v ls best → IsRoomiest c v (ls ++ page_link page ∷ []) (better best page)
   roomiest_more None is = newest (ap (list_any (is_roomy (block_len v.world.geometry))) is)
-  roomiest_more (Some old) is = by_room (is_roomy (block_len_of (cluster_in old.cluster)) (page_link old)) (ap (λ n. is_roomy n (page_link old)) (sym is.read.read.whole))
+  roomiest_more (Some old) is = by_room (is_roomy (block_len_of (dir_cluster old.cluster)) (page_link old)) (ap (λ n. is_roomy n (page_link old)) (sym is.read.read.whole))
     where
       len : ℕ
       len = block_len v.world.geometry
@@ -198,7 +198,7 @@ pub search_finds : (c : Client) (first now new : DiskView) (ls : List Link) (ps 
     → IsPage now.world b page → HoldsWrite (state_of new) c.session b → position_from (has_name n) 0 (entries_in page.cluster) ≡ Some position → block ≡ slice_index (entry_blocks (entries_in page.cluster)) position
     → IsLookupTaken c new n ls page position block
 search_finds c first now new ls ps i b n count best page position block searched before seen stays read held at is =
-    let cl = cluster_of (cluster_in page.cluster) in
+    let cl = cluster_of (dir_cluster page.cluster) in
     let walked = searched.looking.walked in
     let ahead = first_link now.world b walked.rest cl walked.ahead.rest read.read.says in
     let here : page.block ≡ b = read.block in

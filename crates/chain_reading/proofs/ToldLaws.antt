@@ -20,14 +20,14 @@ use Rattle.chain_layout.specs.Listed.{least_above}
 use Rattle.chain_reading.specs.Chained.{IsFrom, PlacedEntry, AreEntries}
 use Rattle.chain_reading.proofs.ChangeLaws.{right_is}
 use Rattle.chain_reading.specs.Ahead.{IsFileAhead, IsDirectoryAhead}
-use Rattle.chain_reading.specs.Asking.{MayAsk, mounted_by, tree_of}
+use Rattle.chain_reading.specs.Asking.{MayAsk, mounted_by, tree_under}
 use Rattle.chain_reading.specs.Finding.{IsFileOf, no_file_found}
 use Rattle.chain_reading.proofs.RefusalLaws.{cat_answered, cat_stays, ls_answered, ls_stays}
 use Rattle.chain_reading.proofs.KnownLaws.{is_known, tree_known, root_is_listed, names_of_files}
 use Rattle.chain_reading.proofs.NextLaws.{next_name}
 
 -- the bytes of a file from an offset on
-pub part_told : (told : Type 0) (c : Client) (old mid new : DiskView) (p : Path) (first start : ℕ) (part : List ℕ) (result : Result (Unit {0}) FsRefusal) → told → is_there (tree_of c old) ≡ true → Looked old mid → ◌≡◌ {A = Option FsRefusal} (no_file_found (tree_of c old) p) None → IsFileOf c mid p first
+pub part_told : (told : Type 0) (c : Client) (old mid new : DiskView) (p : Path) (first start : ℕ) (part : List ℕ) (result : Result (Unit {0}) FsRefusal) → told → is_there (tree_under c old) ≡ true → Looked old mid → ◌≡◌ {A = Option FsRefusal} (no_file_found (tree_under c old) p) None → IsFileOf c mid p first
     → ((ls : List Link) → IsFileAhead c mid first ls → OnOk result (part ≡ take 4096 (drop start (chain_bytes ls)))) → IfErr result (λ e. e ≡ no.Device) → OnlyLooks told mid new result → Answers (mounted_by c) old new (ask.Cat p) result (λ _. TellsPart start part)
 part_told told c old mid new p first start part (Err e) t there seen none file gives only looks = record { ok = tt; err = λ ne. absurd (ne only) }
 part_told told c old mid new p first start part (Ok x) t there seen none file gives only looks = record {
@@ -46,7 +46,7 @@ next_told told c old new after (Err e) t may sound gives only looks = record { o
 next_told told c old new after (Ok name) t may sound gives only looks =
     let known = is_known told c old t may sound in
     let fs = known.chains.files in
-    let there : is_there (tree_of c old) ≡ true = ap is_there (tree_known c old known) in
+    let there : is_there (tree_under c old) ≡ true = ap is_there (tree_known c old known) in
     let listed_now = ls_answered c old [] there (root_is_listed told c old t may sound) ∙ ap (λ x. listed (names_in x)) (tree_known c old known) in
     let distinct = (right_is old.world known.chains known.has.right).names in
     let names_there = sym (ap (least_above after) (names_of_files old.world known.has.listing.entries fs known.has.listing.files)) in

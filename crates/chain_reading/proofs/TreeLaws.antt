@@ -1,10 +1,9 @@
 -- Whether there is a tree.
 use Rattle.std.proofs.Common.{◌≡◌, ℕ, ◌≤◌, Bool, true, false, ◌&&◌, nat_le, List, [], length, refl, sym, ◌∙◌, ap, subst, arith, inl, inr, Option, Some, None, Result, Ok, Err}
 use Rattle.std.proofs.lemmas.Bool.{le-leb}
-use Rattle.tsd_model.specs.World.{World}
+use Rattle.tsd_model.specs.World.{World, are_apart}
 use Rattle.tsd_model.specs.Pairs.{holds}
 use Rattle.fs_trees.specs.Names.{are_distinct}
-use Rattle.fs_trees.specs.Inode.{are_apart}
 use Rattle.fs_trees.specs.Tree.{is_there}
 use Rattle.fs_trees.specs.Fields.{only_if}
 use Rattle.fs_trees.specs.ChainTree.{blocks_of, links, Chains, chain_blocks, chain_pairs, are_right, names_max, with_files, with_directory, as_tree, chain_tree}

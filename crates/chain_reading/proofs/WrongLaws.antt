@@ -4,10 +4,9 @@ use Rattle.std.proofs.lemmas.Bool.{and_parts, and_from, or_cases, or_left, or_ri
 use Rattle.std.specs.Prelude.{is_none}
 use Rattle.std.specs.Option.{option_and_then}
 use Rattle.tsd_model.specs.Geometry.{block_len}
-use Rattle.tsd_model.specs.World.{World, has_number}
+use Rattle.tsd_model.specs.World.{World, has_number, are_apart}
 use Rattle.tsd_model.specs.Pairs.{holds, is_pair}
 use Rattle.fs_trees.specs.Fields.{only_if, Entry}
-use Rattle.fs_trees.specs.Inode.{are_apart}
 use Rattle.fs_trees.specs.ChainTree.{Link, blocks_of, links, is_filled, ChainFile, names_max, cluster_at}
 use Rattle.fs_laws.proofs.ListLaws.{held_left, held_right, in_append}
 use Rattle.fs_laws.proofs.CountLaws.{times, times-append, none_times, times_apart}

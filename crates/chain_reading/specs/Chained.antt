@@ -18,7 +18,7 @@ pub record IsChain (w : World) (b : ℕ) (ls : List Link) : Type 0 where
   pub short : length ls ≤ w.geometry.blocks
 
 -- the file of an entry in the directory's cluster of this block
-pub record IsFile (w : World) (namer : ℕ) (e : Entry) (f : ChainFile) : Type 0 where
+pub record IsChainFile (w : World) (namer : ℕ) (e : Entry) (f : ChainFile) : Type 0 where
   pub name : f.name ≡ e.name
   pub from : f.from ≡ namer
   pub chain : IsChain w e.block f.chain
@@ -33,7 +33,7 @@ abbrev pub AreFiles : World → List PlacedEntry → List ChainFile → Type 0
 AreFiles w [] [] = Unit {0}
 AreFiles w [] (f ∷ fs) = ⊥
 AreFiles w (p ∷ ps) [] = ⊥
-AreFiles w (p ∷ ps) (f ∷ fs) = IsFile w p.0 p.1 f × AreFiles w ps fs
+AreFiles w (p ∷ ps) (f ∷ fs) = IsChainFile w p.0 p.1 f × AreFiles w ps fs
 
 abbrev pub placed : ℕ → List Entry → List PlacedEntry
 placed from es = map (λ e. (from, e)) es

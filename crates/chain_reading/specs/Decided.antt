@@ -1,18 +1,17 @@
 -- What the deciding writes of chains leave under a root.
 use Rattle.std.specs.Prelude.{◌≡◌, ℕ, ◌<◌, true, List, [], ◌∷◌, ◌++◌, length, Some, None}
 use Rattle.tsd_model.specs.Geometry.{block_len}
-use Rattle.tsd_model.specs.World.{World}
+use Rattle.tsd_model.specs.World.{World, are_apart}
 use Rattle.tsd_model.specs.Pairs.{holds}
 use Rattle.tsd_model.specs.Valid.{IsSized}
 use Rattle.tsd_model.specs.Step.{with_contents}
 use Rattle.fs_trees.specs.Names.{Name}
 use Rattle.fs_trees.specs.Tree.{Tree, nothing, a_file, entry, with_at}
 use Rattle.fs_trees.specs.Fields.{Entry}
-use Rattle.fs_trees.specs.Inode.{are_apart}
 use Rattle.fs_trees.specs.Cluster.{Cluster, cluster_in, entries_of, bytes_room}
 use Rattle.fs_trees.specs.ChainTree.{Link, cluster_at, blocks_of, links, is_filled, ChainFile, chain_bytes, Chains}
 use Rattle.fs_trees.specs.ChainTree.{chain_blocks, names_max, chains_under, tree_of_files, chain_tree}
-use Rattle.chain_reading.specs.Chained.{IsFrom, IsFile, AreOthers}
+use Rattle.chain_reading.specs.Chained.{IsFrom, IsChainFile, AreOthers}
 use Rattle.chain_reading.specs.Changed.{file_names, relinked, Rewrites}
 
 -- ---- the order of files
@@ -34,7 +33,7 @@ NamesAreFound =
 -- A file that hangs from an entry in the directory's cluster of this block, in blocks that nothing under the root
 -- names.
 pub record IsNewFile (w : World) (c : Chains) (namer : ℕ) (e : Entry) (f : ChainFile) : Type 0 where
-  pub file : IsFile w namer e f
+  pub file : IsChainFile w namer e f
   pub fresh : are_apart (chain_blocks c ++ blocks_of f.chain) ≡ true
   pub held : (a b : ℕ) → holds (links (namer ∷ blocks_of f.chain)) a b ≡ true → holds w.pairs a b ≡ true
 
@@ -50,7 +49,7 @@ pub record FileSet (w : World) (root : ℕ) (c : Chains) (ls : List Link) (l : L
   pub old : ChainFile
   pub behind : List ChainFile
   pub files : c.files ≡ before ++ (old ∷ behind)
-  pub was : IsFile w l.block e old
+  pub was : IsChainFile w l.block e old
   pub becomes : Becomes w root l.block bytes (record {
     directory = ls ++ relinked l cl ∷ ms;
     files = before ++ (f ∷ behind);
@@ -97,7 +96,7 @@ pub record FileRemoved (w : World) (root : ℕ) (c : Chains) (ls : List Link) (l
   pub old : ChainFile
   pub behind : List ChainFile
   pub files : c.files ≡ before ++ (old ∷ behind)
-  pub was : IsFile w l.block e old
+  pub was : IsChainFile w l.block e old
   pub becomes : Becomes w root l.block bytes (record {
     directory = ls ++ relinked l cl ∷ ms;
     files = before ++ behind;
@@ -119,7 +118,7 @@ pub record IsNewCluster (w : World) (c : Chains) (last m : Link) (e : Entry) (f 
   pub there : cluster_at w m.block ≡ Some m.cluster
   pub ends : m.cluster.next ≡ None
   pub entries : entries_of (block_len w.geometry) m.cluster ≡ Some (e ∷ [])
-  pub file : IsFile w m.block e f
+  pub file : IsChainFile w m.block e f
   pub fresh : are_apart (chain_blocks c ++ (m.block ∷ blocks_of f.chain)) ≡ true
   pub led : holds w.pairs last.block m.block ≡ true
   pub held : (a b : ℕ) → holds (links (m.block ∷ blocks_of f.chain)) a b ≡ true → holds w.pairs a b ≡ true

@@ -16,11 +16,11 @@ use Rattle.fs_port.specs.View.{DiskView, state_of}
 use Rattle.fs_client.specs.declared.client.Client.{Client}
 use Rattle.fs_client.specs.May.{MayWrite}
 use Rattle.chain_layout.specs.Block.{cluster_of, block_len_of}
-use Rattle.chain_layout.specs.Held.{cluster_in, entries_in}
+use Rattle.chain_layout.specs.Held.{dir_cluster, entries_in}
 use Rattle.chain_reading.specs.Chained.{PlacedEntry, AreEntries, AreOthers}
 use Rattle.chain_reading.specs.Standing.{IsPage}
 use Rattle.chain_reading.specs.Ahead.{IsFileAhead}
-use Rattle.chain_reading.specs.Asking.{tree_of}
+use Rattle.chain_reading.specs.Asking.{tree_under}
 use Rattle.chain_reading.specs.declared.walking.Page.{Page}
 use Rattle.chain_reading.specs.declared.finding.Lookup.{Lookup}
 use Rattle.chain_reading.specs.declared.finding.Lookup.TheVariants.{Taken, Free}
@@ -30,7 +30,7 @@ placed_names ps = map (λ p. p.1.name) ps
 
 -- a cluster that was read, as one of its chain
 abbrev pub page_link : Page → Link
-page_link page = record { block = page.block; cluster = cluster_of (cluster_in page.cluster) }
+page_link page = record { block = page.block; cluster = cluster_of (dir_cluster page.cluster) }
 
 -- the first entry of a name stands at this position, and names this block
 pub record IsEntry (n : Name) (es : List Entry) (position first : ℕ) : Type 0 where
@@ -76,7 +76,7 @@ pub record IsRoomiest (c : Client) (v : DiskView) (ls : List Link) (page : Page)
 -- the cluster to put a new entry in, of one that was chosen before and another one behind it
 abbrev pub better : Option Page → Page → Page
 better None other = other
-better (Some page) other = cond (is_roomy (block_len_of (cluster_in page.cluster)) (page_link page)) page other
+better (Some page) other = cond (is_roomy (block_len_of (dir_cluster page.cluster)) (page_link page)) page other
 
 abbrev pub IsNameFound : Client → DiskView → Name → List Link → List PlacedEntry → Lookup → Type 0
 IsNameFound c v n ls ps (Taken page position first) = IsLookupTaken c v n ls page position first
@@ -98,7 +98,7 @@ no_way (Free page count) = no.NoEntry
 pub record IsFileOf (c : Client) (v : DiskView) (path : Path) (first : ℕ) : Type 0 where
   pub file : ChainFile
   pub ahead : IsFileAhead c v first file.chain
-  pub there : at (tree_of c v) path ≡ a_file (chain_bytes file.chain)
+  pub there : at (tree_under c v) path ≡ a_file (chain_bytes file.chain)
   pub chains : Chains
   pub under : chains_under v.world c.root ≡ Some chains
   pub front : List ChainFile

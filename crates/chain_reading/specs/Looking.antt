@@ -14,7 +14,7 @@ use Rattle.fs_client.specs.Held.{are_held}
 use Rattle.fs_client.specs.Marked.{Agrees}
 use Rattle.fs_client.specs.declared.block_set.BlockSet.{BlockSet}
 use Rattle.chain_layout.specs.Block.{cluster_of}
-use Rattle.chain_layout.specs.Held.{cluster_in, entries_in, part_cluster}
+use Rattle.chain_layout.specs.Held.{dir_cluster, entries_in, part_cluster}
 use Rattle.chain_layout.specs.Listed.{next_blocks, entry_blocks}
 use Rattle.chain_reading.specs.declared.walking.Page.{Page}
 use Rattle.chain_reading.specs.declared.walking.Part.{Part}
@@ -113,7 +113,7 @@ IsPartSeenAt c old new first b (Some part) =
     × HoldsWrite (state_of new) c.session b
 
 abbrev pub listed_in : Page → ListedCluster
-listed_in page = record { cluster = cluster_of (cluster_in page.cluster); entries = entries_in page.cluster }
+listed_in page = record { cluster = cluster_of (dir_cluster page.cluster); entries = entries_in page.cluster }
 
 -- the same of the directory
 abbrev pub IsPageSeenAt : Client → DiskView → DiskView → ℕ → Option Page → Type 0

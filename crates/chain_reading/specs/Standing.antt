@@ -11,7 +11,7 @@ use Rattle.fs_port.specs.View.{DiskView}
 use Rattle.fs_client.specs.declared.client.Client.{Client}
 use Rattle.fs_client.specs.May.{MayWrite}
 use Rattle.chain_layout.specs.Block.{cluster_of, block_len_of}
-use Rattle.chain_layout.specs.Held.{cluster_in, entries_in, part_cluster}
+use Rattle.chain_layout.specs.Held.{dir_cluster, entries_in, part_cluster}
 use Rattle.chain_layout.specs.declared.cluster.Cluster.{Cluster}
 use Rattle.chain_reading.specs.Chained.{IsFrom}
 use Rattle.chain_reading.specs.declared.walking.Page.{Page}
@@ -32,7 +32,7 @@ pub record IsRead (w : World) (b : ℕ) (c : Cluster) : Type 0 where
 
 pub record IsPage (w : World) (b : ℕ) (page : Page) : Type 0 where
   pub block : page.block ≡ b
-  pub read : IsRead w b (cluster_in page.cluster)
+  pub read : IsRead w b (dir_cluster page.cluster)
   pub entries : entries_at w b ≡ Some (entries_in page.cluster)
 
 pub record IsPartOfRoot (w : World) (b : ℕ) (part : Part) : Type 0 where

@@ -7,7 +7,7 @@ ghost use Rattle.fs_port.specs.Calls.{IsValidNow};
 ghost use Rattle.fs_client.specs.May.{OnlyLooks};
 ghost use Rattle.chain_reading.specs.Chained.{PlacedEntry};
 ghost use Rattle.chain_reading.specs.Ahead.{IsDirectoryAhead, HasDirectory};
-ghost use Rattle.chain_reading.specs.Asking.{MayAsk, tree_of};
+ghost use Rattle.chain_reading.specs.Asking.{MayAsk, tree_under};
 ghost use Rattle.chain_reading.specs.Finding.{better, no_way, IsNameFound, IsLookupWithin, IsFileOf, no_file_found};
 ghost use Rattle.chain_reading.specs.Finding.{no_directory_found};
 
@@ -99,9 +99,9 @@ pub fn no_way(position: Lookup) -> FsRefusal
 pub fn find_file<K: Blocks>(client: &Client, disk: &mut K, path: &Path) -> Result<u32, FsRefusal>
     requires may { MayAsk K.told client.now (K.view disk.old) }
     ensures found { K.told → IfOk result (λ first. IsFileOf client.now (K.view disk.new) path.now first) }
-    ensures none { K.told → OnOk result (no_file_found (tree_of client.now (K.view disk.old)) path.now ≡ None) }
+    ensures none { K.told → OnOk result (no_file_found (tree_under client.now (K.view disk.old)) path.now ≡ None) }
     ensures refused { K.told → IfErr result (λ e. e ≢ no.Device
-        → no_file_found (tree_of client.now (K.view disk.old)) path.now ≡ Some e) }
+        → no_file_found (tree_under client.now (K.view disk.old)) path.now ≡ Some e) }
     ensures looks { OnlyLooks K.told (K.view disk.old) (K.view disk.new) result }
 {
     match path.as_slice() {
@@ -126,9 +126,9 @@ pub fn find_directory<K: Blocks>(
 ) -> Result<(), FsRefusal>
     requires may { MayAsk K.told client.now (K.view disk.old) }
     ensures found { K.told → OnOk result (path.now ≡ []) }
-    ensures none { K.told → OnOk result (no_directory_found (tree_of client.now (K.view disk.old)) path.now ≡ None) }
+    ensures none { K.told → OnOk result (no_directory_found (tree_under client.now (K.view disk.old)) path.now ≡ None) }
     ensures refused { K.told → IfErr result (λ e. e ≢ no.Device
-        → no_directory_found (tree_of client.now (K.view disk.old)) path.now ≡ Some e) }
+        → no_directory_found (tree_under client.now (K.view disk.old)) path.now ≡ Some e) }
     ensures looks { OnlyLooks K.told (K.view disk.old) (K.view disk.new) result }
 {
     match path.as_slice() {

@@ -12,7 +12,7 @@ ghost use Rattle.fs_port.specs.Calls.{IsValidNow};
 ghost use Rattle.fs_client.specs.May.{MayWrite, OnlyLooks};
 ghost use Rattle.chain_layout.specs.Listed.{next_blocks};
 ghost use Rattle.chain_layout.specs.Block.{cluster_of, block_len_of};
-ghost use Rattle.chain_layout.specs.Held.{blocks_in, cluster_in, entries_in, part_cluster};
+ghost use Rattle.chain_layout.specs.Held.{blocks_in, dir_cluster, entries_in, part_cluster};
 ghost use Rattle.chain_reading.specs.Standing.{entries_at, has_part, IsRead, IsPage, IsPartOfRoot};
 
 use chain_layout::{Cluster, DirectoryCluster, FileCluster};
@@ -83,7 +83,7 @@ fn page_of(block: u32, cluster: Option<Cluster>) -> Option<Page>
     ensures entries { option_map (λ page. entries_in page.cluster) result ≡ option_and_then
         (λ c. entries_of (block_len_of c) (cluster_of c)) cluster }
     ensures block { IfSome result (λ page. page.block ≡ block) }
-    ensures kept { IfSome result (λ page. cluster ≡ Some (cluster_in page.cluster)) }
+    ensures kept { IfSome result (λ page. cluster ≡ Some (dir_cluster page.cluster)) }
 {
     match DirectoryCluster::of(cluster?) {
         Some(cluster) => Some(Page { block, cluster }),

@@ -17,13 +17,14 @@ use Rattle.volume_laws.specs.Volume.{world_on}
 use Rattle.volume_laws.specs.Writes.{Works}
 use Rattle.volume_laws.proofs.QuestionLaws.{told_size}
 use Rattle.fs_port.specs.View.{Left}
-use Rattle.fs_port.specs.Calls.{Counts, IsEitherSide, LeavesWorldsOnly, Stays, is_steady}
+use Rattle.tsd_model.specs.Needs.{is_steady}
+use Rattle.fs_port.specs.Calls.{Counts, IsEitherSide, LeavesWorldsOnly, Stays}
 use Rattle.fs_port.proofs.PlainLaws.{steady_records, steady_open}
 use Rattle.tsd_core.specs.Core.{Core, state_on, told_state, told_world}
 use Rattle.tsd_core.specs.Work.{SameSize}
 use Rattle.tsd_core.specs.Applying.{IsToldAnswer, next_world}
 use Rattle.core_blocks.specs.CoreView.{SaysWorld, core_view}
-use Rattle.core_blocks.specs.ViewLaws.{no_first, says_one, second_of}
+use Rattle.core_blocks.specs.ViewLaws.{no_first, says_one, second_moment_of}
 
 module _ (lenders : ℕ × ℕ) (kind : PlaceKind) (old new : Core) (v w : DeviceView) (q : Request) where
   -- an image of the world before or of the one after says that world
@@ -58,7 +59,7 @@ module _ (lenders : ℕ × ℕ) (kind : PlaceKind) (old new : Core) (v w : Devic
       later = omega (arith, leaves.later);
       sent = sent;
       each = λ x f left. elim left [
-        | inl h ↦ either_side x f h.says (leaves.each x.image f (subst (λ t. w.left t x.image f) (second_of h.since v.clock h.moment) h.was_left))
+        | inl h ↦ either_side x f h.says (leaves.each x.image f (subst (λ t. w.left t x.image f) (second_moment_of h.since v.clock h.moment) h.was_left))
         | inr e ↦ absurd (no_first e.since v.clock e.moment)
       ];
       before = λ t x f le left. elim left [

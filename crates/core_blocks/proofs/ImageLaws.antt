@@ -15,7 +15,7 @@ use Rattle.image_world.proofs.FaultLaws.{no_fault}
 use Rattle.fs_port.specs.Calls.{LeavesWorldsOnly}
 use Rattle.tsd_core.specs.Core.{Core, told_world}
 use Rattle.core_blocks.specs.CoreView.{HasLeft, HasLeftOrAlike, SaysWorld, core_view}
-use Rattle.core_blocks.specs.ViewLaws.{first_of, no_first, second_of}
+use Rattle.core_blocks.specs.ViewLaws.{first_moment_of, no_first, second_moment_of}
 
 -- each image says something
 says_some : (x : Image) → (o : Option World) × SaysWorld x o
@@ -26,12 +26,12 @@ has_left : (v : DeviceView) (t : ℕ) (x : Image) (o : Option World) (f : List �
 has_left v t x o f left says = record { since = t; moment = record { first = omega arith; second = omega arith }; was_left = left; says = says }
 
 was_at : (size : Geometry) (v : DeviceView) (t : ℕ) (x : Image) (o : Option World) (f : List ℕ) → HasLeft v (t + t + 1) (record { image = x; world = o }) f ⊎ HasLeftOrAlike size v (t + t + 1) (record { image = x; world = o }) f → v.left t x f
-was_at size v t x o f (inl h) = subst (λ s. v.left s x f) (second_of h.since t h.moment) h.was_left
+was_at size v t x o f (inl h) = subst (λ s. v.left s x f) (second_moment_of h.since t h.moment) h.was_left
 was_at size v t x o f (inr e) = absurd (no_first e.since t e.moment)
 
 -- and at the first, without a world, what it may have left or has the same behind
 was_alike : (size : Geometry) (v : DeviceView) (t : ℕ) (x : Image) (f : List ℕ) → HasLeft v (t + t) (record { image = x; world = None }) f ⊎ HasLeftOrAlike size v (t + t) (record { image = x; world = None }) f → v.left t x f ⊎ (behind size x ≡ behind size v.reads)
-was_alike size v t x f (inl h) = inl (subst (λ s. v.left s x f) (first_of h.since t h.moment) h.was_left)
+was_alike size v t x f (inl h) = inl (subst (λ s. v.left s x f) (first_moment_of h.since t h.moment) h.was_left)
 was_alike size v t x f (inr e) = subst (λ s. v.left s x f ⊎ (behind size x ≡ behind size v.reads)) (twice e.since t e.moment) e.either
   where
     twice : (a b : ℕ) → b + b ≡ a + a → a ≡ b

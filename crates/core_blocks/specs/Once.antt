@@ -1,21 +1,15 @@
 -- There is one proof at most that a core is at a device, so that a type may keep it beside its fields.
-use Rattle.std.proofs.Common.{◌≡◌, ℕ, ◌⊎◌, inl, inr, ap, arith, List, false}
+use Rattle.std.proofs.Common.{◌≡◌, ℕ, arith, List, false}
 use Rattle.std.proofs.Props.{props}
 use Rattle.std.specs.Prelude.{Ok}
 use Rattle.std.specs.Coded.{Coded-set, coded_ℕ}
 use Rattle.image_device.specs.View.{View}
 use Rattle.image_layout.specs.Header.{IsVersion, IsHeaderReading}
 use Rattle.image_layout.specs.Image.{Image}
-use Rattle.image_layout.specs.Lawful.{IsLawful-prop}
+use Rattle.image_layout.specs.Lawful.{IsLawful-prop, either_prop}
 use Rattle.image_layout.specs.declared.header.Header.{Header}
 use Rattle.image_world.specs.Faults.{IsGood}
 use Rattle.tsd_core.specs.Core.{Core, FitsReads, IsCoreAt, IsCoreReady}
-
-either_prop : {A B : Type 0} → IsProp A → IsProp B → (A → B → ⊥) → IsProp (A ⊎ B)
-either_prop a b never (inl x) (inl y) = ap inl (a x y)
-either_prop a b never (inl x) (inr y) = absurd (never x y)
-either_prop a b never (inr x) (inl y) = absurd (never y x)
-either_prop a b never (inr x) (inr y) = ap inr (b x y)
 
 version_prop : (n : ℕ) → IsProp (IsVersion n)
 version_prop n = either_prop (Coded-set coded_ℕ n 1) (Coded-set coded_ℕ n 2) (λ one two. omega arith)

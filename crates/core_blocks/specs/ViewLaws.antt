@@ -1,5 +1,6 @@
 -- What holds of a core at a device at each moment.
-use Rattle.std.proofs.Common.{◌≡◌, inl, inr, ℕ, zero, suc, ◌+◌, ◌≤◌, Option, Some, None, refl, sym, ◌∙◌, ap, subst, arith}
+use Rattle.std.proofs.Common.{◌≡◌, inl, inr, ℕ, zero, suc, ◌+◌, ◌≤◌, Option, Some, None, refl, sym, ◌∙◌, ap, subst}
+use Rattle.std.proofs.Common.{arith}
 use Rattle.tsd_model.specs.World.{World}
 use Rattle.tsd_model.specs.declared.requests.PlaceKind.{PlaceKind}
 use Rattle.image_device.specs.View.{IsSound as IsDeviceSound, View as DeviceView}
@@ -27,15 +28,15 @@ moment_of (suc (suc t)) =
     (suc was.0, record { first = omega (arith, was.1.first); second = omega (arith, was.1.second) })
 
 -- the second moment is of no other, and isn't a first one
-pub second_of : (since t : ℕ) → IsMoment since (t + t + 1) → since ≡ t
-second_of since t m = omega (arith, m.first, m.second)
+pub second_moment_of : (since t : ℕ) → IsMoment since (t + t + 1) → since ≡ t
+second_moment_of since t m = omega (arith, m.first, m.second)
 
 pub no_first : (since t : ℕ) → t + t + 1 ≡ since + since → ⊥
 no_first since t e = omega (arith, e)
 
 -- the first is of no other
-pub first_of : (since t : ℕ) → IsMoment since (t + t) → since ≡ t
-first_of since t m = omega (arith, m.first, m.second)
+pub first_moment_of : (since t : ℕ) → IsMoment since (t + t) → since ≡ t
+first_moment_of since t m = omega (arith, m.first, m.second)
 
 -- ---- a disk
 
@@ -61,7 +62,7 @@ core_sound lenders kind c v sound at =
           );
       only_now = λ x f left. elim left [
         | inl h ↦
-            let since = second_of h.since v.clock h.moment in
+            let since = second_moment_of h.since v.clock h.moment in
             let now = sound.only_now x.image f (subst (λ t. v.left t x.image f) since h.was_left) in (
               says_one v.reads (world_of v.reads) x.world here
                   (subst (λ y. SaysWorld y x.world) (firm_image v at.0 x.image f now) h.says),

@@ -11,7 +11,7 @@ use Rattle.tsd_model.specs.Pairs.{holds}
 use Rattle.tsd_model.specs.World.{World, contents, is_live, is_free, free_count}
 use Rattle.tsd_model.specs.Records.{kept_of}
 use Rattle.tsd_model.specs.Rank.{rank_of}
-use Rattle.tsd_model.specs.Placing.{hint_block, sorted_by_rank, free_blocks, chosen, runs, first_of, chosen_run}
+use Rattle.tsd_model.specs.Placing.{hint_block, sorted_by_rank, free_blocks, chosen, runs, first_block, chosen_run}
 use Rattle.tsd_model.specs.Sessions.{Sessions, greatest, levels_from, level_le}
 use Rattle.tsd_model.specs.Attained.{record_level, shown_level, led_level, attained_from, attained}
 use Rattle.tsd_model.specs.Needs.{session_of, named_blocks, needs, wanted_blocks, wanted_pairs}
@@ -77,7 +77,7 @@ pub chosen_like : (v w : World) → AreLike v w → (kind : PlaceKind) (h : Hint
 chosen_like v w like kind h count = ap (λ bs. take count (sorted_by_rank (rank_of kind (hint_block h)) bs)) (free_blocks_like v w like)
 
 pub chosen_run_like : (v w : World) → AreLike v w → (kind : PlaceKind) (h : Hint) (count : ℕ) → chosen_run kind v h count ≡ chosen_run kind w h count
-chosen_run_like v w like kind h count = ap (λ bs. first_of (sorted_by_rank (rank_of kind (hint_block h)) bs)) (runs_like v w like count)
+chosen_run_like v w like kind h count = ap (λ bs. first_block (sorted_by_rank (rank_of kind (hint_block h)) bs)) (runs_like v w like count)
 
 -- ---- levels
 

@@ -8,7 +8,7 @@ use Rattle.tsd_model.specs.Geometry.{block_len}
 use Rattle.tsd_model.specs.Pairs.{holds, is_pair}
 use Rattle.tsd_model.specs.Rank.{rank_of}
 use Rattle.tsd_model.specs.World.{World, contents, is_live, is_free, all_blocks}
-use Rattle.tsd_model.specs.Placing.{in_rank_order, sorted_by_rank, hint_block, free_blocks, chosen, is_free_run, runs, first_of, chosen_run}
+use Rattle.tsd_model.specs.Placing.{in_rank_order, sorted_by_rank, hint_block, free_blocks, chosen, is_free_run, runs, first_block, chosen_run}
 use Rattle.tsd_model.specs.Step.{filled, with_contents, with_pointer, without_pointer, zeros, with_new_blocks, run_at}
 use Rattle.tsd_model.specs.Valid.{IsSized, IsRaw, IsValid}
 use Rattle.tsd_model.specs.declared.requests.Hint.{Hint}
@@ -180,7 +180,7 @@ free_in_run : (w : World) (xs : List ℕ) → list_all (is_free w) xs ≡ true �
 free_in_run w [] h = tt
 free_in_run w (x ∷ xs) h = let parts = and_parts (is_free w x) (list_all (is_free w) xs) h in (parts.0, free_in_run w xs parts.1)
 
-run_at_is_free : (w : World) (count : ℕ) (bs : List ℕ) → AllOf (λ b. is_free_run w count b ≡ true) bs → AllFree w (run_at (first_of bs) count)
+run_at_is_free : (w : World) (count : ℕ) (bs : List ℕ) → AllOf (λ b. is_free_run w count b ≡ true) bs → AllFree w (run_at (first_block bs) count)
 run_at_is_free w count [] h = tt
 run_at_is_free w count (b ∷ bs) h = free_in_run w (range_with_len b count) h.0
 

@@ -6,7 +6,7 @@ use Rattle.std.proofs.lemmas.List.FromFn.{length-map-range_with_len, get_or-map-
 use Rattle.std.specs.Prelude.{map, replicate, slice_index_or, slice_set, option_map, is_some, IfSome}
 use Rattle.std.specs.List.{enumerate_from}
 use Rattle.tsd_model.specs.World.{World, is_live}
-use Rattle.tsd_model.specs.Sessions.{Levels, Held, Sessions, sessions_max, held_by, with_held, levels_in, raised_level, raised_held, raised, levels_at_live, fitted, Fits}
+use Rattle.tsd_model.specs.Sessions.{Levels, Held, Sessions, sessions_max, held_by, with_held, levels_in, raised_level, raised_held, raised_sessions, levels_at_live, fitted, Fits}
 use Rattle.tsd_model.specs.Needs.{session_of, needs}
 use Rattle.tsd_model.specs.Attained.{attained_from}
 use Rattle.tsd_model.specs.Placing.{chosen, chosen_run}
@@ -45,7 +45,7 @@ origins-with_held p v t o new h = record {
 pub length-raised_held : (b : ℕ) (f : ℕ → Level) (held : Held) → length (raised_held b f held) ≡ length held
 length-raised_held b f held = length-map (enumerate_from 0 held) (λ e. raised_level b (f e.0) e.1) ∙ length-enumerate_from 0 held
 
-pub origins-raised : (p : ℕ) (v : Sessions) (s b : ℕ) (f : ℕ → Level) → HasOrigins p v → HasOrigins p (raised v s b f)
+pub origins-raised : (p : ℕ) (v : Sessions) (s b : ℕ) (f : ℕ → Level) → HasOrigins p v → HasOrigins p (raised_sessions v s b f)
 origins-raised p v s b f h = origins-with_held p v s (option_map (raised_held b f) (held_by v s)) (each (held_by v s) (h.origins s)) h
   where
     each : (o : Option Held) → IfSome o (λ held. length held ≡ p) → IfSome (option_map (raised_held b f) o) (λ held. length held ≡ p)
@@ -54,7 +54,7 @@ origins-raised p v s b f h = origins-with_held p v s (option_map (raised_held b 
 
 origins-raised_at : (p : ℕ) (w : World) (v : Sessions) (s : ℕ) (ns : List Need) (now : Sessions) → HasOrigins p now → HasOrigins p (raised_at w v s ns now)
 origins-raised_at p w v s [] now h = h
-origins-raised_at p w v s (n ∷ ns) now h = origins-raised_at p w v s ns (raised now s n.block (attained_from w v s n.block n.shown)) (origins-raised p now s n.block (attained_from w v s n.block n.shown) h)
+origins-raised_at p w v s (n ∷ ns) now h = origins-raised_at p w v s ns (raised_sessions now s n.block (attained_from w v s n.block n.shown)) (origins-raised p now s n.block (attained_from w v s n.block n.shown) h)
 
 pub origins-raised_by : (p : ℕ) (w : World) (v : Sessions) (q : Request) → HasOrigins p v → HasOrigins p (raised_by w v q)
 origins-raised_by p w v q h = go (session_of q)

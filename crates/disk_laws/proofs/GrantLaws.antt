@@ -5,7 +5,7 @@ use Rattle.std.specs.Prelude.{replicate, slice_index_or, is_some, is_none, IfSom
 use Rattle.std.specs.List.{list_any}
 use Rattle.std.specs.Option.{option_map_or}
 use Rattle.tsd_model.specs.World.{World, is_live}
-use Rattle.tsd_model.specs.Sessions.{Held, Sessions, sessions_max, level_le, held_by, is_open, levels_in, level_from, begun, ended, Fits}
+use Rattle.tsd_model.specs.Sessions.{Held, Sessions, sessions_max, level_le, held_by, is_open, levels_in, level_from, session_begun, session_ended, Fits}
 use Rattle.tsd_model.specs.Needs.{session_of, needs}
 use Rattle.tsd_model.specs.Valid.{IsValid}
 use Rattle.tsd_model.specs.Verdict.{is_begin, is_no_session, has_bad_session, is_already_open, names_missing_block, is_granted, verdict}
@@ -131,21 +131,21 @@ module _ (w : World) (v : Sessions) (valid : IsValid w) (fits : Fits w v) (s o a
   level-raised_by q pass = level-raised_for w v w.geometry.primaries w.geometry.blocks s o a l (session_of q) (needs q) below (session_ready q refl pass) (needs_below w q pass.there)
 
   -- the changes of the sessions themselves
-  level-begun : (u : Sessions) (n : ℕ) → is_open u n ≡ false → level_le l (level_from (begun w u n) s o a) ≡ level_le l (level_from u s o a)
+  level-begun : (u : Sessions) (n : ℕ) → is_open u n ≡ false → level_le l (level_from (session_begun w u n) s o a) ≡ level_le l (level_from u s o a)
   level-begun u n shut = elim (cases_eq s n) [
     | inr other ↦ ap (λ x. level_le l (slice_index_or (levels_in x o) a level.Bare)) (held-with_other u n s (Some (replicate w.geometry.primaries (replicate (length w.blocks) level.Bare))) other)
-    | inl same ↦ subst (λ k. level_le l (level_from (begun w u n) k o a) ≡ level_le l (level_from u k o a)) (sym same)
+    | inl same ↦ subst (λ k. level_le l (level_from (session_begun w u n) k o a) ≡ level_le l (level_from u k o a)) (sym same)
         (let none = closed (held_by u n) shut in
         let was : level_from u n o a ≡ level.Bare = ap (λ x. slice_index_or (levels_in x o) a level.Bare) none in
-        let now : level_from (begun w u n) n o a ≡ level.Bare = held_keeps (λ x. slice_index_or (levels_in x o) a level.Bare ≡ level.Bare) u n n (Some (replicate w.geometry.primaries (replicate (length w.blocks) level.Bare))) (begun_bare (length w.blocks) w.geometry.primaries o a) was in
+        let now : level_from (session_begun w u n) n o a ≡ level.Bare = held_keeps (λ x. slice_index_or (levels_in x o) a level.Bare ≡ level.Bare) u n n (Some (replicate w.geometry.primaries (replicate (length w.blocks) level.Bare))) (begun_bare (length w.blocks) w.geometry.primaries o a) was in
         ap (level_le l) (now ∙ sym was))
   ]
 
-  level-ended : (u : Sessions) (n : ℕ) → 1 ≤ n → n ≤ length u → level_le l (level_from (ended u n) s o a) ≡ (not ((n == s) || false) && level_le l (level_from u s o a))
+  level-ended : (u : Sessions) (n : ℕ) → 1 ≤ n → n ≤ length u → level_le l (level_from (session_ended u n) s o a) ≡ (not ((n == s) || false) && level_le l (level_from u s o a))
   level-ended u n n1 most = elim (cases_eq s n) [
     | inr other ↦ ap (λ x. level_le l (slice_index_or (levels_in x o) a level.Bare)) (held-with_other u n s None other)
         ∙ ap (λ t. not (t || false) && level_le l (level_from u s o a)) (sym (ne_eqb n s (λ e. other (sym e))))
-    | inl same ↦ subst (λ k. level_le l (level_from (ended u n) k o a) ≡ (not ((n == k) || false) && level_le l (level_from u k o a))) (sym same)
+    | inl same ↦ subst (λ k. level_le l (level_from (session_ended u n) k o a) ≡ (not ((n == k) || false) && level_le l (level_from u k o a))) (sym same)
         (ap (λ x. level_le l (slice_index_or (levels_in x o) a level.Bare)) (held-with_same u n None n1 most)
         ∙ (some ∙ ap (λ t. not (t || false) && level_le l (level_from u n o a)) (sym (eq-eqb n n refl))))
   ]

@@ -8,7 +8,7 @@ use Rattle.std.specs.Prelude.{map, replicate, slice_index_or, slice_set, option_
 use Rattle.std.specs.List.{enumerate_from, list_any}
 use Rattle.std.specs.Option.{option_map_or}
 use Rattle.tsd_model.specs.World.{World, is_live}
-use Rattle.tsd_model.specs.Sessions.{Levels, Held, Sessions, sessions_max, level_rank, level_le, greater, held_by, is_open, levels_in, levels_from, level_from, raised_level, raised_held, raised, dropped_from, levels_at_live, fitted}
+use Rattle.tsd_model.specs.Sessions.{Levels, Held, Sessions, sessions_max, level_rank, level_le, greater, held_by, is_open, levels_in, levels_from, level_from, raised_level, raised_held, raised_sessions, dropped_from, levels_at_live, fitted}
 use Rattle.tsd_model.specs.Attained.{attained_from}
 use Rattle.tsd_model.specs.Step.{raised_at, raised_for}
 use Rattle.tsd_model.specs.History.{attains_at}
@@ -92,11 +92,11 @@ level-dropped_from n b v s o a = ap (λ x. slice_index_or (levels_in x o) a leve
 -- ---- raising
 
 -- another session's table
-pub levels-raised_other : (v : Sessions) (s t b o : ℕ) (f : ℕ → Level) → (s ≡ t → ⊥) → held_by (raised v t b f) s ≡ held_by v s
+pub levels-raised_other : (v : Sessions) (s t b o : ℕ) (f : ℕ → Level) → (s ≡ t → ⊥) → held_by (raised_sessions v t b f) s ≡ held_by v s
 levels-raised_other v s t b o f other = held-with_other v t s (option_map (raised_held b f) (held_by v t)) other
 
 -- the session's own, which is open
-pub held-raised : (v : Sessions) (t b : ℕ) (f : ℕ → Level) → 1 ≤ t → t ≤ length v → held_by (raised v t b f) t ≡ option_map (raised_held b f) (held_by v t)
+pub held-raised : (v : Sessions) (t b : ℕ) (f : ℕ → Level) → 1 ≤ t → t ≤ length v → held_by (raised_sessions v t b f) t ≡ option_map (raised_held b f) (held_by v t)
 held-raised v t b f t1 tn = held-with_same v t (option_map (raised_held b f) (held_by v t)) t1 tn
 
 levels-raised_held : (b : ℕ) (f : ℕ → Level) (held : Held) (o : ℕ) → o < length held → slice_index_or (raised_held b f held) o [] ≡ raised_level b (f o) (slice_index_or held o [])
@@ -117,7 +117,7 @@ open_held : (x : Option Held) → is_some x ≡ true → (held : Held) × (x ≡
 open_held None h = absurd (cc)
 open_held (Some held) h = (held, refl)
 
-levels-raised : (p n o t b : ℕ) (f : ℕ → Level) (v : Sessions) → 1 ≤ t → t ≤ sessions_max → o < p → IsReady p n o t v → levels_from (raised v t b f) t o ≡ raised_level b (f o) (levels_from v t o)
+levels-raised : (p n o t b : ℕ) (f : ℕ → Level) (v : Sessions) → 1 ≤ t → t ≤ sessions_max → o < p → IsReady p n o t v → levels_from (raised_sessions v t b f) t o ≡ raised_level b (f o) (levels_from v t o)
 levels-raised p n o t b f v t1 tn below ready =
     let held = open_held (held_by v t) ready.there in
     let as_many : length held.0 ≡ p = subst (λ x. IfSome x (λ h. length h ≡ p)) held.1 (ready.shape.origins t) in
@@ -125,7 +125,7 @@ levels-raised p n o t b f v t1 tn below ready =
     ∙ (levels-raised_held b f held.0 o (omega (arith, below, as_many))
     ∙ ap (λ x. raised_level b (f o) (levels_in x o)) (sym held.1))
 
-ready-raised : (p n o t b : ℕ) (f : ℕ → Level) (v : Sessions) → 1 ≤ t → t ≤ sessions_max → o < p → IsReady p n o t v → IsReady p n o t (raised v t b f)
+ready-raised : (p n o t b : ℕ) (f : ℕ → Level) (v : Sessions) → 1 ≤ t → t ≤ sessions_max → o < p → IsReady p n o t v → IsReady p n o t (raised_sessions v t b f)
 ready-raised p n o t b f v t1 tn below ready =
     let held = open_held (held_by v t) ready.there in
     record {
@@ -166,7 +166,7 @@ own-raised_at : (w : World) (v : Sessions) (p n o t a : ℕ) (l : Level) → 1 �
 own-raised_at w v p n o t a l t1 tn below [] now ready each = refl
 own-raised_at w v p n o t a l t1 tn below (m ∷ ms) now ready each =
     let f : ℕ → Level = attained_from w v t m.block m.shown in
-    let next = raised now t m.block f in
+    let next = raised_sessions now t m.block f in
     let rest = list_any (attains_at (record { world = w; sessions = v }) t o a l) ms in
     let within : m.block < length (levels_from now t o) = omega (arith, each.0, ready.long) in
     own-raised_at w v p n o t a l t1 tn below ms next (ready-raised p n o t m.block f now t1 tn below ready) each.1
@@ -177,7 +177,7 @@ own-raised_at w v p n o t a l t1 tn below (m ∷ ms) now ready each =
 pub other-raised_at : (w : World) (v : Sessions) (s t : ℕ) → (s ≡ t → ⊥) → (ns : List Need) (now : Sessions) → held_by (raised_at w v t ns now) s ≡ held_by now s
 other-raised_at w v s t other [] now = refl
 other-raised_at w v s t other (m ∷ ms) now =
-    other-raised_at w v s t other ms (raised now t m.block (attained_from w v t m.block m.shown)) ∙ levels-raised_other now s t m.block 0 (attained_from w v t m.block m.shown) other
+    other-raised_at w v s t other ms (raised_sessions now t m.block (attained_from w v t m.block m.shown)) ∙ levels-raised_other now s t m.block 0 (attained_from w v t m.block m.shown) other
 
 -- what a session holds once a request of a session that is open, or of none, has raised levels
 pub level-raised_for : (w : World) (v : Sessions) (p n s o a : ℕ) (l : Level) (x : Option ℕ) (ns : List Need) → o < p

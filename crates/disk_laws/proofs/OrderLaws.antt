@@ -6,9 +6,9 @@ use Rattle.std.proofs.lemmas.Bool.Decides.{nat_tests}
 use Rattle.std.specs.Prelude.{filter}
 use Rattle.std.specs.List.{range_with_len}
 use Rattle.tsd_model.specs.Pairs.{holds}
-use Rattle.tsd_model.specs.World.{World, is_live, is_primary, has_number, all_blocks}
+use Rattle.tsd_model.specs.World.{World, is_live, is_primary, has_number, all_blocks, are_apart}
 use Rattle.tsd_model.specs.Doomed.{is_led_only_from, hangs_on, doomed_rounds}
-use Rattle.disk_laws.specs.Reclaiming.{InOrder, all_apart}
+use Rattle.disk_laws.specs.Reclaiming.{InOrder}
 use Rattle.disk_laws.proofs.GraphLaws.{has_number-filter, has_number-range}
 use Rattle.tsd_model.proofs.PairLaws.{and_false, all_of_held}
 use Rattle.disk_laws.proofs.DoomLaws.{doomed_more}
@@ -68,33 +68,33 @@ rounds_in_order w (suc r) = in_order-append w.pairs [] (by_round w r) (added w r
 
 -- ---- each once
 
-pub apart-filter : (p : ℕ → Bool) (xs : List ℕ) → all_apart xs ≡ true → all_apart (filter p xs) ≡ true
+pub apart-filter : (p : ℕ → Bool) (xs : List ℕ) → are_apart xs ≡ true → are_apart (filter p xs) ≡ true
 apart-filter p [] h = refl
-apart-filter p (x ∷ xs) h = let parts = and_parts (not (has_number xs x)) (all_apart xs) h in
-    elim (p x) as (λ t. all_apart (cond t (x ∷ filter p xs) (filter p xs)) ≡ true) [
-      | true ↦ and_from (not (has_number (filter p xs) x)) (all_apart (filter p xs)) (ap not (has_number-filter p xs x ∙ ap (λ t. t && p x) (not-true (has_number xs x) parts.0))) (apart-filter p xs parts.1)
+apart-filter p (x ∷ xs) h = let parts = and_parts (not (has_number xs x)) (are_apart xs) h in
+    elim (p x) as (λ t. are_apart (cond t (x ∷ filter p xs) (filter p xs)) ≡ true) [
+      | true ↦ and_from (not (has_number (filter p xs) x)) (are_apart (filter p xs)) (ap not (has_number-filter p xs x ∙ ap (λ t. t && p x) (not-true (has_number xs x) parts.0))) (apart-filter p xs parts.1)
       | false ↦ apart-filter p xs parts.1
     ]
 
-pub apart-range : (i n : ℕ) → all_apart (range_with_len i n) ≡ true
+pub apart-range : (i n : ℕ) → are_apart (range_with_len i n) ≡ true
 apart-range i zero = refl
-apart-range i (suc n) = and_from (not (has_number (range_with_len (i + 1) n) i)) (all_apart (range_with_len (i + 1) n)) (ap not (has_number-range (i + 1) n i ∙ below)) (apart-range (i + 1) n)
+apart-range i (suc n) = and_from (not (has_number (range_with_len (i + 1) n) i)) (are_apart (range_with_len (i + 1) n)) (ap not (has_number-range (i + 1) n i ∙ below)) (apart-range (i + 1) n)
   where
     below : (nat_le (i + 1) i && nat_lt i ((i + 1) + n)) ≡ false
     below = grind (arith, nat_tests)
 
-pub apart-append : (xs ys : List ℕ) → all_apart xs ≡ true → all_apart ys ≡ true → ((b : ℕ) → has_number xs b ≡ true → has_number ys b ≡ false) → all_apart (xs ++ ys) ≡ true
+pub apart-append : (xs ys : List ℕ) → are_apart xs ≡ true → are_apart ys ≡ true → ((b : ℕ) → has_number xs b ≡ true → has_number ys b ≡ false) → are_apart (xs ++ ys) ≡ true
 apart-append [] ys p q h = q
-apart-append (x ∷ xs) ys p q h = let parts = and_parts (not (has_number xs x)) (all_apart xs) p in
-    and_from (not (has_number (xs ++ ys) x)) (all_apart (xs ++ ys))
+apart-append (x ∷ xs) ys p q h = let parts = and_parts (not (has_number xs x)) (are_apart xs) p in
+    and_from (not (has_number (xs ++ ys) x)) (are_apart (xs ++ ys))
     (ap not (list_any-append (λ y. y == x) xs ys ∙ (ap (λ t. t || has_number ys x) (not-true (has_number xs x) parts.0) ∙ h x (or_left (x == x) (has_number xs x) (eq-eqb x x refl)))))
     (apart-append xs ys parts.1 q (λ b m. h b (or_right (x == b) (has_number xs b) m)))
 
-doomed_apart : (w : World) (r : ℕ) → all_apart (doomed_rounds w r) ≡ true
+doomed_apart : (w : World) (r : ℕ) → are_apart (doomed_rounds w r) ≡ true
 doomed_apart w zero = refl
 doomed_apart w (suc r) = apart-filter (hangs_on w (doomed_rounds w r)) (all_blocks w) (apart-range 0 (length w.blocks))
 
-pub rounds_apart : (w : World) (r : ℕ) → all_apart (by_round w r) ≡ true
+pub rounds_apart : (w : World) (r : ℕ) → are_apart (by_round w r) ≡ true
 rounds_apart w zero = refl
 rounds_apart w (suc r) = apart-append (by_round w r) (added w r) (rounds_apart w r) (apart-filter (λ b. not (has_number (doomed_rounds w r) b)) (doomed_rounds w (suc r)) (doomed_apart w (suc r)))
     (λ b m. has_number-filter (λ c. not (has_number (doomed_rounds w r) c)) (doomed_rounds w (suc r)) b ∙ (ap (λ t. has_number (doomed_rounds w (suc r)) b && not t) (sym (has-by_round w r b) ∙ m) ∙ and_false (has_number (doomed_rounds w (suc r)) b)))

@@ -1,7 +1,7 @@
 -- Which blocks a request reclaims.
 use Rattle.std.specs.Prelude.{◌≡◌, ℕ, ◌≤◌, Bool, true, false, not, ◌&&◌, List, [], ◌∷◌, ◌++◌, ◌↔◌, IsTrue}
 use Rattle.tsd_model.specs.Pairs.{holds, without_pair}
-use Rattle.tsd_model.specs.World.{World, is_live, has_number}
+use Rattle.tsd_model.specs.World.{World, is_live, has_number, are_apart}
 use Rattle.tsd_model.specs.Reach.{reach}
 use Rattle.tsd_model.specs.Valid.{IsValid}
 use Rattle.tsd_model.specs.Verdict.{is_granted}
@@ -46,16 +46,11 @@ InOrder es before [] = Unit {0}
 InOrder es before (b ∷ bs) = ((a : ℕ) → IsTrue (holds es a b) → IsTrue (has_number before a))
     × InOrder es (before ++ b ∷ []) bs
 
--- no number stands twice
-abbrev pub all_apart : List ℕ → Bool
-all_apart [] = true
-all_apart (b ∷ bs) = not (has_number bs b) && all_apart bs
-
 -- The reclaimed blocks, each once, in an order in which each pair to one of them that was held before the request comes
 -- from one before it, or is the pair that the request deleted.
 pub record ReclaimOrder (w next : World) (q : Request) : Type 0 where
   pub order : List ℕ
-  pub once : IsTrue (all_apart order)
+  pub once : IsTrue (are_apart order)
   pub members : (b : ℕ) → has_number order b ≡ is_reclaimed w next b
   pub rising : InOrder (pairs_but_deleted q w.pairs) [] order
 

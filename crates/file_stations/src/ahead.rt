@@ -10,7 +10,7 @@ const MOST: usize = 128;
 /// sync that fails forgets them all: so what is held is what the file has, as long as no other process writes it. Its
 /// lock keeps out those that ask for it; it is advisory, and binds nobody else.
 #[derive(Drop)]
-pub struct Ahead {
+pub struct ReadAhead {
     /// Room for the bytes of 128 sectors, or none where there was no memory for it.
     room: Vec<u8>,
 
@@ -27,14 +27,14 @@ pub struct Ahead {
     row: usize,
 }
 
-impl Ahead {
+impl ReadAhead {
     /// Nothing is held.
-    pub fn none(alloc: Global) -> Ahead {
+    pub fn none(alloc: Global) -> ReadAhead {
         let room = match vec![in alloc; 0; SECTOR * MOST] {
             Ok(zeros) => zeros,
             Err(_) => Vec::new(alloc),
         };
-        Ahead {
+        ReadAhead {
             room,
             first: 0,
             count: 0,

@@ -3,7 +3,7 @@
 ghost use Rattle.std.specs.Prelude.{◌≡◌, ◌≢◌, ◌≤◌, ◌^◌, None, Some, IfOk, OnErr, OnOk};
 ghost use Rattle.image_device.specs.Counts.{raised, CountsFault};
 
-use crate::ahead::Ahead;
+use crate::ahead::ReadAhead;
 use crate::image_file::{ImageFile, Kind, SECTOR};
 use crate::trouble::Trouble;
 use image_device::Failed;
@@ -25,7 +25,7 @@ enum Image {
 #[derive(Drop)]
 pub struct FileSide {
     image: Image,
-    ahead: Ahead,
+    ahead: ReadAhead,
     trouble: Option<Trouble>,
     unsure: Option<Kind>,
     pub(crate) faults: u64,
@@ -43,7 +43,7 @@ impl FileSide {
                 Ok(file) => Image::Open(file),
                 Err(trouble) => Image::Lost(trouble),
             },
-            ahead: Ahead::none(alloc),
+            ahead: ReadAhead::none(alloc),
             trouble: None,
             unsure: None,
             faults: 0,
@@ -148,7 +148,7 @@ impl FileSide {
 /// Reads a sector into a room of zeros, with those behind it where reads follow one another.
 fn read_sector(
     image: &Image,
-    ahead: &mut Ahead,
+    ahead: &mut ReadAhead,
     sector: u32,
     room: &mut [u8; SECTOR],
 ) -> Result<(), Trouble> {

@@ -8,14 +8,14 @@ use crate::outlet::Outlet;
 use crate::progress::Progress;
 use crate::trouble::Trouble;
 use image_device::{Failed, WorkDone};
-use mirror_device::{Seen, Side, Sides};
+use mirror_device::{Side, SideCounts, Sides};
 use std::alloc::Global;
 use std::io::Write;
 use std::time::Clock;
 
 /// An image's path, and its file or why it couldn't be opened.
 #[derive(Drop)]
-pub struct Named {
+pub struct NamedImage {
     pub path: String,
     pub image: Result<ImageFile, Trouble>,
 }
@@ -40,8 +40,8 @@ impl<O, C, E, F> FileSides<O, C, E, F> {
     /// Two images that were opened, or failed to be: then each call on that one fails.
     pub fn new(
         alloc: Global,
-        first: Named,
-        second: Named,
+        first: NamedImage,
+        second: NamedImage,
         output: O,
         progress: Progress<C, E>,
         errors: F,
@@ -232,12 +232,12 @@ impl<O: Write, C: Clock, E: Write, F: Write> Sides for FileSides<O, C, E, F> {
         }
     }
 
-    fn seen(&self, side: Side) -> Seen {
+    fn seen(&self, side: Side) -> SideCounts {
         let file = match side {
             Side::First => &self.first,
             Side::Second => &self.second,
         };
-        Seen {
+        SideCounts {
             faults: file.faults,
             syncs: file.syncs,
         }

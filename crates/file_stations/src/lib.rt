@@ -24,7 +24,7 @@ mod standard;
 mod trouble;
 
 pub use file_side::tell_image;
-pub use file_sides::{FileSides, Named};
+pub use file_sides::{FileSides, NamedImage};
 pub use file_station::FileStation;
 pub use image_file::{ImageFile, Kind, Opening, Readers, are_one};
 pub use input::InputSource;

@@ -8,7 +8,7 @@ use Rattle.tsd_model.specs.declared.caps.Cap.{Cap}
 use Rattle.tsd_model.specs.declared.geometry.Geometry.{Geometry}
 use Rattle.tsd_model.specs.declared.requests.Level.TheVariants as level
 use Rattle.fs_port.specs.Files.{FilesView, IsClientReady}
-use Rattle.fixtures_fs.specs.Ours.{IsOurs, cap_of}
+use Rattle.fixtures_fs.specs.Ours.{IsOurs, cap_of_byte}
 use Rattle.fixtures_fs.specs.Untold.{untold_view}
 
 -- where the disk isn't spent and has a primary block
@@ -21,5 +21,5 @@ is_ready f g faults spent ours unspent some =
       begun = subst (λ s. IsTrue (is_open v.sessions s)) (sym ours.session) refl;
       primary = subst (λ r. r < g.primaries) (sym ours.root) some;
       attains = subst (λ (c : Cap). record_level (slice_get v.records f.root) (kept_of 1 c) ≡ level.Write) (sym ours.cap)
-          (subst (λ r. record_level (slice_get v.records r) (kept_of 1 (cap_of 187)) ≡ level.Write) (sym ours.root) refl);
+          (subst (λ r. record_level (slice_get v.records r) (kept_of 1 (cap_of_byte 187)) ≡ level.Write) (sym ours.root) refl);
     }

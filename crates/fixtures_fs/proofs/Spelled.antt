@@ -6,17 +6,17 @@ use Rattle.fs_trees.specs.declared.ask.ShellAsk.{ShellAsk}
 use Rattle.fs_trees.specs.declared.ask.ShellAsk.TheVariants as ask
 use Rattle.fs_trees.specs.declared.ask.ShellKind.{ShellKind}
 use Rattle.fs_trees.specs.declared.ask.ShellKind.TheVariants.{Inode, Chain}
-use Rattle.shell_text.specs.Grammar.{Field, Command, PathWord, Bytes, AreFields, IsShellLine, fields}
+use Rattle.shell_text.specs.Grammar.{Field, Verb, PathWord, Bytes, AreFields, IsShellLine, fields}
 use Rattle.fixtures_fs.specs.Said.{ArePaths}
 
 -- the words of a command with a path
-in_words : (c : List ℕ) (p : Path) (fs : List Field) (ws : List (List ℕ)) → AreFields (Command c ∷ PathWord p ∷ fs) ws → IsTrue (is_path p)
+in_words : (c : List ℕ) (p : Path) (fs : List Field) (ws : List (List ℕ)) → AreFields (Verb c ∷ PathWord p ∷ fs) ws → IsTrue (is_path p)
 in_words c p fs [] h = absurd h
 in_words c p fs (w ∷ []) h = absurd h.1
 in_words c p fs (w ∷ v ∷ ws) h = h.1.0.0
 
 -- the words of a command with two paths
-in_both : (c : List ℕ) (p q : Path) (ws : List (List ℕ)) → AreFields (Command c ∷ PathWord p ∷ PathWord q ∷ []) ws → IsTrue (is_path q)
+in_both : (c : List ℕ) (p q : Path) (ws : List (List ℕ)) → AreFields (Verb c ∷ PathWord p ∷ PathWord q ∷ []) ws → IsTrue (is_path q)
 in_both c p q [] h = absurd h
 in_both c p q (w ∷ []) h = absurd h.1
 in_both c p q (w ∷ v ∷ []) h = absurd h.1.1

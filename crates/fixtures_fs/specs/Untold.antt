@@ -6,11 +6,11 @@ use Rattle.tsd_model.specs.declared.caps.CapPair.{CapPair}
 use Rattle.tsd_model.specs.declared.geometry.Geometry.{Geometry}
 use Rattle.tsd_model.specs.declared.requests.PlaceKind.TheVariants.{Near}
 use Rattle.fs_port.specs.View.{DiskView}
-use Rattle.fixtures_fs.specs.Ours.{cap_of}
+use Rattle.fixtures_fs.specs.Ours.{cap_of_byte}
 
 -- what is shown for reading and for writing
 abbrev pub caps : CapPair
-caps = record { read = cap_of 170; write = cap_of 187 }
+caps = record { read = cap_of_byte 170; write = cap_of_byte 187 }
 
 -- Session 1 is open, and of version 1 is what is kept of the capabilities. The world counts for nothing, as it isn't
 -- told.

@@ -2,7 +2,7 @@
 
 ghost use Rattle.fixtures_fs.specs.Said.{ArePaths};
 
-use crate::site::{Named, Site, Tested};
+use crate::site::{NamedPath, Site, Tested};
 use crate::words::{ask_in, expanded};
 use fs_trees::{FsRefusal, Name, ShellAsk};
 use shell_text::{
@@ -20,7 +20,11 @@ fn add(said: &mut Vec<u8>, text: &ShellBuf) -> Result<(), FsRefusal> {
 }
 
 /// The names in a directory, one by one, and the line's end.
-fn list<F: Tested>(site: &mut Site<F>, path: &Named, said: &mut Vec<u8>) -> Result<(), FsRefusal> {
+fn list<F: Tested>(
+    site: &mut Site<F>,
+    path: &NamedPath,
+    said: &mut Vec<u8>,
+) -> Result<(), FsRefusal> {
     let mut text = ShellBuf::new();
     let mut last = Name::new();
     for at in 0..129 {
@@ -48,7 +52,7 @@ fn list<F: Tested>(site: &mut Site<F>, path: &Named, said: &mut Vec<u8>) -> Resu
 fn read<F: Tested>(
     alloc: Global,
     site: &mut Site<F>,
-    path: &Named,
+    path: &NamedPath,
     said: &mut Vec<u8>,
 ) -> Result<(), FsRefusal> {
     let bytes = site.cat(alloc, path)?;
@@ -69,11 +73,11 @@ fn change<F: Tested>(site: &mut Site<F>, ask: ShellAsk) -> Result<(), FsRefusal>
 {
     match ask {
         ShellAsk::Make => site.make(),
-        ShellAsk::Put { path, bytes } => site.put(&Named { path }, &bytes),
-        ShellAsk::Append { path, bytes } => site.append(&Named { path }, &bytes),
-        ShellAsk::MakeDir { path } => site.make_dir(&Named { path }),
-        ShellAsk::Rm { path } => site.remove(&Named { path }),
-        ShellAsk::Copy { path, new } => site.copy(&Named { path }, &Named { path: new }),
+        ShellAsk::Put { path, bytes } => site.put(&NamedPath { path }, &bytes),
+        ShellAsk::Append { path, bytes } => site.append(&NamedPath { path }, &bytes),
+        ShellAsk::MakeDir { path } => site.make_dir(&NamedPath { path }),
+        ShellAsk::Rm { path } => site.remove(&NamedPath { path }),
+        ShellAsk::Copy { path, new } => site.copy(&NamedPath { path }, &NamedPath { path: new }),
         _ => Err(FsRefusal::Device),
     }
 }
@@ -89,8 +93,8 @@ fn carry_out<F: Tested>(
     match ask_in(site.files.kind(), line) {
         ShellAsk::Bad => print_bad(&mut text),
         ShellAsk::Df => print_free(site.free()?, &mut text),
-        ShellAsk::Cat { path } => return read(alloc, site, &Named { path }, said),
-        ShellAsk::Ls { path } => return list(site, &Named { path }, said),
+        ShellAsk::Cat { path } => return read(alloc, site, &NamedPath { path }, said),
+        ShellAsk::Ls { path } => return list(site, &NamedPath { path }, said),
         other => {
             change(site, other)?;
             print_done(&mut text)

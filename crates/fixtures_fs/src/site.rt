@@ -14,7 +14,7 @@ use tsd_model::{Data, NoMemory};
 
 /// A path whose names are names.
 #[derive(Drop)]
-pub struct Named {
+pub struct NamedPath {
     pub path: Path,
     ghost is_named: { IsTrue (is_path path) },
 }
@@ -107,7 +107,7 @@ impl<F: Files + Drop> Site<F> {
     }
 
     /// A file of these bytes.
-    pub fn put(&mut self, path: &Named, bytes: &Data) -> Result<(), FsRefusal> {
+    pub fn put(&mut self, path: &NamedPath, bytes: &Data) -> Result<(), FsRefusal> {
         if !self.is_ready() {
             return Err(FsRefusal::Device);
         }
@@ -115,7 +115,7 @@ impl<F: Files + Drop> Site<F> {
     }
 
     /// These bytes at the end of a file.
-    pub fn append(&mut self, path: &Named, bytes: &Data) -> Result<(), FsRefusal> {
+    pub fn append(&mut self, path: &NamedPath, bytes: &Data) -> Result<(), FsRefusal> {
         if !self.is_ready() {
             return Err(FsRefusal::Device);
         }
@@ -123,7 +123,7 @@ impl<F: Files + Drop> Site<F> {
     }
 
     /// A new directory; NotThisFs where the layout has none.
-    pub fn make_dir(&mut self, path: &Named) -> Result<(), FsRefusal> {
+    pub fn make_dir(&mut self, path: &NamedPath) -> Result<(), FsRefusal> {
         if !self.is_ready() {
             return Err(FsRefusal::Device);
         }
@@ -134,7 +134,7 @@ impl<F: Files + Drop> Site<F> {
     }
 
     /// A new file with the bytes of another; NotThisFs where the layout has no copies.
-    pub fn copy(&mut self, path: &Named, new: &Named) -> Result<(), FsRefusal> {
+    pub fn copy(&mut self, path: &NamedPath, new: &NamedPath) -> Result<(), FsRefusal> {
         if !self.is_ready() {
             return Err(FsRefusal::Device);
         }
@@ -145,7 +145,7 @@ impl<F: Files + Drop> Site<F> {
     }
 
     /// The end of a file or of an empty directory.
-    pub fn remove(&mut self, path: &Named) -> Result<(), FsRefusal> {
+    pub fn remove(&mut self, path: &NamedPath) -> Result<(), FsRefusal> {
         if !self.is_ready() {
             return Err(FsRefusal::Device);
         }
@@ -153,7 +153,7 @@ impl<F: Files + Drop> Site<F> {
     }
 
     /// How many bytes a file has.
-    pub fn size(&mut self, path: &Named) -> Result<u64, FsRefusal> {
+    pub fn size(&mut self, path: &NamedPath) -> Result<u64, FsRefusal> {
         if !self.is_ready() {
             return Err(FsRefusal::Device);
         }
@@ -163,7 +163,7 @@ impl<F: Files + Drop> Site<F> {
     /// The bytes of a file from an offset on.
     pub fn read_part(
         &mut self,
-        path: &Named,
+        path: &NamedPath,
         start: u64,
         into: &mut Data,
     ) -> Result<(), FsRefusal> {
@@ -175,7 +175,11 @@ impl<F: Files + Drop> Site<F> {
     }
 
     /// The first name above this one.
-    pub fn name_after(&mut self, path: &Named, after: &Name) -> Result<Option<Name>, FsRefusal> {
+    pub fn name_after(
+        &mut self,
+        path: &NamedPath,
+        after: &Name,
+    ) -> Result<Option<Name>, FsRefusal> {
         if !self.is_ready() {
             return Err(FsRefusal::Device);
         }
@@ -191,7 +195,7 @@ impl<F: Files + Drop> Site<F> {
     }
 
     /// The bytes of a file of at most 63 parts, part by part, the last without bytes.
-    pub fn cat(&mut self, alloc: Global, path: &Named) -> Result<Vec<u8>, FsRefusal> {
+    pub fn cat(&mut self, alloc: Global, path: &NamedPath) -> Result<Vec<u8>, FsRefusal> {
         let size = self.size(path)?;
         let mut all = Vec::new(alloc);
         let mut part = Data::new();

@@ -2,7 +2,7 @@
 
 ghost use Rattle.fixtures_fs.specs.Said.{ArePaths};
 
-use crate::site::Named;
+use crate::site::NamedPath;
 use fs_trees::{ShellAsk, ShellKind};
 use shell_text::parse_shell;
 use std::alloc::{AllocError, Global};
@@ -57,12 +57,12 @@ pub fn ask_in(kind: ShellKind, line: &[u8]) -> ShellAsk
 }
 
 /// The path that a word spells; None where it is none.
-pub fn name_path(word: &[u8]) -> Option<Named> {
+pub fn name_path(word: &[u8]) -> Option<NamedPath> {
     let mut line = Data::new();
     line.extend_from_slice(b"ls ").ok()?;
     line.extend_from_slice(word).ok()?;
     match ask_in(ShellKind::Inode, line.as_slice()) {
-        ShellAsk::Ls { path } => Some(Named { path }),
+        ShellAsk::Ls { path } => Some(NamedPath { path }),
         _ => None,
     }
 }

@@ -2,8 +2,7 @@
 use Rattle.std.proofs.Common.{◌≡◌, ℕ, Bool, true, false, not, ◌||◌, ◌==◌, List, [], ◌∷◌, refl, sym, ◌∙◌, ap, inl, inr}
 use Rattle.std.proofs.lemmas.Bool.{and_parts, and_from, or_cases, or_left, or_right, eq-eqb, eqb-true}
 use Rattle.std.specs.List.{list_all}
-use Rattle.tsd_model.specs.World.{has_number}
-use Rattle.fs_trees.specs.Inode.{are_apart}
+use Rattle.tsd_model.specs.World.{has_number, are_apart}
 
 -- ---- tests
 

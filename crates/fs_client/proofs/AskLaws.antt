@@ -6,7 +6,7 @@ use Rattle.fs_trees.specs.Names.{Path}
 use Rattle.fs_trees.specs.Tree.{Tree, nothing, a_file, a_dir, at, is_there, names_in}
 use Rattle.fs_trees.specs.Answer.{Answer, done}
 use Rattle.fs_trees.specs.Layouts.{tree_at}
-use Rattle.fs_trees.specs.Refusals.{Need, when, first_of, not_mounted, lost_on_the_way, missing, is_root, has_entries, refusal}
+use Rattle.fs_trees.specs.Refusals.{RoomNeed, when, first_of, not_mounted, lost_on_the_way, missing, is_root, has_entries, refusal}
 use Rattle.fs_trees.specs.Step.{change, judged}
 use Rattle.fs_trees.specs.declared.ask.ShellAsk.{ShellAsk}
 use Rattle.fs_trees.specs.declared.ask.ShellAsk.TheVariants as ask
@@ -47,7 +47,7 @@ is_mounted (a_dir d es) rest h = refl
 
 -- ---- rm
 
-module _ (kind : ShellKind) (g : Geometry) (t : Tree) (free held : ℕ) (need : Need) (there : is_there t ≡ true) where
+module _ (kind : ShellKind) (g : Geometry) (t : Tree) (free held : ℕ) (need : RoomNeed) (there : is_there t ≡ true) where
   pub rm_lost : (p : Path) (e : FsRefusal) → lookup_refusal t p no.IsDir ≡ Some e → refusal kind g t free held need (ask.Rm p) ≡ Some e
   rm_lost [] e h =
       is_mounted t (lost_on_the_way t [] ∷ missing t [] ∷ is_root [] ∷ has_entries t [] ∷ []) there

@@ -4,10 +4,9 @@ use Rattle.std.proofs.lemmas.Bool.{and_parts, and_from, eq-eqb, eqb-true}
 use Rattle.std.proofs.lemmas.Bool.Decides.{nat_tests}
 use Rattle.std.specs.Prelude.{map, filter}
 use Rattle.std.specs.List.{list_all}
-use Rattle.tsd_model.specs.World.{World, has_number}
+use Rattle.tsd_model.specs.World.{World, has_number, are_apart}
 use Rattle.tsd_model.specs.Pairs.{holds}
 use Rattle.tsd_model.specs.Valid.{IsValid}
-use Rattle.fs_trees.specs.Inode.{are_apart}
 use Rattle.fs_client.specs.Leftovers.{targets_of, named_targets}
 use Rattle.fs_client.proofs.PageLaws.{climbs, targets_climb, targets_in}
 use Rattle.fs_client.specs.Held.{are_held}

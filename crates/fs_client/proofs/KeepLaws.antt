@@ -13,12 +13,13 @@ use Rattle.tsd_model.proofs.PairLaws.{holds-filter, holds_first, first_once, is_
 use Rattle.tsd_model.proofs.SizeLaws.{length-filter_le}
 use Rattle.disk_laws.proofs.GraphLaws.{has_number-filter}
 use Rattle.fs_trees.specs.Needs.{need}
-use Rattle.fs_trees.specs.Refusals.{Need}
+use Rattle.fs_trees.specs.Refusals.{RoomNeed}
 use Rattle.fs_port.specs.View.{DiskView}
 use Rattle.fs_port.specs.Calls.{IsValidNow}
 use Rattle.fs_port.specs.Files.{KeepsRoom}
 use Rattle.fs_client.specs.declared.client.Client.{Client}
-use Rattle.fs_client.specs.Steps.{Went, written, dropped}
+use Rattle.tsd_model.specs.Step.{written}
+use Rattle.fs_client.specs.Steps.{Went, dropped}
 use Rattle.fs_client.proofs.DropLaws.{fewer_pairs, fewer_live}
 use Rattle.fs_client.proofs.WriteLaws.{written_elsewhere}
 
@@ -126,7 +127,7 @@ pub takes_none : (w next : World) → IsValid w → IsValid next → next.geomet
 takes_none w next valid after size lives held = takes_these w next valid after size [] [] (λ b h. or_left (is_live w b) false (lives b h)) (λ a b h. or_left (holds w.pairs a b) false (held a b h))
 
 -- and then nothing more
-pub no_more_room : (n : Need) (w mid next : World) → KeepsRoom n w mid → KeepsRoom (need 0 0) mid next → KeepsRoom n w next
+pub no_more_room : (n : RoomNeed) (w mid next : World) → KeepsRoom n w mid → KeepsRoom (need 0 0) mid next → KeepsRoom n w next
 no_more_room n w mid next first second = record {
   blocks = let a = first.blocks in let b = second.blocks in omega (arith, a, b);
   pairs = let a = first.pairs in let b = second.pairs in omega (arith, a, b);

@@ -22,7 +22,8 @@ use Rattle.disk_laws.proofs.RunLaws.{answer_valid, answer_fits}
 use Rattle.disk_laws.proofs.AttainedLaws.{attained_where}
 use Rattle.disk_laws.specs.Grants.{ShownAttains}
 use Rattle.tsd_model.specs.Pairs.{holds}
-use Rattle.fs_laws.specs.Ways.{HoldsWrite, is_steady, writes_through}
+use Rattle.tsd_model.specs.Needs.{is_steady}
+use Rattle.fs_laws.specs.Ways.{HoldsWrite, writes_through}
 use Rattle.fs_laws.proofs.WayLaws.{ways_stay, ways_are_gained}
 use Rattle.fs_laws.proofs.GrantedLaws.{read_is_granted, list_is_granted}
 use Rattle.fs_port.specs.View.{DiskView, state_of, IsDiskSound}

@@ -21,7 +21,8 @@ use Rattle.fs_port.specs.Files.{IsEitherTree}
 use Rattle.fs_client.specs.declared.client.Client.{Client}
 use Rattle.fs_client.specs.Client.{write_by}
 use Rattle.fs_client.specs.May.{MayWrite}
-use Rattle.fs_client.specs.Steps.{Leads, Went, written}
+use Rattle.tsd_model.specs.Step.{written}
+use Rattle.fs_client.specs.Steps.{Leads, Went}
 use Rattle.fs_port.specs.Runs.{IsMade}
 use Rattle.fs_client.specs.Changing.{files_by, IsEmptied}
 use Rattle.fs_client.specs.Trimming.{root_alone, MayTrim, Trimmed, IsTrim, OnlyNamed}

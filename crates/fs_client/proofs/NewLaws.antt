@@ -6,7 +6,7 @@ use Rattle.std.proofs.lemmas.List.FromFn.{length-map-range_with_len, get_or-map-
 use Rattle.std.proofs.lemmas.List.Sums.{sum_by-cons}
 use Rattle.std.specs.Prelude.{is_some, is_none, count_by, take, filter, map}
 use Rattle.std.specs.List.{range_with_len}
-use Rattle.tsd_model.specs.World.{World, contents, is_live, is_free, free_count, all_blocks, has_number}
+use Rattle.tsd_model.specs.World.{World, contents, is_live, is_free, free_count, all_blocks, has_number, are_apart}
 use Rattle.tsd_model.specs.Pairs.{holds, is_pair}
 use Rattle.tsd_model.specs.Rank.{rank_of}
 use Rattle.tsd_model.specs.Placing.{hint_block, in_rank_order, sorted_by_rank, free_blocks, chosen}
@@ -17,7 +17,6 @@ use Rattle.tsd_model.proofs.PairLaws.{holds-with_pair}
 use Rattle.disk_laws.proofs.ChangeLaws.{contents-other, contents-same, AllOf, chosen_are_free}
 use Rattle.disk_laws.proofs.StayLaws.{live-new_blocks}
 use Rattle.disk_laws.proofs.GraphLaws.{has_number-range}
-use Rattle.fs_trees.specs.Inode.{are_apart}
 use Rattle.fs_laws.proofs.CountLaws.{times, times_apart}
 
 clash : (t : Bool) → t ≡ true → t ≡ false → ⊥

@@ -10,8 +10,8 @@ use Rattle.tsd_model.specs.declared.replies.Reply.{Reply}
 use Rattle.tsd_model.specs.declared.replies.Reply.TheVariants as reply
 use Rattle.disk_laws.proofs.AnswerLaws.{refused_answer}
 use Rattle.fs_port.specs.View.{DiskView, state_of}
-use Rattle.fs_laws.specs.Ways.{is_steady as steady_there}
-use Rattle.fs_port.specs.Calls.{IsAskCarriedOut, is_steady}
+use Rattle.tsd_model.specs.Needs.{is_steady as steady_there, is_steady}
+use Rattle.fs_port.specs.Calls.{IsAskCarriedOut}
 use Rattle.fs_client.specs.Asks.{refusal_in, has_wanted_form, IsRefused}
 
 -- it is one of the six requests that a file system asks

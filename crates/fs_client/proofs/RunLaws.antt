@@ -10,7 +10,7 @@ use Rattle.tsd_model.specs.Valid.{IsValid}
 use Rattle.tsd_model.specs.declared.requests.Request.{Request}
 use Rattle.fs_trees.specs.Layouts.{IsTidy}
 use Rattle.fs_trees.specs.Outside.{OthersStay}
-use Rattle.fs_trees.specs.Refusals.{Need}
+use Rattle.fs_trees.specs.Refusals.{RoomNeed}
 use Rattle.fs_trees.specs.declared.ask.ShellAsk.{ShellAsk}
 use Rattle.fs_trees.specs.declared.refusal.FsRefusal.{FsRefusal}
 use Rattle.fs_trees.specs.declared.refusal.FsRefusal.TheVariants as no
@@ -186,7 +186,7 @@ others_same root w = record { records = refl; bytes = λ b live away. refl; pair
 left_same : (f : FilesView) (old : DiskView) → IsValid old.world → IsLeft f old old.world
 left_same f old valid = record { valid = valid; geometry = refl; others = others_same f.root old.world }
 
-pub same_room : (n : Need) (w next : World) → next ≡ w → KeepsRoom n w next
+pub same_room : (n : RoomNeed) (w next : World) → next ≡ w → KeepsRoom n w next
 same_room n w next e = subst (KeepsRoom n w) (sym e) (record { blocks = omega arith; pairs = omega arith })
 
 pub as_before : (f : FilesView) (old : DiskView) (a : ShellAsk) (w : World) → IsValid old.world → w ≡ old.world → IsEitherTree f old a w

@@ -20,7 +20,8 @@ use Rattle.fs_laws.specs.Outside.{is_local}
 use Rattle.fs_laws.specs.Stays.{Keeps}
 use Rattle.fs_laws.proofs.OutsideLaws.{outside_stays}
 use Rattle.fs_laws.proofs.NamedLaws.{named_stays}
-use Rattle.fs_laws.specs.Ways.{HoldsWrite, is_steady, writes_through}
+use Rattle.tsd_model.specs.Needs.{is_steady}
+use Rattle.fs_laws.specs.Ways.{HoldsWrite, writes_through}
 use Rattle.fs_laws.proofs.WayLaws.{ways_stay, ways_are_gained}
 use Rattle.fs_port.specs.View.{DiskView, state_of}
 use Rattle.fs_port.specs.Calls.{IsAskCarriedOut, IsEitherSide, IsValidNow, LeavesWorldsOnly}

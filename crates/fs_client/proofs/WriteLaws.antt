@@ -5,10 +5,9 @@ use Rattle.std.specs.Prelude.{is_some}
 use Rattle.tsd_model.specs.Geometry.{block_len}
 use Rattle.tsd_model.specs.World.{World, contents, is_live, is_free}
 use Rattle.tsd_model.specs.Valid.{IsValid}
-use Rattle.tsd_model.specs.Step.{filled}
+use Rattle.tsd_model.specs.Step.{filled, written}
 use Rattle.disk_laws.proofs.ChangeLaws.{contents-other, contents-same}
 use Rattle.disk_laws.proofs.DoomLaws.{live_below}
-use Rattle.fs_client.specs.Steps.{written}
 use Rattle.fs_client.proofs.RunLaws.{clash_free_live}
 
 -- a block has room for the head of an inode or a cluster

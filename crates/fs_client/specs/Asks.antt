@@ -26,25 +26,25 @@ refusal_in (reply.Refused r) = refusal_of r
 refusal_in r = no.NotThisFs
 
 -- what is wanted of a reply, or what it is where it has another form
-abbrev pub bytes_in : Reply → Result (List ℕ) FsRefusal
-bytes_in (reply.Bytes bytes) = Ok bytes
-bytes_in r = Err (refusal_in r)
+abbrev pub bytes_replied : Reply → Result (List ℕ) FsRefusal
+bytes_replied (reply.Bytes bytes) = Ok bytes
+bytes_replied r = Err (refusal_in r)
 
-abbrev pub done_in : Reply → Result (Unit {0}) FsRefusal
-done_in reply.Done = Ok tt
-done_in r = Err (refusal_in r)
+abbrev pub done_replied : Reply → Result (Unit {0}) FsRefusal
+done_replied reply.Done = Ok tt
+done_replied r = Err (refusal_in r)
 
-abbrev pub gone_in : Reply → Result ℕ FsRefusal
-gone_in (reply.Gone gone) = Ok gone
-gone_in r = Err (refusal_in r)
+abbrev pub gone_replied : Reply → Result ℕ FsRefusal
+gone_replied (reply.Gone gone) = Ok gone
+gone_replied r = Err (refusal_in r)
 
-abbrev pub blocks_in : Reply → Result (List ℕ) FsRefusal
-blocks_in (reply.Blocks blocks) = Ok blocks
-blocks_in r = Err (refusal_in r)
+abbrev pub blocks_replied : Reply → Result (List ℕ) FsRefusal
+blocks_replied (reply.Blocks blocks) = Ok blocks
+blocks_replied r = Err (refusal_in r)
 
-abbrev pub targets_in : Reply → Result (List ℕ) FsRefusal
-targets_in (reply.Targets targets) = Ok targets
-targets_in r = Err (refusal_in r)
+abbrev pub targets_replied : Reply → Result (List ℕ) FsRefusal
+targets_replied (reply.Targets targets) = Ok targets
+targets_replied r = Err (refusal_in r)
 
 -- the reply has the form that a request of a file system wants
 abbrev pub has_wanted_form : Request → Reply → Bool

@@ -15,7 +15,7 @@ use Rattle.fs_port.specs.View.{DiskView}
 use Rattle.fs_port.specs.Calls.{IsValidNow}
 use Rattle.fs_port.specs.Files.{FilesView, IsClientReady, tree_on}
 use Rattle.fs_client.specs.declared.client.Client.{Client}
-use Rattle.fs_client.specs.Steps.{written}
+use Rattle.tsd_model.specs.Step.{written}
 use Rattle.fs_client.specs.Trimming.{root_alone}
 
 -- the file system of a client, of this layout, where a tree is mounted

@@ -1,9 +1,8 @@
 -- Whether a block points to what it names.
 use Rattle.std.specs.Prelude.{ℕ, Bool, ◌&&◌, List}
 use Rattle.std.specs.List.{list_all}
-use Rattle.tsd_model.specs.World.{World}
+use Rattle.tsd_model.specs.World.{World, are_apart}
 use Rattle.tsd_model.specs.Pairs.{holds}
-use Rattle.fs_trees.specs.Inode.{are_apart}
 
 -- each of these blocks is pointed to from there, and none stands twice
 abbrev pub are_held : World → ℕ → List ℕ → Bool

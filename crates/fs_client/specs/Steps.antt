@@ -1,11 +1,10 @@
 -- A request that changes the world, of a client that may write there.
-use Rattle.std.specs.Prelude.{◌≡◌, ◌≢◌, ◌<◌, ◌⊎◌, ℕ, true, false, List, length, Option, Result, IfErr, OnOk, IsTrue}
+use Rattle.std.specs.Prelude.{◌≡◌, ◌≢◌, ◌<◌, ◌⊎◌, ℕ, true, false, length, Option, Result, IfErr, OnOk, IsTrue}
 use Rattle.image_device.specs.Counts.{Rose}
-use Rattle.tsd_model.specs.Geometry.{block_len}
 use Rattle.tsd_model.specs.World.{World, is_live, free_count}
 use Rattle.tsd_model.specs.Doomed.{settle}
 use Rattle.tsd_model.specs.Placing.{chosen}
-use Rattle.tsd_model.specs.Step.{filled, with_contents, with_pointer, without_pointer, with_new_blocks}
+use Rattle.tsd_model.specs.Step.{with_pointer, without_pointer, with_new_blocks}
 use Rattle.tsd_model.specs.declared.requests.Hint.TheVariants.{At}
 use Rattle.tsd_model.specs.Valid.{IsValid}
 use Rattle.tsd_model.specs.declared.requests.Request.{Request}
@@ -24,10 +23,6 @@ use Rattle.fs_port.specs.Files.{OnAnswer}
 use Rattle.fs_client.specs.declared.client.Client.{Client}
 
 -- ---- the worlds after them
-
--- the bytes of a block are these, and zeros
-abbrev pub written : World → ℕ → List ℕ → World
-written w b bytes = with_contents w b (filled (block_len w.geometry) bytes)
 
 abbrev pub pointed : World → ℕ → ℕ → World
 pointed w a b = with_pointer w a b

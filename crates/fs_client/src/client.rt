@@ -3,7 +3,8 @@
 ghost use Rattle.std.specs.Prelude.{◌≡◌, false, IfOk};
 ghost use Rattle.tsd_model.specs.declared.replies.Reply.TheVariants as reply;
 ghost use Rattle.fs_port.specs.Calls.{IsAskCarriedOut};
-ghost use Rattle.fs_client.specs.Asks.{refusal_of, bytes_in, done_in, gone_in, blocks_in, targets_in, AsksOnce};
+ghost use Rattle.fs_client.specs.Asks.{refusal_of, bytes_replied, done_replied, gone_replied, blocks_replied};
+ghost use Rattle.fs_client.specs.Asks.{targets_replied, AsksOnce};
 
 use fs_port::Blocks;
 use fs_trees::FsRefusal;
@@ -34,8 +35,8 @@ fn refusal_of(rule: Rule) -> FsRefusal
 }
 
 /// The bytes of a reply, or what it is where they were wanted.
-fn bytes_in(reply: Reply) -> Result<Data, FsRefusal>
-    ensures { result ≡ bytes_in reply }
+fn bytes_replied(reply: Reply) -> Result<Data, FsRefusal>
+    ensures { result ≡ bytes_replied reply }
 {
     match reply {
         Reply::Bytes(bytes) => Ok(bytes),
@@ -45,8 +46,8 @@ fn bytes_in(reply: Reply) -> Result<Data, FsRefusal>
 }
 
 /// Whether it is done, or what the reply is where that was wanted.
-fn done_in(reply: Reply) -> Result<(), FsRefusal>
-    ensures { result ≡ done_in reply }
+fn done_replied(reply: Reply) -> Result<(), FsRefusal>
+    ensures { result ≡ done_replied reply }
 {
     match reply {
         Reply::Done => Ok(()),
@@ -56,8 +57,8 @@ fn done_in(reply: Reply) -> Result<(), FsRefusal>
 }
 
 /// How many blocks are gone, or what the reply is where that was wanted.
-fn gone_in(reply: Reply) -> Result<u32, FsRefusal>
-    ensures { result ≡ gone_in reply }
+fn gone_replied(reply: Reply) -> Result<u32, FsRefusal>
+    ensures { result ≡ gone_replied reply }
 {
     match reply {
         Reply::Gone(gone) => Ok(gone),
@@ -67,8 +68,8 @@ fn gone_in(reply: Reply) -> Result<u32, FsRefusal>
 }
 
 /// The new blocks of a reply, or what it is where they were wanted.
-fn blocks_in(reply: Reply) -> Result<BlockList, FsRefusal>
-    ensures { result ≡ blocks_in reply }
+fn blocks_replied(reply: Reply) -> Result<BlockList, FsRefusal>
+    ensures { result ≡ blocks_replied reply }
 {
     match reply {
         Reply::Blocks(blocks) => Ok(blocks),
@@ -78,8 +79,8 @@ fn blocks_in(reply: Reply) -> Result<BlockList, FsRefusal>
 }
 
 /// The targets of a reply, or what it is where they were wanted.
-fn targets_in(reply: Reply) -> Result<BlockList, FsRefusal>
-    ensures { result ≡ targets_in reply }
+fn targets_replied(reply: Reply) -> Result<BlockList, FsRefusal>
+    ensures { result ≡ targets_replied reply }
 {
     match reply {
         Reply::Targets(targets) => Ok(targets),
@@ -115,7 +116,7 @@ impl Client {
             shown: self.shown(block),
         };
         match disk.ask(&request) {
-            Ok(reply) => bytes_in(reply),
+            Ok(reply) => bytes_replied(reply),
             Err(_) => Err(FsRefusal::Device),
         }
     }
@@ -134,7 +135,7 @@ impl Client {
             bytes,
         };
         match disk.ask(&request) {
-            Ok(reply) => done_in(reply),
+            Ok(reply) => done_replied(reply),
             Err(_) => Err(FsRefusal::Device),
         }
     }
@@ -153,7 +154,7 @@ impl Client {
             target,
         };
         match disk.ask(&request) {
-            Ok(reply) => done_in(reply),
+            Ok(reply) => done_replied(reply),
             Err(_) => Err(FsRefusal::Device),
         }
     }
@@ -177,7 +178,7 @@ impl Client {
             target,
         };
         match disk.ask(&request) {
-            Ok(reply) => gone_in(reply),
+            Ok(reply) => gone_replied(reply),
             Err(_) => Err(FsRefusal::Device),
         }
     }
@@ -202,7 +203,7 @@ impl Client {
             count,
         };
         match disk.ask(&request) {
-            Ok(reply) => blocks_in(reply),
+            Ok(reply) => blocks_replied(reply),
             Err(_) => Err(FsRefusal::Device),
         }
     }
@@ -226,7 +227,7 @@ impl Client {
             start,
         };
         match disk.ask(&request) {
-            Ok(reply) => targets_in(reply),
+            Ok(reply) => targets_replied(reply),
             Err(_) => Err(FsRefusal::Device),
         }
     }

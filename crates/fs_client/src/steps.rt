@@ -15,7 +15,8 @@ ghost use Rattle.fs_port.specs.View.{state_of};
 ghost use Rattle.fs_port.specs.Calls.{IsValidNow};
 ghost use Rattle.fs_client.specs.Client.{write_by, link_by, unlink_by, alloc_by};
 ghost use Rattle.fs_client.specs.May.{MayWrite};
-ghost use Rattle.fs_client.specs.Steps.{Steps, written, pointed, dropped, taken, no_room_in};
+ghost use Rattle.tsd_model.specs.Step.{written};
+ghost use Rattle.fs_client.specs.Steps.{Steps, pointed, dropped, taken, no_room_in};
 
 use crate::client::Client;
 use fs_port::Blocks;

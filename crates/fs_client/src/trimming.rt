@@ -1,9 +1,8 @@
 //! Pairs out of a block that its contents don't name are deleted.
 
 ghost use Rattle.std.specs.Prelude.{◌≡◌, false, IsTrue, OnOk};
-ghost use Rattle.tsd_model.specs.World.{has_number};
+ghost use Rattle.tsd_model.specs.World.{has_number, are_apart};
 ghost use Rattle.tsd_model.specs.Pairs.{holds};
-ghost use Rattle.fs_trees.specs.Inode.{are_apart};
 ghost use Rattle.fs_trees.specs.Layouts.{Named};
 ghost use Rattle.fs_client.specs.Trimming.{MayDelete, Trims, OthersHeld, AreLedTo, AreGone, OnlyNamed};
 

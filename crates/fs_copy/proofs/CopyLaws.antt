@@ -27,7 +27,7 @@ use Rattle.fs_port.specs.Calls.{IsLedTo, IsValidNow, LeavesWorldsOnly, Stays}
 use Rattle.fs_port.specs.Files.{FilesView, IsClientReady, IsEitherTree, IsLeft, OnAnswer, mounted_now, step_on, has_dirs}
 use Rattle.fs_port.specs.Runs.{Looks, IsMade, Runs}
 use Rattle.fs_port.proofs.RunLaws.{leaves_more, on_answer}
-use Rattle.fs_copy.specs.Copies.{refused, IsPartOfCopy, IsRefusedHere, IsAnswered, OnCopyAnswer, SourceStays, CopiesTree, CopyRuns}
+use Rattle.fs_copy.specs.Copies.{copy_refusal, IsPartOfCopy, IsRefusedHere, IsAnswered, OnCopyAnswer, SourceStays, CopiesTree, CopyRuns}
 use Rattle.fs_copy.specs.Counted.{IsCount}
 use Rattle.fs_copy.specs.Going.{tree_under, AreSet, IsSource, IsPartly, IsRefusedAmong, MakesSteps}
 use Rattle.fs_copy.specs.Nesting.{CanHold, CanMake, IsNested, first_dir, first_made}
@@ -114,7 +114,7 @@ module _ (told : Type 0) (g : FilesView) (old new : DiskView) (result : Result (
 
 -- ---- refusals
 
-device_only : (e : FsRefusal) → refused e ≡ no.Device → e ≡ fs.Device
+device_only : (e : FsRefusal) → copy_refusal e ≡ no.Device → e ≡ fs.Device
 device_only fs.Device h = refl
 device_only fs.NotThisFs h = absurd (cc)
 device_only fs.NoEntry h = absurd (cc)
@@ -127,7 +127,7 @@ device_only fs.TooBig h = absurd (cc)
 device_only (fs.Full free wanted) h = absurd (cc)
 device_only (fs.PointersFull held most) h = absurd (cc)
 
-never_fault : (e : FsRefusal) → refused e ≡ no.Into fs.Device → ⊥
+never_fault : (e : FsRefusal) → copy_refusal e ≡ no.Into fs.Device → ⊥
 never_fault fs.Device h = cc
 never_fault fs.NotThisFs h = cc
 never_fault fs.NoEntry h = cc
@@ -140,7 +140,7 @@ never_fault fs.TooBig h = cc
 never_fault (fs.Full free wanted) h = cc
 never_fault (fs.PointersFull held most) h = cc
 
-answered_by : (f g : FilesView) (old new : DiskView) (e : FsRefusal) → (e ≢ fs.Device → IsRefusedHere f g old new e × CanHold g.kind (tree_under f old)) → IsAnswered f g old new (refused e)
+answered_by : (f g : FilesView) (old new : DiskView) (e : FsRefusal) → (e ≢ fs.Device → IsRefusedHere f g old new e × CanHold g.kind (tree_under f old)) → IsAnswered f g old new (copy_refusal e)
 answered_by f g old new fs.Device h = tt
 answered_by f g old new fs.NotThisFs h = h (λ e. cc)
 answered_by f g old new fs.NoEntry h = h (λ e. cc)
@@ -157,8 +157,8 @@ answered_by f g old new (fs.PointersFull held most) h = h (λ e. cc)
 as_ok : (X Y : Type 0) (P : Type 0) (x : X) (y : Y) → OnAnswer {X = X} (Ok x) P → OnCopyAnswer {X = Y} (Ok y) P
 as_ok X Y P x y h = (h.0, tt)
 
-as_err : (X Y : Type 0) (P : Type 0) (e : FsRefusal) → OnAnswer {X = X} (Err e) P → OnCopyAnswer {X = Y} (Err (refused e)) P
-as_err X Y P e h = (tt, λ ne. h.1 (λ d. ne (ap refused d)))
+as_err : (X Y : Type 0) (P : Type 0) (e : FsRefusal) → OnAnswer {X = X} (Err e) P → OnCopyAnswer {X = Y} (Err (copy_refusal e)) P
+as_err X Y P e h = (tt, λ ne. h.1 (λ d. ne (ap copy_refusal d)))
 
 -- ---- steps
 
@@ -258,7 +258,7 @@ module _ (told : Type 0) (f g : FilesView) (old new : DiskView) (sound : told �
             answer = says;
           }
 
-  pub refused_so : {X : Type 0} (e : FsRefusal) → (told → CanHold g.kind t) → (told → OnAnswer {X = X} (Err e) (IsTidy g.kind new.world g.root)) → MakesSteps {X = X} told into old new (copy_steps t) (Err e) → told → CopiesTree f g old new (Err (refused e))
+  pub refused_so : {X : Type 0} (e : FsRefusal) → (told → CanHold g.kind t) → (told → OnAnswer {X = X} (Err e) (IsTidy g.kind new.world g.root)) → MakesSteps {X = X} told into old new (copy_steps t) (Err e) → told → CopiesTree f g old new (Err (copy_refusal e))
   refused_so {X} e holds tidy goes h = record {
     ok = tt;
     err = answered_by f g old new e (λ ne. (refused_here e goes h ne ((tidy h).1 ne), holds h));
@@ -268,7 +268,7 @@ module _ (told : Type 0) (f g : FilesView) (old new : DiskView) (sound : told �
     led = as_err X Copied (IsLedTo old new) e (goes.runs.led h);
   }
 
-  pub refused_runs : {X Y : Type 0} (e : FsRefusal) (P : World → Type 0) → Runs {X = X} told old new P (Err e) → CopyRuns {X = Y} old new (Err (refused e))
+  pub refused_runs : {X Y : Type 0} (e : FsRefusal) (P : World → Type 0) → Runs {X = X} told old new P (Err e) → CopyRuns {X = Y} old new (Err (copy_refusal e))
   refused_runs {X} {Y} e P runs = record {
     stays = as_err X Y (Stays old new) e runs.stays;
     counts = runs.counts;
@@ -321,7 +321,7 @@ module _ (told : Type 0) (f g : FilesView) (old new : DiskView) (sound : told �
   }
 
   -- the look failed
-  pub lost_so : {X : Type 0} (e : FsRefusal) → (told → e ≢ fs.Device → ⊥) → Looks {X = X} told old new (Err e) → told → CopiesTree f g old new (Err (refused e))
+  pub lost_so : {X : Type 0} (e : FsRefusal) → (told → e ≢ fs.Device → ⊥) → Looks {X = X} told old new (Err e) → told → CopiesTree f g old new (Err (copy_refusal e))
   lost_so {X} e only looks h = record {
     ok = tt;
     err = answered_by f g old new e (λ ne. absurd (only h ne));

@@ -10,7 +10,7 @@ use Rattle.fs_trees.specs.declared.refusal.FsRefusal.TheVariants as no
 use Rattle.fs_port.specs.View.{DiskView, IsDiskSound}
 use Rattle.fs_port.specs.Files.{FilesView, Answers, TellsSize}
 use Rattle.fs_port.specs.Runs.{Looks}
-use Rattle.fs_copy.specs.Going.{tree_under, AreSet, MakesSteps, IsFileAt, own_steps, size_of}
+use Rattle.fs_copy.specs.Going.{tree_under, AreSet, MakesSteps, IsFileAt, own_steps, file_size}
 use Rattle.fs_copy.proofs.GoingLaws.{goes_as, then_goes, looked, now_set, same_source}
 use Rattle.fs_copy.proofs.ReadLaws.{size_tells, size_refused}
 
@@ -42,8 +42,8 @@ module _ (told : Type 0) (f h to : FilesView) (same : h ≡ f) (old mid : DiskVi
   pub size_now : told → n ≡ length (bytes_in (at (tree_under h mid) path))
   size_now w = let is = file_is w in is.2 ∙ ap (λ y. length (bytes_in y)) (sym (ap (λ u. at u path) (tree_now w) ∙ is.1))
 
-  pub size_so : told → Some n ≡ size_of (at (tree_under f old) path)
-  size_so w = let is = file_is w in ap (λ k. Some k) is.2 ∙ ap size_of (sym is.1)
+  pub size_so : told → Some n ≡ file_size (at (tree_under f old) path)
+  size_so w = let is = file_is w in ap (λ k. Some k) is.2 ∙ ap file_size (sym is.1)
 
   steps_so : told → file_steps path (bytes_in (at (tree_under h mid) path)) ≡ own_steps path (at (tree_under f old) path)
   steps_so w = let is = file_is w in ap (λ y. file_steps path (bytes_in y)) (ap (λ u. at u path) (tree_now w) ∙ is.1) ∙ ap (own_steps path) (sym is.1)
@@ -60,10 +60,10 @@ module _ (told : Type 0) (f to : FilesView) (old mid : DiskView) (set : AreSet t
   pub refused_dir : told → e ≢ no.Device → (is_dir (at (tree_under f old) path) ≡ true) × (e ≡ no.IsDir)
   refused_dir w ne = size_refused f old set.from_mounted path (there w) e ((answers w).err ne).0
 
-  pub none_so : told → e ≢ no.Device → None ≡ size_of (at (tree_under f old) path)
+  pub none_so : told → e ≢ no.Device → None ≡ file_size (at (tree_under f old) path)
   none_so w ne = by (at (tree_under f old) path) (refused_dir w ne).0
     where
-      by : (y : Tree) → is_dir y ≡ true → None ≡ size_of y
+      by : (y : Tree) → is_dir y ≡ true → None ≡ file_size y
       by nothing k = absurd (cc)
       by (a_file x) k = absurd (cc)
       by (a_dir d es) k = refl

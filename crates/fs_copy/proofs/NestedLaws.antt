@@ -16,7 +16,7 @@ use Rattle.fs_port.specs.Runs.{Looks}
 use Rattle.fs_port.proofs.RunLaws.{on_answer}
 use Rattle.fs_copy.specs.Going.{tree_under, IsSource}
 use Rattle.fs_copy.specs.Nesting.{first_made, first_dir}
-use Rattle.fs_copy.specs.Walk.{inside, behind}
+use Rattle.fs_copy.specs.Walk.{inside, entries_behind}
 use Rattle.fs_copy.proofs.CopyLaws.{source_dir, steps_are}
 use Rattle.fs_copy.proofs.GoingLaws.{ready_still, then_runs, runs_more}
 use Rattle.fs_copy.proofs.NameLaws.{none_behind, stands_next, behind_empty, names_inside, found_named}
@@ -121,25 +121,25 @@ module _ {X : Type 0} (told : Type 0) (f : FilesView) (old new : DiskView) (x : 
 -- the search stands behind this name: no directory stands before it, and so many names may come
 pub record Searched (told : Type 0) (t : Tree) (old now : DiskView) (a : Name) (left : ℕ) : Type 0 where
   pub looks : Looks {X = Unit {0}} told old now (Ok tt)
-  pub first : told → first_dir t ≡ first_made (entry_steps [] (behind a (inside t)))
-  pub few : told → length (names (behind a (inside t))) < left
+  pub first : told → first_dir t ≡ first_made (entry_steps [] (entries_behind a (inside t)))
+  pub few : told → length (names (entries_behind a (inside t))) < left
 
 module _ (t : Tree) (dir : is_dir t ≡ true) (listing : IsNameListing (names_in t)) where
   listed_inside : IsNameListing (names (inside t))
   listed_inside = subst (λ ns. IsNameListing ns) (names_inside t) listing
 
-  at_first : (inside_all : behind [] (inside t) ≡ inside t) → (first_dir t ≡ first_made (entry_steps [] (behind [] (inside t)))) × (length (names (behind [] (inside t))) < names_max + 1)
+  at_first : (inside_all : entries_behind [] (inside t) ≡ inside t) → (first_dir t ≡ first_made (entry_steps [] (entries_behind [] (inside t)))) × (length (names (entries_behind [] (inside t))) < names_max + 1)
   at_first all = (
     ap first_made (steps_are t dir) ∙ ap (λ es. first_made (entry_steps [] es)) (sym all),
     subst (λ es. length (names es) < names_max + 1) (sym all) (omega (arith, listed_inside.2)),
   )
 
-  pub search_first : (first_dir t ≡ first_made (entry_steps [] (behind [] (inside t)))) × (length (names (behind [] (inside t))) < names_max + 1)
+  pub search_first : (first_dir t ≡ first_made (entry_steps [] (entries_behind [] (inside t)))) × (length (names (entries_behind [] (inside t))) < names_max + 1)
   search_first = at_first (behind_empty (inside t) listed_inside.0)
 
   module _ (a : Name) where
     -- none is left
-    pub search_none : above a (names_in t) ≡ None → first_made (entry_steps [] (behind a (inside t))) ≡ None
+    pub search_none : above a (names_in t) ≡ None → first_made (entry_steps [] (entries_behind a (inside t))) ≡ None
     search_none e = ap (λ es. first_made (entry_steps [] es)) (none_behind a (inside t) (ap (above a) (sym (names_inside t)) ∙ e))
 
     module _ (n : Name) (next : above a (names_in t) ≡ Some n) where
@@ -151,7 +151,7 @@ module _ (t : Tree) (dir : is_dir t ≡ true) (listing : IsNameListing (names_in
           by (a_file y) h = absurd (cc)
           by (a_dir d es) h = refl
 
-      stands : (behind a (inside t) ≡ before n (entry n (inside t)) (behind n (inside t))) × (is_there (entry n (inside t)) ≡ true)
+      stands : (entries_behind a (inside t) ≡ before n (entry n (inside t)) (entries_behind n (inside t))) × (is_there (entry n (inside t)) ≡ true)
       stands = stands_next a n (inside t) listed_inside.1 (ap (above a) (sym (names_inside t)) ∙ next)
 
       pub search_there : is_there (at t (n ∷ [])) ≡ true
@@ -161,24 +161,24 @@ module _ (t : Tree) (dir : is_dir t ≡ true) (listing : IsNameListing (names_in
       search_named = path_with [] n refl (found_named a n (names_in t) listing.0 next) (omega arith)
 
       -- it is a directory
-      pub search_dir : is_dir (at t (n ∷ [])) ≡ true → first_made (entry_steps [] (behind a (inside t))) ≡ Some (n ∷ [])
+      pub search_dir : is_dir (at t (n ∷ [])) ≡ true → first_made (entry_steps [] (entries_behind a (inside t))) ≡ Some (n ∷ [])
       search_dir h = ap (λ es. first_made (entry_steps [] es)) stands.0 ∙ by (entry n (inside t)) (ap is_dir (sym at_n) ∙ h)
         where
-          by : (y : Tree) → is_dir y ≡ true → first_made (entry_steps [] (before n y (behind n (inside t)))) ≡ Some (n ∷ [])
+          by : (y : Tree) → is_dir y ≡ true → first_made (entry_steps [] (before n y (entries_behind n (inside t)))) ≡ Some (n ∷ [])
           by nothing k = absurd (cc)
           by (a_file x) k = absurd (cc)
           by (a_dir d es) k = refl
 
       -- it is a file
-      pub search_file : is_dir (at t (n ∷ [])) ≡ false → (first_made (entry_steps [] (behind a (inside t))) ≡ first_made (entry_steps [] (behind n (inside t)))) × (length (names (behind a (inside t))) ≡ suc (length (names (behind n (inside t)))))
+      pub search_file : is_dir (at t (n ∷ [])) ≡ false → (first_made (entry_steps [] (entries_behind a (inside t))) ≡ first_made (entry_steps [] (entries_behind n (inside t)))) × (length (names (entries_behind a (inside t))) ≡ suc (length (names (entries_behind n (inside t)))))
       search_file h = let same = by (entry n (inside t)) stands.1 (ap is_dir (sym at_n) ∙ h) in (
         ap (λ es. first_made (entry_steps [] es)) stands.0 ∙ same.0,
         ap (λ es. length (names es)) stands.0 ∙ same.1,
       )
         where
-          by : (y : Tree) → is_there y ≡ true → is_dir y ≡ false → (first_made (entry_steps [] (before n y (behind n (inside t)))) ≡ first_made (entry_steps [] (behind n (inside t)))) × (length (names (before n y (behind n (inside t)))) ≡ suc (length (names (behind n (inside t)))))
+          by : (y : Tree) → is_there y ≡ true → is_dir y ≡ false → (first_made (entry_steps [] (before n y (entries_behind n (inside t)))) ≡ first_made (entry_steps [] (entries_behind n (inside t)))) × (length (names (before n y (entries_behind n (inside t)))) ≡ suc (length (names (entries_behind n (inside t)))))
           by nothing k j = absurd (cc)
-          by (a_file x) k j = (file_none (n ∷ []) x (entry_steps [] (behind n (inside t))), refl)
+          by (a_file x) k j = (file_none (n ∷ []) x (entry_steps [] (entries_behind n (inside t))), refl)
           by (a_dir d es) k j = absurd (cc)
 
 -- ---- one turn of the search
@@ -246,20 +246,20 @@ module _ (told : Type 0) (f : FilesView) (old now : DiskView) (source : IsSource
     pub searched_on : (new : DiskView) (b : Name) → b ≡ n → 0 < left → Looks {X = Unit {0}} told old new (Ok tt) → (told → is_dir (at u (n ∷ [])) ≡ false) → Searched told u old new b (left - 1)
     searched_on new b same some looks is = record {
       looks = looks;
-      first = λ t. searched.first t ∙ ((search_file u (stands_dir t) (listing_u t) a n (next t) (is t)).0 ∙ ap (λ m. first_made (entry_steps [] (behind m (inside u)))) (sym same));
+      first = λ t. searched.first t ∙ ((search_file u (stands_dir t) (listing_u t) a n (next t) (is t)).0 ∙ ap (λ m. first_made (entry_steps [] (entries_behind m (inside u)))) (sym same));
       few = λ t.
           let one = (search_file u (stands_dir t) (listing_u t) a n (next t) (is t)).1 in
-          omega (arith, searched.few t, one, ap (λ m. length (names (behind m (inside u)))) same, some);
+          omega (arith, searched.few t, one, ap (λ m. length (names (entries_behind m (inside u)))) same, some);
     }
 
 pub searched_first : (told : Type 0) (f : FilesView) (old : DiskView) (source : IsSource told f old) (a : Name) (left : ℕ) → a ≡ [] → left ≡ names_max + 1 → Looks {X = Unit {0}} told old old (Ok tt) → Searched told (tree_under f old) old old a left
 searched_first told f old source a left empty many looks = record {
   looks = looks;
-  first = λ t. subst (λ m. first_dir (tree_under f old) ≡ first_made (entry_steps [] (behind m (inside (tree_under f old))))) (sym empty) (begun t).0;
-  few = λ t. omega (arith, (begun t).1, many, ap (λ m. length (names (behind m (inside (tree_under f old))))) empty);
+  first = λ t. subst (λ m. first_dir (tree_under f old) ≡ first_made (entry_steps [] (entries_behind m (inside (tree_under f old))))) (sym empty) (begun t).0;
+  few = λ t. omega (arith, (begun t).1, many, ap (λ m. length (names (entries_behind m (inside (tree_under f old))))) empty);
 }
   where
-    begun : told → (first_dir (tree_under f old) ≡ first_made (entry_steps [] (behind [] (inside (tree_under f old))))) × (length (names (behind [] (inside (tree_under f old)))) < names_max + 1)
+    begun : told → (first_dir (tree_under f old) ≡ first_made (entry_steps [] (entries_behind [] (inside (tree_under f old))))) × (length (names (entries_behind [] (inside (tree_under f old)))) < names_max + 1)
     begun t = search_first (tree_under f old) (source_dir told f old source t) (listing_of f old [] (source.valid t).valid)
 
 -- there are always names left

@@ -3,7 +3,7 @@ use Rattle.std.proofs.Common.{◌≡◌, ◌+◌, ◌-◌, ◌*◌, ◌^◌, ◌
 use Rattle.std.proofs.lemmas.Grind.{div_ceil_times}
 use Rattle.std.proofs.lemmas.List.{drop-drop}
 use Rattle.std.specs.Int.{div_ceil}
-use Rattle.fs_trees.specs.Copying.{pieces, file_steps}
+use Rattle.fs_trees.specs.Copying.{file_pieces, file_steps}
 use Rattle.fs_trees.specs.Names.{Path}
 use Rattle.fs_trees.specs.declared.ask.ShellAsk.{ShellAsk}
 use Rattle.fs_trees.specs.declared.ask.ShellAsk.TheVariants as ask
@@ -18,7 +18,7 @@ Done = Result (Unit {0}) FsRefusal
 
 -- the pieces from number i on
 abbrev pub pieces_from : Path → ℕ → ℕ → List ℕ → List ShellAsk
-pieces_from path n i x = map (ask.Append path) (pieces (n - i) (drop (i * 4096) x))
+pieces_from path n i x = map (ask.Append path) (file_pieces (n - i) (drop (i * 4096) x))
 
 abbrev pub piece_at : Path → ℕ → List ℕ → ShellAsk
 piece_at path i x = ask.Append path (take 4096 (drop (i * 4096) x))
@@ -30,8 +30,8 @@ pub record UpTo (told : Type 0) (g : FilesView) (old now : DiskView) (path : Pat
   pub rest : told → made ++ pieces_from path n i x ≡ file_steps path x
   pub some : 1 ≤ i
 
-next_piece : (n i : ℕ) (y : List ℕ) → i < n → pieces (n - i) y ≡ take 4096 y ∷ pieces (n - (i + 1)) (drop 4096 y)
-next_piece n i y h = ap (λ k. pieces k y) (one_less n i h)
+next_piece : (n i : ℕ) (y : List ℕ) → i < n → file_pieces (n - i) y ≡ take 4096 y ∷ file_pieces (n - (i + 1)) (drop 4096 y)
+next_piece n i y h = ap (λ k. file_pieces k y) (one_less n i h)
   where
     one_less : (n i : ℕ) → i < n → n - i ≡ suc (n - (i + 1))
     one_less n i h = omega (arith, h)
@@ -39,13 +39,13 @@ next_piece n i y h = ap (λ k. pieces k y) (one_less n i h)
 next_from : (path : Path) (n i : ℕ) (x : List ℕ) → i < n → pieces_from path n i x ≡ piece_at path i x ∷ pieces_from path n (i + 1) x
 next_from path n i x h =
     ap (map (ask.Append path)) (next_piece n i (drop (i * 4096) x) h)
-    ∙ ap (λ y. piece_at path i x ∷ map (ask.Append path) (pieces (n - (i + 1)) y)) (further i x)
+    ∙ ap (λ y. piece_at path i x ∷ map (ask.Append path) (file_pieces (n - (i + 1)) y)) (further i x)
   where
     further : (i : ℕ) (x : List ℕ) → drop 4096 (drop (i * 4096) x) ≡ drop ((i + 1) * 4096) x
     further i x = drop-drop 4096 (i * 4096) x ∙ ap (λ k. drop k x) (omega arith)
 
 none_from : (path : Path) (n i : ℕ) (x : List ℕ) → n ≤ i → pieces_from path n i x ≡ []
-none_from path n i x h = ap (λ k. map (ask.Append path) (pieces k (drop (i * 4096) x))) (none_left n i h)
+none_from path n i x h = ap (λ k. map (ask.Append path) (file_pieces k (drop (i * 4096) x))) (none_left n i h)
   where
     none_left : (n i : ℕ) → n ≤ i → n - i ≡ 0
     none_left n i h = omega (arith, h)
@@ -55,7 +55,7 @@ module _ (told : Type 0) (g : FilesView) (old now : DiskView) (path : Path) (x :
   up_first many goes = record {
     made = ask.Put path (take 4096 x) ∷ [];
     goes = goes;
-    rest = λ t. ap (λ k. ask.Put path (take 4096 x) ∷ map (ask.Append path) (pieces (k - 1) (drop 4096 x))) (many t);
+    rest = λ t. ap (λ k. ask.Put path (take 4096 x) ∷ map (ask.Append path) (file_pieces (k - 1) (drop 4096 x))) (many t);
     some = omega arith;
   }
 

@@ -7,7 +7,7 @@ use Rattle.fs_trees.specs.Answer.{Answer, bytes, listed, refused}
 use Rattle.fs_trees.specs.Layouts.{step_in}
 use Rattle.fs_trees.specs.Names.{Name, Path}
 use Rattle.fs_trees.specs.Needs.{need_of}
-use Rattle.fs_trees.specs.Refusals.{Need, when, first_of, lost_on_the_way, not_mounted, missing, no_file, no_dir}
+use Rattle.fs_trees.specs.Refusals.{RoomNeed, when, first_of, lost_on_the_way, not_mounted, missing, no_file, no_dir}
 use Rattle.fs_trees.specs.Step.{judged, tree_step}
 use Rattle.fs_trees.specs.Tree.{nothing, a_file, a_dir, Tree, at, entry, is_dir, is_file, is_there, names_in, bytes_in}
 use Rattle.fs_trees.specs.declared.ask.ShellAsk.{ShellAsk}
@@ -60,7 +60,7 @@ module _ (t : Tree) (p : Path) (there : is_there (at t p) ≡ true) where
 
 -- ---- the answers
 
-module _ (kind : ShellKind) (g : Geometry) (free held : ℕ) (need : Need) (t : Tree) (p : Path) where
+module _ (kind : ShellKind) (g : Geometry) (free held : ℕ) (need : RoomNeed) (t : Tree) (p : Path) where
   cat_file : (x : List ℕ) → at t p ≡ a_file x → (tree_step kind g t (ask.Cat p) free held need).answer ≡ bytes x
   cat_file x is =
       let first = cat_first t p (ap is_there is) ∙ ap (λ y. first_of (when (is_dir y) no.IsDir ∷ [])) is in

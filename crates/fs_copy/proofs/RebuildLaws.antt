@@ -4,7 +4,7 @@ use Rattle.std.proofs.lemmas.Bool.{and_parts}
 use Rattle.std.proofs.lemmas.Grind.{div_ceil_times}
 use Rattle.std.specs.Int.{div_ceil}
 use Rattle.std.specs.Prelude.{⊤}
-use Rattle.fs_trees.specs.Copying.{pieces, further_pieces, file_steps, entry_steps, copy_steps, after_asks}
+use Rattle.fs_trees.specs.Copying.{file_pieces, further_pieces, file_steps, entry_steps, copy_steps, after_asks}
 use Rattle.fs_trees.specs.Names.{Name, Path, name_lt, is_below_first_name, are_ascending}
 use Rattle.fs_trees.specs.Step.{change, empty_tree}
 use Rattle.fs_trees.specs.Tree.{Entries, none, file, dir, nothing, a_file, a_dir, Tree, child, entry, at, is_there, names, bytes_in, before, with_entry, with_child, with_at}
@@ -165,11 +165,11 @@ module _ (p : Path) (t : Tree) (xs : Entries ⊤ (List ℕ)) (is : at t p ≡ a_
       ap (λ z. with_at (p ++ n ∷ []) (a_file (bytes_in z ++ y)) (grown (a_file x))) (entry_grown (a_file x) refl)
       ∙ put_over (a_file x) (a_file (x ++ y)) refl
 
-  append_all : (k : ℕ) (x y : List ℕ) → length y ≤ k * 4096 → after_asks (grown (a_file x)) (map (ask.Append (p ++ n ∷ [])) (pieces k y)) ≡ grown (a_file (x ++ y))
+  append_all : (k : ℕ) (x y : List ℕ) → length y ≤ k * 4096 → after_asks (grown (a_file x)) (map (ask.Append (p ++ n ∷ [])) (file_pieces k y)) ≡ grown (a_file (x ++ y))
   append_all zero x [] h = ap (λ z. grown (a_file z)) (sym (append-nil x))
   append_all zero x (c ∷ y) h = absurd (omega (arith, h))
   append_all (suc k) x y h =
-      ap (λ t. after_asks t (map (ask.Append (p ++ n ∷ [])) (pieces k (drop 4096 y)))) (append_one x (take 4096 y))
+      ap (λ t. after_asks t (map (ask.Append (p ++ n ∷ [])) (file_pieces k (drop 4096 y)))) (append_one x (take 4096 y))
       ∙ (append_all k (x ++ take 4096 y) (drop 4096 y) (omega (arith, h, length-drop 4096 y))
       ∙ ap (λ z. grown (a_file z)) (append_assoc x (take 4096 y) (drop 4096 y) ∙ ap (λ z. x ++ z) (take-append-drop 4096 y)))
 

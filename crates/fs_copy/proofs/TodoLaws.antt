@@ -6,7 +6,7 @@ use Rattle.std.specs.Prelude.{⊤}
 use Rattle.std.proofs.lemmas.Grind.{div_ceil_times}
 use Rattle.std.specs.Int.{div_ceil}
 use Rattle.std.specs.List.{list_all}
-use Rattle.fs_trees.specs.Copying.{pieces, further_pieces, file_steps, entry_steps}
+use Rattle.fs_trees.specs.Copying.{file_pieces, further_pieces, file_steps, entry_steps}
 use Rattle.fs_trees.specs.Names.{Name, Path, path_max, is_name, is_path, are_ascending}
 use Rattle.fs_trees.specs.Tree.{Entries, none, file, dir, nothing, a_file, a_dir, Tree, child, entry, at, is_dir, is_there, names, names_in, before}
 use Rattle.fs_trees.specs.declared.ask.ShellAsk.{ShellAsk}
@@ -16,7 +16,7 @@ use Rattle.fs_port.specs.Files.{above}
 use Rattle.fs_copy.specs.Counted.{file_count, byte_count}
 use Rattle.fs_copy.specs.Going.{own_steps}
 use Rattle.fs_copy.specs.Nesting.{first_made}
-use Rattle.fs_copy.specs.Walk.{inside, behind, outer, todo, files_made, bytes_made, turns, IsNextName}
+use Rattle.fs_copy.specs.Walk.{inside, entries_behind, outer, todo, files_made, bytes_made, turns, IsNextName}
 use Rattle.fs_copy.proofs.NameLaws.{none_behind, stands_next, behind_empty, names_inside}
 
 -- ---- paths
@@ -52,14 +52,14 @@ path_with p n h k few =
 
 -- ---- where the walk leaves a directory
 
-pub outer_last : (here : Path) (t : Tree) (p : Path) (n : Name) → outer here t (p ++ n ∷ []) ≡ entry_steps (here ++ p) (behind n (inside (at t p))) ++ outer here t p
-outer_last here t [] n = ap (λ q. entry_steps q (behind n (inside t))) (sym (append-nil here)) ∙ sym (append-nil (entry_steps (here ++ []) (behind n (inside t))))
+pub outer_last : (here : Path) (t : Tree) (p : Path) (n : Name) → outer here t (p ++ n ∷ []) ≡ entry_steps (here ++ p) (entries_behind n (inside (at t p))) ++ outer here t p
+outer_last here t [] n = ap (λ q. entry_steps q (entries_behind n (inside t))) (sym (append-nil here)) ∙ sym (append-nil (entry_steps (here ++ []) (entries_behind n (inside t))))
 outer_last here t (m ∷ ms) n =
-    let behind_m = entry_steps here (behind m (inside t)) in
+    let behind_m = entry_steps here (entries_behind m (inside t)) in
     let later = outer (here ++ m ∷ []) (child m t) ms in
     ap (λ s. s ++ behind_m) (outer_last (here ++ m ∷ []) (child m t) ms n)
-    ∙ (append_assoc (entry_steps ((here ++ m ∷ []) ++ ms) (behind n (inside (at (child m t) ms)))) later behind_m
-    ∙ ap (λ q. entry_steps q (behind n (inside (at (child m t) ms))) ++ (later ++ behind_m)) (append_assoc here (m ∷ []) ms))
+    ∙ (append_assoc (entry_steps ((here ++ m ∷ []) ++ ms) (entries_behind n (inside (at (child m t) ms)))) later behind_m
+    ∙ ap (λ q. entry_steps q (entries_behind n (inside (at (child m t) ms))) ++ (later ++ behind_m)) (append_assoc here (m ∷ []) ms))
 
 -- nothing is left in the directory
 pub todo_none : (t : Tree) (p : Path) (a : Name) → above a (names_in (at t p)) ≡ None → todo t p a ≡ outer [] t p
@@ -99,7 +99,7 @@ module _ (t : Tree) (p : Path) (a n : Name) (next : IsNextName t p a n) where
   listed : names_in (at t p) ≡ names es
   listed = names_inside (at t p)
 
-  stands : (behind a es ≡ before n (entry n es) (behind n es)) × (is_there (entry n es) ≡ true)
+  stands : (entries_behind a es ≡ before n (entry n es) (entries_behind n es)) × (is_there (entry n es) ≡ true)
   stands = stands_next a n es (subst (λ ns. are_ascending ns ≡ true) listed next.listing.1) (ap (above a) (sym listed) ∙ next.next)
 
   pub there_now : is_there (at t (p ++ n ∷ [])) ≡ true
@@ -109,19 +109,19 @@ module _ (t : Tree) (p : Path) (a n : Name) (next : IsNextName t p a n) where
   pub todo_enter : (y : Tree) → at t (p ++ n ∷ []) ≡ y → IsNameListing (names_in y) → todo t p a ≡ own_steps (p ++ n ∷ []) y ++ todo t (next_path p n y) (next_after n y)
   todo_enter y is listing =
       let same : entry n es ≡ y = sym there_is ∙ is in
-      ap (λ xs. entry_steps p xs ++ outer [] t p) (stands.0 ∙ ap (λ x. before n x (behind n es)) same) ∙ by y is listing (ap is_there (sym is) ∙ there_now)
+      ap (λ xs. entry_steps p xs ++ outer [] t p) (stands.0 ∙ ap (λ x. before n x (entries_behind n es)) same) ∙ by y is listing (ap is_there (sym is) ∙ there_now)
     where
       R : Entries ⊤ (List ℕ)
-      R = behind n es
+      R = entries_behind n es
 
-      by : (y : Tree) → at t (p ++ n ∷ []) ≡ y → IsNameListing (names_in y) → is_there y ≡ true → entry_steps p (before n y (behind n es)) ++ outer [] t p ≡ own_steps (p ++ n ∷ []) y ++ todo t (next_path p n y) (next_after n y)
+      by : (y : Tree) → at t (p ++ n ∷ []) ≡ y → IsNameListing (names_in y) → is_there y ≡ true → entry_steps p (before n y (entries_behind n es)) ++ outer [] t p ≡ own_steps (p ++ n ∷ []) y ++ todo t (next_path p n y) (next_after n y)
       by nothing is listing h = absurd (cc)
-      by (a_file x) is listing h = append_assoc (file_steps (p ++ n ∷ []) x) (entry_steps p (behind n es)) (outer [] t p)
+      by (a_file x) is listing h = append_assoc (file_steps (p ++ n ∷ []) x) (entry_steps p (entries_behind n es)) (outer [] t p)
       by (a_dir d i) is listing h =
           let q = p ++ n ∷ [] in
-          ap (λ s. ask.MakeDir q ∷ s) (append_assoc (entry_steps q i) (entry_steps p (behind n es)) (outer [] t p)
-          ∙ (ap (λ xs. entry_steps q xs ++ (entry_steps p (behind n es) ++ outer [] t p)) (sym (ap (λ x. behind [] (inside x)) is ∙ behind_empty i listing.0))
-          ∙ ap (λ s. entry_steps q (behind [] (inside (at t q))) ++ s) (sym (outer_last [] t p n))))
+          ap (λ s. ask.MakeDir q ∷ s) (append_assoc (entry_steps q i) (entry_steps p (entries_behind n es)) (outer [] t p)
+          ∙ (ap (λ xs. entry_steps q xs ++ (entry_steps p (entries_behind n es) ++ outer [] t p)) (sym (ap (λ x. entries_behind [] (inside x)) is ∙ behind_empty i listing.0))
+          ∙ ap (λ s. entry_steps q (entries_behind [] (inside (at t q))) ++ s) (sym (outer_last [] t p n))))
 
 -- ---- counts of steps
 
@@ -173,7 +173,7 @@ appends_files : (path : Path) (xs : List (List ℕ)) → files_made (map (ask.Ap
 appends_files path [] = refl
 appends_files path (x ∷ xs) = appends_files path xs
 
-appends_bytes : (path : Path) (n : ℕ) (x : List ℕ) → length x ≤ n * 4096 → bytes_made (map (ask.Append path) (pieces n x)) ≡ length x
+appends_bytes : (path : Path) (n : ℕ) (x : List ℕ) → length x ≤ n * 4096 → bytes_made (map (ask.Append path) (file_pieces n x)) ≡ length x
 appends_bytes path zero x h = let none_left : length x ≡ 0 = omega (arith, h) in sym none_left
 appends_bytes path (suc n) x h =
     let later = appends_bytes path n (drop 4096 x) (omega (arith, h, length-drop 4096 x)) in

@@ -14,7 +14,7 @@ use Rattle.fs_laws.proofs.SizeLaws.{tree_depth}
 use Rattle.fs_port.specs.View.{DiskView}
 use Rattle.fs_port.specs.Files.{FilesView, above, has_dirs}
 use Rattle.fs_copy.specs.Counted.{capped}
-use Rattle.fs_copy.specs.Going.{MakesSteps, own_steps, size_of, tree_under}
+use Rattle.fs_copy.specs.Going.{MakesSteps, own_steps, file_size, tree_under}
 use Rattle.fs_copy.specs.Nesting.{CanMake}
 use Rattle.fs_copy.specs.Walk.{outer, todo, files_made, bytes_made, turns, turns_left, IsNextName, CountsOn, IsCountedOn, WalksOn}
 use Rattle.fs_copy.specs.declared.copied.Copied.{Copied}
@@ -65,7 +65,7 @@ none_counted c qs no_files no_bytes = record {
   bytes = λ n e. e ∙ ap capped (omega (arith, no_bytes));
 }
 
-pub entry_counted : (c d : Copied) (path : Path) (y : Tree) → is_there y ≡ true → IsCountedOn c d (size_of y) → CountsOn c d (own_steps path y)
+pub entry_counted : (c d : Copied) (path : Path) (y : Tree) → is_there y ≡ true → IsCountedOn c d (file_size y) → CountsOn c d (own_steps path y)
 entry_counted c d path nothing h is = absurd (cc)
 entry_counted c d path (a_dir e es) h is = subst (λ k. CountsOn c k (ask.MakeDir path ∷ [])) (sym is) (none_counted c (ask.MakeDir path ∷ []) refl refl)
 entry_counted c d path (a_file x) h is = record {
@@ -147,9 +147,9 @@ module _ (told : Type 0) (g : FilesView) (t : Tree) (old new : DiskView) (p : Pa
   pub entry_lost : (q : Path) (b : Name) (e : FsRefusal) → MakesSteps {X = Bool} told g old new (own_steps (p ++ n ∷ []) y) (Err e) → WalksOn told g t old new p q a b c d (Err e)
   entry_lost q b e goes = record { made = own_steps (p ++ n ∷ []) y; rest = behind_entry t p n; parts = λ h. sym (parts_of h); goes = goes; count = λ h. tt; named = tt; on = λ h. tt; over = λ h. tt }
 
-  module _ (counted : told → IsCountedOn c d (size_of y)) (path : is_path (p ++ n ∷ []) ≡ true) where
+  module _ (counted : told → IsCountedOn c d (file_size y)) (path : is_path (p ++ n ∷ []) ≡ true) where
     -- a directory is entered
-    pub dir_entered : (b : Name) → b ≡ [] → (told → size_of y ≡ None) → MakesSteps told g old new (own_steps (p ++ n ∷ []) y) (Ok true) → WalksOn told g t old new p (p ++ n ∷ []) a b c d (Ok true)
+    pub dir_entered : (b : Name) → b ≡ [] → (told → file_size y ≡ None) → MakesSteps told g old new (own_steps (p ++ n ∷ []) y) (Ok true) → WalksOn told g t old new p (p ++ n ∷ []) a b c d (Ok true)
     dir_entered b empty no_size goes = record {
       made = own_steps (p ++ n ∷ []) y;
       rest = behind_entry t p n;
@@ -166,7 +166,7 @@ module _ (told : Type 0) (g : FilesView) (t : Tree) (old new : DiskView) (p : Pa
       over = λ h never. absurd (cc);
     }
       where
-        is_dir_of : (x : Tree) → is_there x ≡ true → size_of x ≡ None → is_dir x ≡ true
+        is_dir_of : (x : Tree) → is_there x ≡ true → file_size x ≡ None → is_dir x ≡ true
         is_dir_of nothing k e = absurd (cc)
         is_dir_of (a_file z) k e = absurd (cc)
         is_dir_of (a_dir f es) k e = refl
@@ -177,7 +177,7 @@ module _ (told : Type 0) (g : FilesView) (t : Tree) (old new : DiskView) (p : Pa
         place (a_dir f es) k = refl
 
     -- a file is left behind
-    pub file_passed : (q : Path) (b : Name) (more : Bool) (size : ℕ) → Leaves (p ++ n ∷ []) q b more → (told → size_of y ≡ Some size) → MakesSteps told g old new (own_steps (p ++ n ∷ []) y) (Ok more) → WalksOn told g t old new p q a b c d (Ok more)
+    pub file_passed : (q : Path) (b : Name) (more : Bool) (size : ℕ) → Leaves (p ++ n ∷ []) q b more → (told → file_size y ≡ Some size) → MakesSteps told g old new (own_steps (p ++ n ∷ []) y) (Ok more) → WalksOn told g t old new p q a b c d (Ok more)
     file_passed q b more size left some goes = record {
       made = own_steps (p ++ n ∷ []) y;
       rest = behind_entry t p n;
@@ -195,12 +195,12 @@ module _ (told : Type 0) (g : FilesView) (t : Tree) (old new : DiskView) (p : Pa
       over = λ h is. absurd (never_empty p n (left.over is));
     }
       where
-        is_file_of : (x : Tree) → size_of x ≡ Some size → is_dir x ≡ false
+        is_file_of : (x : Tree) → file_size x ≡ Some size → is_dir x ≡ false
         is_file_of nothing e = absurd (cc)
         is_file_of (a_file z) e = refl
         is_file_of (a_dir f es) e = absurd (cc)
 
-        place : (x : Tree) → size_of x ≡ Some size → todo t (next_path p n x) (next_after n x) ≡ todo t p n
+        place : (x : Tree) → file_size x ≡ Some size → todo t (next_path p n x) (next_after n x) ≡ todo t p n
         place nothing e = absurd (cc)
         place (a_file z) e = refl
         place (a_dir f es) e = absurd (cc)

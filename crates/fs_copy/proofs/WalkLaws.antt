@@ -7,13 +7,13 @@ use Rattle.fs_trees.specs.Names.{Name, Path, is_name, is_path}
 use Rattle.fs_trees.specs.Tree.{nothing, a_file, a_dir, Tree, at, is_dir, names_in}
 use Rattle.fs_trees.specs.declared.ask.ShellAsk.{ShellAsk}
 use Rattle.fs_trees.specs.declared.refusal.FsRefusal.{FsRefusal}
-use Rattle.fs_laws.specs.Small.{IsNameListing, entry_count, entries_in}
+use Rattle.fs_laws.specs.Small.{IsNameListing, entry_count, total_entries}
 use Rattle.fs_laws.proofs.SizeLaws.{tree_few}
 use Rattle.fs_port.specs.View.{DiskView, IsDiskSound}
 use Rattle.fs_port.specs.Files.{FilesView}
-use Rattle.fs_copy.specs.Counted.{capped, file_count, byte_count, files_of, bytes_of, IsCount}
+use Rattle.fs_copy.specs.Counted.{capped, file_count, byte_count, total_files, total_bytes, IsCount}
 use Rattle.fs_copy.specs.Going.{tree_under, MakesSteps, IsSource}
-use Rattle.fs_copy.specs.Walk.{inside, behind, todo, files_made, bytes_made, turns, turns_left, WalksOn}
+use Rattle.fs_copy.specs.Walk.{inside, entries_behind, todo, files_made, bytes_made, turns, turns_left, WalksOn}
 use Rattle.fs_copy.specs.declared.copied.Copied.{Copied}
 use Rattle.fs_copy.proofs.CopyLaws.{source_dir}
 use Rattle.fs_copy.proofs.GoingLaws.{goes_as, then_goes, err_as, ok_as}
@@ -32,7 +32,7 @@ pub record Walked (told : Type 0) (g : FilesView) (t : Tree) (old now : DiskView
   pub bytes : told → c.bytes ≡ capped (bytes_made made)
   pub few : told → turns_left t p a < left
 
-entries_inside : (t : Tree) → entries_in t ≡ entry_count (inside t)
+entries_inside : (t : Tree) → total_entries t ≡ entry_count (inside t)
 entries_inside nothing = refl
 entries_inside (a_file x) = refl
 entries_inside (a_dir d es) = refl
@@ -40,9 +40,9 @@ entries_inside (a_dir d es) = refl
 -- at `/`, all are left
 module _ (t : Tree) (listing : IsNameListing (names_in t)) where
   all_left : todo t [] [] ≡ entry_steps [] (inside t)
-  all_left = append-nil (entry_steps [] (behind [] (inside t))) ∙ ap (entry_steps []) (behind_empty (inside t) (ap (list_all is_name) (sym (names_inside t)) ∙ listing.0))
+  all_left = append-nil (entry_steps [] (entries_behind [] (inside t))) ∙ ap (entry_steps []) (behind_empty (inside t) (ap (list_all is_name) (sym (names_inside t)) ∙ listing.0))
 
-  turns_first : (n : ℕ) → entries_in t ≤ n → turns_left t [] [] < 2 * n + 1
+  turns_first : (n : ℕ) → total_entries t ≤ n → turns_left t [] [] < 2 * n + 1
   turns_first n few = omega (arith, few, entries_inside t, ap turns all_left, all_turns [] (inside t))
 
 module _ (told : Type 0) (f g : FilesView) (old : DiskView) (source : IsSource told f old) (sound : told → IsDiskSound old) where
@@ -52,8 +52,8 @@ module _ (told : Type 0) (f g : FilesView) (old : DiskView) (source : IsSource t
   listing : told → IsNameListing (names_in t)
   listing h = listing_of f old [] (source.valid h).valid
 
-  few_entries : told → entries_in t ≤ old.geometry.blocks + names_max
-  few_entries h = subst (λ g. entries_in t ≤ g.blocks + names_max) (sound h).geometry
+  few_entries : told → total_entries t ≤ old.geometry.blocks + names_max
+  few_entries h = subst (λ g. total_entries t ≤ g.blocks + names_max) (sound h).geometry
       (tree_few f.kind old.world f.root (source.valid h).valid (subst (λ g. f.root < g.primaries) (sym (sound h).geometry) source.ready.primary))
 
   pub walked_first : (c : Copied) (left : ℕ) → c.files ≡ 0 → c.bytes ≡ 0 → left ≡ 2 * (old.geometry.blocks + names_max) + 1 → MakesSteps {X = Unit {0}} told g old old [] (Ok tt) → Walked told g t old old [] [] c left
@@ -114,12 +114,12 @@ module _ (told : Type 0) (g : FilesView) (t u : Tree) (old now new : DiskView) (
       bytes = now_bytes h ∙ ap capped (ap bytes_made (all_done is h) ∙ (all_bytes [] (inside t) ∙ bytes_in t dir));
     }
       where
-        files_in : (x : Tree) → is_dir x ≡ true → file_count (inside x) ≡ files_of x
+        files_in : (x : Tree) → is_dir x ≡ true → file_count (inside x) ≡ total_files x
         files_in nothing k = absurd (cc)
         files_in (a_file y) k = absurd (cc)
         files_in (a_dir e es) k = refl
 
-        bytes_in : (x : Tree) → is_dir x ≡ true → byte_count (inside x) ≡ bytes_of x
+        bytes_in : (x : Tree) → is_dir x ≡ true → byte_count (inside x) ≡ total_bytes x
         bytes_in nothing k = absurd (cc)
         bytes_in (a_file y) k = absurd (cc)
         bytes_in (a_dir e es) k = refl

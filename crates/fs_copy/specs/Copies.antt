@@ -21,9 +21,9 @@ use Rattle.fs_copy.specs.declared.refusal.CopyRefusal.{CopyRefusal}
 use Rattle.fs_copy.specs.declared.refusal.CopyRefusal.TheVariants as no
 
 -- what a refusal of a step is to a copy
-abbrev pub refused : FsRefusal → CopyRefusal
-refused fs.Device = no.Device
-refused e = no.Into e
+abbrev pub copy_refusal : FsRefusal → CopyRefusal
+copy_refusal fs.Device = no.Device
+copy_refusal e = no.Into e
 
 -- ---- where the disk tells its world
 

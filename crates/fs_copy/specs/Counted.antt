@@ -13,15 +13,15 @@ byte_count none = 0
 byte_count (file n x rest) = length x + byte_count rest
 byte_count (dir n d inside rest) = byte_count inside + byte_count rest
 
-abbrev pub files_of : Tree → ℕ
-files_of nothing = 0
-files_of (a_file x) = 1
-files_of (a_dir d es) = file_count es
+abbrev pub total_files : Tree → ℕ
+total_files nothing = 0
+total_files (a_file x) = 1
+total_files (a_dir d es) = file_count es
 
-abbrev pub bytes_of : Tree → ℕ
-bytes_of nothing = 0
-bytes_of (a_file x) = length x
-bytes_of (a_dir d es) = byte_count es
+abbrev pub total_bytes : Tree → ℕ
+total_bytes nothing = 0
+total_bytes (a_file x) = length x
+total_bytes (a_dir d es) = byte_count es
 
 -- a count stands still at the greatest number of 64 bits
 abbrev pub capped : ℕ → ℕ
@@ -29,5 +29,5 @@ capped n = min n (2 ^ 64 - 1)
 
 -- the files, and the bytes in them
 pub record IsCount (t : Tree) (c : Copied) : Type 0 where
-  pub files : c.files ≡ capped (files_of t)
-  pub bytes : c.bytes ≡ capped (bytes_of t)
+  pub files : c.files ≡ capped (total_files t)
+  pub bytes : c.bytes ≡ capped (total_bytes t)

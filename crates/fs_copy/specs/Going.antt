@@ -80,7 +80,7 @@ abbrev pub IsFileAt : Tree → Path → Type 0
 IsFileAt t path = (x : List ℕ) × (at t path ≡ a_file x)
 
 -- how many bytes a file has
-abbrev pub size_of : Tree → Option ℕ
-size_of nothing = None
-size_of (a_file x) = Some (length x)
-size_of (a_dir d es) = None
+abbrev pub file_size : Tree → Option ℕ
+file_size nothing = None
+file_size (a_file x) = Some (length x)
+file_size (a_dir d es) = None

@@ -20,19 +20,19 @@ inside (a_file x) = none
 inside (a_dir d es) = es
 
 -- the entries from the first name above this one on
-abbrev pub behind : Name → Entries ⊤ (List ℕ) → Entries ⊤ (List ℕ)
-behind after none = none
-behind after (file n x rest) = cond (name_lt after n) (file n x rest) (behind after rest)
-behind after (dir n d es rest) = cond (name_lt after n) (dir n d es rest) (behind after rest)
+abbrev pub entries_behind : Name → Entries ⊤ (List ℕ) → Entries ⊤ (List ℕ)
+entries_behind after none = none
+entries_behind after (file n x rest) = cond (name_lt after n) (file n x rest) (entries_behind after rest)
+entries_behind after (dir n d es rest) = cond (name_lt after n) (dir n d es rest) (entries_behind after rest)
 
 -- the steps for what stands behind a path, in the directories that lead to it, the innermost first
 abbrev pub outer : Path → Tree → Path → List ShellAsk
 outer here t [] = []
-outer here t (n ∷ ns) = outer (here ++ n ∷ []) (child n t) ns ++ entry_steps here (behind n (inside t))
+outer here t (n ∷ ns) = outer (here ++ n ∷ []) (child n t) ns ++ entry_steps here (entries_behind n (inside t))
 
 -- the steps that are left where the walk is in this directory, behind this name
 abbrev pub todo : Tree → Path → Name → List ShellAsk
-todo t path after = entry_steps path (behind after (inside (at t path))) ++ outer [] t path
+todo t path after = entry_steps path (entries_behind after (inside (at t path))) ++ outer [] t path
 
 -- ---- how many files, bytes and turns these steps stand for
 

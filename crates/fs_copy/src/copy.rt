@@ -6,7 +6,7 @@ ghost use Rattle.fs_laws.specs.Apart.{AreApart};
 ghost use Rattle.fs_port.specs.Calls.{IsValidNow};
 ghost use Rattle.fs_port.specs.Files.{HasTree, IsClientReady, has_dirs, mounted_now};
 ghost use Rattle.fs_port.specs.Runs.{Looks};
-ghost use Rattle.fs_copy.specs.Copies.{CopiesTree, CopyRuns, refused};
+ghost use Rattle.fs_copy.specs.Copies.{CopiesTree, CopyRuns, copy_refusal};
 ghost use Rattle.fs_copy.specs.Going.{IsSource, tree_under};
 ghost use Rattle.fs_copy.specs.Nesting.{first_dir};
 
@@ -18,8 +18,8 @@ use fs_port::{Blocks, Files};
 use fs_trees::{FsRefusal, Path};
 
 /// What a refusal of a step is to a copy.
-fn refused(why: FsRefusal) -> CopyRefusal
-    ensures { result ≡ refused why }
+fn copy_refusal(why: FsRefusal) -> CopyRefusal
+    ensures { result ≡ copy_refusal why }
 {
     match why {
         FsRefusal::Device => CopyRefusal::Device,
@@ -72,7 +72,7 @@ pub fn copy_tree<K: Blocks, A: Files, B: Files>(
 {
     let nested = match nested_dir(disk, from, into) {
         Ok(nested) => nested,
-        Err(why) => return Err(refused(why)),
+        Err(why) => return Err(copy_refusal(why)),
     };
     match nested {
         Some(path) => return Err(CopyRefusal::Nested { path }),
@@ -80,10 +80,10 @@ pub fn copy_tree<K: Blocks, A: Files, B: Files>(
     }
     match into.make(disk) {
         Ok(()) => {}
-        Err(why) => return Err(refused(why)),
+        Err(why) => return Err(copy_refusal(why)),
     }
     match copy_entries(disk, from, into) {
         Ok(copied) => Ok(copied),
-        Err(why) => Err(refused(why)),
+        Err(why) => Err(copy_refusal(why)),
     }
 }

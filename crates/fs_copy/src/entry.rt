@@ -5,7 +5,7 @@ ghost use Rattle.fs_trees.specs.Names.{is_path};
 ghost use Rattle.fs_trees.specs.Tree.{at, is_dir, is_there};
 ghost use Rattle.fs_trees.specs.declared.ask.ShellAsk.TheVariants as ask;
 ghost use Rattle.fs_port.specs.Files.{has_dirs};
-ghost use Rattle.fs_copy.specs.Going.{AreSet, MakesSteps, IsSource, own_steps, size_of, tree_under};
+ghost use Rattle.fs_copy.specs.Going.{AreSet, MakesSteps, IsSource, own_steps, file_size, tree_under};
 
 use crate::pieces::copy_file;
 use fs_port::{Blocks, Files};
@@ -26,7 +26,7 @@ pub fn copy_entry<K: Blocks, A: Files, B: Files>(
         → has_dirs (B.view into.old).kind ≡ true }
     ensures goes { MakesSteps K.told (B.view into.old) (K.view disk.old) (K.view disk.new) (own_steps path.now
         (at (tree_under (A.view from.old) (K.view disk.old)) path.now)) result }
-    ensures told { K.told → IfOk result (λ size. size ≡ size_of (at (tree_under (A.view from.old) (K.view disk.old))
+    ensures told { K.told → IfOk result (λ size. size ≡ file_size (at (tree_under (A.view from.old) (K.view disk.old))
         path.now)) }
     ensures from_same { A.view from.new ≡ A.view from.old }
     ensures into_same { B.view into.new ≡ B.view into.old }

@@ -3,9 +3,8 @@ use Rattle.std.proofs.Common.{◌≡◌, ℕ, suc, ◌+◌, ◌*◌, ◌-◌, �
 use Rattle.std.specs.Prelude.{take, drop}
 use Rattle.std.proofs.lemmas.List.{take_rest}
 use Rattle.byteorder.specs.Endian.{little_number}
-use Rattle.tsd_model.specs.World.{has_number}
+use Rattle.tsd_model.specs.World.{has_number, are_apart}
 use Rattle.fs_trees.specs.Fields.{numbers}
-use Rattle.fs_trees.specs.Inode.{are_apart}
 use Rattle.fs_fields.proofs.PadLaws.{drop-drop}
 
 -- the row from one number on

@@ -3,9 +3,8 @@
 ghost use Rattle.std.specs.Prelude.{◌≡◌, ◌↔◌, ◌≤◌, ◌+◌, ◌*◌, ◌++◌, length, drop, IsOk};
 ghost use Rattle.std.specs.Prelude.{OnOk, OnErr};
 ghost use Rattle.byteorder.specs.Endian.{little_number, little_bytes};
-ghost use Rattle.tsd_model.specs.World.{has_number};
+ghost use Rattle.tsd_model.specs.World.{has_number, are_apart};
 ghost use Rattle.fs_trees.specs.Fields.{numbers};
-ghost use Rattle.fs_trees.specs.Inode.{are_apart};
 
 use byteorder::{ByteOrder, LittleEndian};
 use tsd_model::{Data, ListFull};

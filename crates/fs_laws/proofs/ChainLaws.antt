@@ -5,15 +5,14 @@ use Rattle.std.specs.Prelude.{is_some, flat_map, map, option_map}
 use Rattle.std.specs.Option.{option_and_then}
 use Rattle.std.specs.List.{list_all}
 use Rattle.tsd_model.specs.Geometry.{block_len}
-use Rattle.tsd_model.specs.World.{World, contents, has_number}
+use Rattle.tsd_model.specs.World.{World, contents, has_number, are_apart}
 use Rattle.tsd_model.specs.Pairs.{holds, is_pair}
 use Rattle.tsd_model.proofs.PairLaws.{all_of_held}
 use Rattle.fs_trees.specs.Names.{are_distinct}
 use Rattle.fs_trees.specs.Tree.{is_there}
 use Rattle.fs_trees.specs.Fields.{only_if, Entry}
-use Rattle.fs_trees.specs.Inode.{are_apart}
 use Rattle.fs_trees.specs.Cluster.{Cluster, cluster_in, entries_of, bytes_room}
-use Rattle.fs_trees.specs.ChainTree.{Link, cluster_at, before_rest, link_by, next_of, chain_at, blocks_of, links, is_filled, ChainFile, file_of, file_at, all_there, files_of, files_in, Chains, chain_blocks, chain_pairs, names_max, are_right, with_files, with_directory, chains_under, as_tree, chain_tree}
+use Rattle.fs_trees.specs.ChainTree.{Link, cluster_at, before_rest, chain_by_next, next_of, chain_at, blocks_of, links, is_filled, ChainFile, file_of, file_at, all_there, files_of, files_in, Chains, chain_blocks, chain_pairs, names_max, are_right, with_files, with_directory, chains_under, as_tree, chain_tree}
 use Rattle.fs_trees.specs.Layouts.{Named, by_chains, named_at}
 use Rattle.fs_trees.specs.declared.ask.ShellKind.TheVariants as kind
 use Rattle.fs_laws.specs.Stays.{is_led_to, are_led_to, hang_from, IsUnder, Keeps}
@@ -29,7 +28,7 @@ rest_parts : (l : Link) (o : Option (List Link)) → is_some (before_rest l o) �
 rest_parts l None h = absurd (cc)
 rest_parts l (Some ls) h = (refl, refl)
 
-own_block : (follow : ℕ → Option (List Link)) (b : ℕ) (o : Option Cluster) (n : Option ℕ) → is_some (link_by follow b o n) ≡ true → has_number (found_blocks (link_by follow b o n)) b ≡ true
+own_block : (follow : ℕ → Option (List Link)) (b : ℕ) (o : Option Cluster) (n : Option ℕ) → is_some (chain_by_next follow b o n) ≡ true → has_number (found_blocks (chain_by_next follow b o n)) b ≡ true
 own_block follow b None n h = absurd (cc)
 own_block follow b (Some c) None h = first_in b []
 own_block follow b (Some c) (Some d) h = let parts = rest_parts (record { block = b; cluster = c }) (follow d) h in
@@ -77,7 +76,7 @@ module _ (w next : World) where
   Same bs = (b : ℕ) → has_number bs b ≡ true → contents next b ≡ contents w b
 
   link_same : (follow other : ℕ → Option (List Link)) → ((c : ℕ) → is_some (follow c) ≡ true → Same (found_blocks (follow c)) → other c ≡ follow c)
-      → (b : ℕ) (o : Option Cluster) (n : Option ℕ) → is_some (link_by follow b o n) ≡ true → Same (found_blocks (link_by follow b o n)) → link_by other b o n ≡ link_by follow b o n
+      → (b : ℕ) (o : Option Cluster) (n : Option ℕ) → is_some (chain_by_next follow b o n) ≡ true → Same (found_blocks (chain_by_next follow b o n)) → chain_by_next other b o n ≡ chain_by_next follow b o n
   link_same follow other agree b None n h same = refl
   link_same follow other agree b (Some c) None h same = refl
   link_same follow other agree b (Some c) (Some d) h same =
@@ -90,7 +89,7 @@ module _ (w next : World) where
   chain_same (suc more) b h same =
       let o = cluster_at w b in
       let here : cluster_at next b ≡ cluster_at w b = ap (option_and_then cluster_in) (same b (own_block (λ d. chain_at w more d) b (cluster_at w b) (next_of (cluster_at w b)) h)) in
-      ap (λ x. link_by (λ d. chain_at next more d) b x (next_of x)) here
+      ap (λ x. chain_by_next (λ d. chain_at next more d) b x (next_of x)) here
       ∙ link_same (λ d. chain_at w more d) (λ d. chain_at next more d) (λ c there equal. chain_same more c there equal) b (cluster_at w b) (next_of (cluster_at w b)) h same
 
   module _ (size : next.geometry ≡ w.geometry) where
@@ -296,7 +295,7 @@ all_of_links ds w len (l ∷ ls) h = list-all-append ds (files_of w l (entries_o
     (all_of_links ds w len ls (λ b m. h b (or_right (l.block == b) _ m)))
 
 -- a chain begins with its block
-begins_with_root : (follow : ℕ → Option (List Link)) (b : ℕ) (o : Option Cluster) (n : Option ℕ) (ls : List Link) → link_by follow b o n ≡ Some ls → (bs : List ℕ) × (blocks_of ls ≡ b ∷ bs)
+begins_with_root : (follow : ℕ → Option (List Link)) (b : ℕ) (o : Option Cluster) (n : Option ℕ) (ls : List Link) → chain_by_next follow b o n ≡ Some ls → (bs : List ℕ) × (blocks_of ls ≡ b ∷ bs)
 begins_with_root follow b None n ls e = absurd (cc)
 begins_with_root follow b (Some c) None ls e = let same : record { block = b; cluster = c } ∷ [] ≡ ls = cc in ([], ap blocks_of (sym same))
 begins_with_root follow b (Some c) (Some d) ls e = by_rest (follow d) e

@@ -4,7 +4,7 @@ use Rattle.std.proofs.lemmas.Bool.{and_parts, and_from, or_cases, eq-eqb, eqb-tr
 use Rattle.std.specs.List.{list_all}
 use Rattle.std.specs.Option.{option_and_then}
 use Rattle.tsd_model.specs.Geometry.{block_len}
-use Rattle.tsd_model.specs.World.{World, contents, has_number}
+use Rattle.tsd_model.specs.World.{World, contents, has_number, are_apart}
 use Rattle.tsd_model.specs.Pairs.{holds}
 use Rattle.tsd_model.specs.Step.{with_contents}
 use Rattle.tsd_model.proofs.PairLaws.{all_of_held}
@@ -12,7 +12,7 @@ use Rattle.disk_laws.proofs.ChangeLaws.{contents-other, contents-same}
 use Rattle.fs_trees.specs.Names.{Name, Path, path_max}
 use Rattle.fs_trees.specs.Tree.{nothing, a_dir, at, entry, is_there, with_entry, with_child, with_at}
 use Rattle.fs_trees.specs.Fields.{Entry}
-use Rattle.fs_trees.specs.Inode.{Inode, directory, inode_in, are_apart, with_listed, without_listed}
+use Rattle.fs_trees.specs.Inode.{Inode, directory, inode_in, with_listed, without_listed}
 use Rattle.fs_trees.specs.InodeTree.{InodeNode, InodeEntries, inode_at, entries_by, node_at, inode_blocks, data_blocks, named_pairs, are_right, tree_of, inode_tree}
 use Rattle.fs_laws.proofs.ListLaws.{all_held}
 use Rattle.fs_laws.proofs.InodeLaws.{node_blocks, HasRoot, under_is, tree_same}

@@ -5,13 +5,13 @@ use Rattle.std.specs.Prelude.{is_some, map, take, unwrap_or}
 use Rattle.std.specs.Option.{option_and_then}
 use Rattle.std.specs.List.{list_all}
 use Rattle.tsd_model.specs.Geometry.{block_len}
-use Rattle.tsd_model.specs.World.{World, contents, has_number}
+use Rattle.tsd_model.specs.World.{World, contents, has_number, are_apart}
 use Rattle.tsd_model.specs.Pairs.{holds, is_pair}
 use Rattle.tsd_model.proofs.PairLaws.{all_of_held}
 use Rattle.fs_trees.specs.Names.{Name, path_max}
 use Rattle.fs_trees.specs.Tree.{none, file, dir, nothing, a_file, a_dir, is_there}
 use Rattle.fs_trees.specs.Fields.{Entry}
-use Rattle.fs_trees.specs.Inode.{Inode, directory, regular, inode_in, are_apart}
+use Rattle.fs_trees.specs.Inode.{Inode, directory, regular, inode_in}
 use Rattle.fs_trees.specs.InodeTree.{FileInode, InodeNode, InodeEntries, inode_at, with_first, entries_by, as_dir, node_by, node_at, inode_blocks, data_blocks, named_pairs, are_right, as_root, inodes_under, file_bytes, tree_entries, tree_of, inode_tree}
 use Rattle.fs_trees.specs.Layouts.{Named, by_inodes, named_at}
 use Rattle.fs_trees.specs.declared.ask.ShellKind.TheVariants as kind

@@ -6,7 +6,7 @@ use Rattle.std.specs.Prelude.{flat_map, option_map, ⊤}
 use Rattle.std.specs.List.{list_all}
 use Rattle.std.specs.Option.{option_and_then, option_or}
 use Rattle.tsd_model.specs.Geometry.{IsLawful, block_len}
-use Rattle.tsd_model.specs.World.{World, contents}
+use Rattle.tsd_model.specs.World.{World, contents, are_apart}
 use Rattle.tsd_model.specs.Pairs.{holds}
 use Rattle.tsd_model.specs.declared.geometry.Geometry.{Geometry}
 use Rattle.fs_trees.specs.Names.{Name, Path, path_max, name_lt, is_name, is_below_first_name, are_ascending, are_distinct}
@@ -14,7 +14,7 @@ use Rattle.fs_trees.specs.Tree.{Entries, none, file, dir, Node, nothing, a_file,
 use Rattle.fs_trees.specs.Fields.{only_if, begins_with, Entry, entries, entry_names, all_named, numbers}
 use Rattle.byteorder.specs.Endian.{little_number}
 use Rattle.std.specs.Int.{div_ceil}
-use Rattle.fs_trees.specs.Inode.{Inode, magic, are_apart, data_room, directory, regular, inode_in, of_kind, as_directory, as_regular, ordered, distinct, entries_room}
+use Rattle.fs_trees.specs.Inode.{Inode, magic, data_room, directory, regular, inode_in, of_kind, as_directory, as_regular, ordered, distinct, entries_room}
 use Rattle.fs_trees.specs.InodeTree.{FileInode, InodeNode, InodeEntries, inode_at, with_first, entries_by, as_dir, node_by, node_at, as_root, inodes_under, tree_entries, tree_of, inode_tree}
 use Rattle.fs_trees.specs.InodeTree.{are_right as inodes_right}
 use Rattle.fs_trees.specs.Cluster.{Cluster, entries_of, bytes_room}

@@ -5,13 +5,13 @@ use Rattle.std.proofs.lemmas.Bool.Decides.{nat_tests}
 use Rattle.std.specs.Prelude.{⊤, map, nat_le}
 use Rattle.std.specs.List.{list_all}
 use Rattle.tsd_model.specs.Pairs.{holds}
-use Rattle.tsd_model.specs.World.{World, is_live, has_number}
+use Rattle.tsd_model.specs.World.{World, is_live, has_number, are_apart}
 use Rattle.tsd_model.specs.Valid.{IsValid}
 use Rattle.disk_laws.proofs.DoomLaws.{live_below}
 use Rattle.fs_trees.specs.ChainTree.{ChainFile, chain_bytes, chain_pairs, chain_blocks, names_max, as_tree, tree_of_files, chain_tree}
 use Rattle.fs_trees.specs.ChainTree.{are_right as chains_right}
 use Rattle.fs_trees.specs.Fields.{Entry}
-use Rattle.fs_trees.specs.Inode.{Inode, directory, regular, are_apart, block_named}
+use Rattle.fs_trees.specs.Inode.{Inode, directory, regular, block_named}
 use Rattle.fs_trees.specs.InodeTree.{FileInode, InodeNode, InodeEntries, inode_at, entries_by, as_dir, node_by, node_at, as_root, inode_blocks, data_blocks, named_pairs, tree_entries, tree_of, inode_tree}
 use Rattle.fs_trees.specs.InodeTree.{are_right as inodes_right}
 use Rattle.fs_trees.specs.Layouts.{tree_at, named_at, by_inodes}
@@ -19,7 +19,7 @@ use Rattle.fs_trees.specs.Names.{Name, Path, path_max, name_lt, are_distinct}
 use Rattle.fs_trees.specs.Tree.{Entries, none, file, dir, Node, nothing, a_file, a_dir, entry, child, at, is_there, names, before, with_entry}
 use Rattle.fs_trees.specs.declared.ask.ShellKind.{ShellKind}
 use Rattle.fs_trees.specs.declared.ask.ShellKind.TheVariants.{Inode as ByInodes, Chain as ByChains}
-use Rattle.fs_laws.specs.Small.{entry_count, entries_in}
+use Rattle.fs_laws.specs.Small.{entry_count, total_entries}
 use Rattle.fs_laws.specs.Stays.{IsUnder}
 use Rattle.fs_laws.proofs.ChainLaws.{found as chains_found}
 use Rattle.fs_laws.proofs.CountLaws.{times, apart_times}
@@ -170,19 +170,19 @@ module _ (w : World) where
         (λ b m. live_below w.blocks b (named_live there b (ap (λ (x : InodeNode). has_number (by_inodes x).blocks b) (under_is w root es has) ∙ or_right (root == b) _ (in_front (inode_blocks es) (data_blocks es) b m)))) in
         omega (arith, fits, valid.raw.sized.each_block)
 
-    inodes_few : entries_in (inode_tree w root) ≤ w.geometry.blocks
+    inodes_few : total_entries (inode_tree w root) ≤ w.geometry.blocks
     inodes_few = by_there (is_there (inode_tree w root)) refl
       where
-        not_there : (t : Node ⊤ (List ℕ)) → is_there t ≡ false → entries_in t ≡ 0
+        not_there : (t : Node ⊤ (List ℕ)) → is_there t ≡ false → total_entries t ≡ 0
         not_there nothing h = refl
         not_there (a_file x) h = absurd (cc)
         not_there (a_dir d es) h = absurd (cc)
 
-        by_there : (t : Bool) → is_there (inode_tree w root) ≡ t → entries_in (inode_tree w root) ≤ w.geometry.blocks
+        by_there : (t : Bool) → is_there (inode_tree w root) ≡ t → total_entries (inode_tree w root) ≤ w.geometry.blocks
         by_there false e = omega (arith, not_there (inode_tree w root) e)
         by_there true e =
             let f = inodes_found w root e in
-            let same : entries_in (inode_tree w root) ≡ length (inode_blocks f.0) = ap (λ (x : InodeNode). entries_in (tree_of w x)) (under_is w root f.0 f.1) ∙ counted_tree w f.0 in
+            let same : total_entries (inode_tree w root) ≡ length (inode_blocks f.0) = ap (λ (x : InodeNode). total_entries (tree_of w x)) (under_is w root f.0 f.1) ∙ counted_tree w f.0 in
             omega (arith, same, few_blocks f.0 f.1 e)
 
 -- ---- chains
@@ -232,10 +232,10 @@ chain_depth w root (n ∷ m ∷ ns) h =
     by_tree (a_file x) g = refl
     by_tree (a_dir d es) g = refl
 
-chains_few : (w : World) (root : ℕ) → entries_in (chain_tree w root) ≤ names_max
+chains_few : (w : World) (root : ℕ) → total_entries (chain_tree w root) ≤ names_max
 chains_few w root = by_there (is_there (chain_tree w root)) refl
   where
-    not_there : (t : Node ⊤ (List ℕ)) → is_there t ≡ false → entries_in t ≡ 0
+    not_there : (t : Node ⊤ (List ℕ)) → is_there t ≡ false → total_entries t ≡ 0
     not_there nothing h = refl
     not_there (a_file x) h = absurd (cc)
     not_there (a_dir d es) h = absurd (cc)
@@ -243,13 +243,13 @@ chains_few w root = by_there (is_there (chain_tree w root)) refl
     le_true : (a b : ℕ) → nat_le a b ≡ true → a ≤ b
     le_true a b h = grind (arith, nat_tests)
 
-    by_there : (t : Bool) → is_there (chain_tree w root) ≡ t → entries_in (chain_tree w root) ≤ names_max
+    by_there : (t : Bool) → is_there (chain_tree w root) ≡ t → total_entries (chain_tree w root) ≤ names_max
     by_there false e = omega (arith, not_there (chain_tree w root) e)
     by_there true e =
         let f = chains_found w root e in
         let c = f.chains in
         let few : length c.files ≤ names_max = le_true (length c.files) names_max (and_parts (list_all (λ k. holds w.pairs k.0 k.1) (chain_pairs c) && are_apart (chain_blocks c) && are_distinct (map (λ g. g.name) c.files)) (nat_le (length c.files) names_max) f.right).1 in
-        let same : entries_in (chain_tree w root) ≡ entry_count (tree_of_files c.files) = ap (λ o. entries_in (as_tree o)) f.under in
+        let same : total_entries (chain_tree w root) ≡ entry_count (tree_of_files c.files) = ap (λ o. total_entries (as_tree o)) f.under in
         omega (arith, same, (all_files c.files).1, few)
 
 -- ---- both
@@ -258,6 +258,6 @@ pub tree_depth : (kind : ShellKind) (w : World) (root : ℕ) (p : Path) → is_t
 tree_depth ByInodes w root p h = inode_depth w root p h
 tree_depth ByChains w root p h = chain_depth w root p h
 
-pub tree_few : (kind : ShellKind) (w : World) (root : ℕ) → IsValid w → root < w.geometry.primaries → entries_in (tree_at kind w root) ≤ w.geometry.blocks + names_max
+pub tree_few : (kind : ShellKind) (w : World) (root : ℕ) → IsValid w → root < w.geometry.primaries → total_entries (tree_at kind w root) ≤ w.geometry.blocks + names_max
 tree_few ByInodes w root valid primary = let few = inodes_few w valid root primary in omega (arith, few)
 tree_few ByChains w root valid primary = let few = chains_few w root in omega (arith, few)

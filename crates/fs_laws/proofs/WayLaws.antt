@@ -7,7 +7,7 @@ use Rattle.tsd_model.specs.World.{is_live, primary_blocks}
 use Rattle.tsd_model.specs.Pairs.{holds}
 use Rattle.tsd_model.specs.Sessions.{level_le, greatest, level_from, Fits}
 use Rattle.tsd_model.specs.Attained.{attained_from}
-use Rattle.tsd_model.specs.Needs.{needs}
+use Rattle.tsd_model.specs.Needs.{needs, is_steady}
 use Rattle.tsd_model.specs.Verdict.{is_granted}
 use Rattle.tsd_model.specs.Valid.{IsValid}
 use Rattle.tsd_model.specs.Step.{State}
@@ -24,7 +24,7 @@ use Rattle.disk_laws.proofs.HeldLaws.{le_greater}
 use Rattle.disk_laws.proofs.AttainedLaws.{attained_where}
 use Rattle.disk_laws.proofs.GrantLaws.{answer_level}
 use Rattle.disk_laws.proofs.RunLaws.{run_geometry}
-use Rattle.fs_laws.specs.Ways.{HoldsWrite, attains_write, is_steady, writes_through}
+use Rattle.fs_laws.specs.Ways.{HoldsWrite, attains_write, writes_through}
 
 pub ways_lead_on : (st : State) (s a b : ℕ) (shown : Shown) → st.world.geometry.primaries ≤ b → holds st.world.pairs a b ≡ true → HoldsWrite st s a → attains_write st s b shown ≡ true
 ways_lead_on st s a b shown above pair held = (attained_where st.world st.sessions s b shown level.Write refl).1 (inr (above, (a, held.0, pair, held.1, held.2)))

@@ -19,10 +19,10 @@ entry_count none = 0
 entry_count (file n f rest) = suc (entry_count rest)
 entry_count (dir n d inside rest) = suc (entry_count inside + entry_count rest)
 
-abbrev pub entries_in : {D F : Type 0} → Node D F → ℕ
-entries_in nothing = 0
-entries_in (a_file f) = 0
-entries_in (a_dir d es) = entry_count es
+abbrev pub total_entries : {D F : Type 0} → Node D F → ℕ
+total_entries nothing = 0
+total_entries (a_file f) = 0
+total_entries (a_dir d es) = entry_count es
 
 -- Each directory of a tree lists names.
 abbrev pub TreesListNames : Type 0
@@ -40,4 +40,4 @@ TreesAreNotDeep =
 abbrev pub TreesAreSmall : Type 0
 TreesAreSmall =
     (kind : ShellKind) (w : World) (root : ℕ)
-    → IsValid w → root < w.geometry.primaries → entries_in (tree_at kind w root) ≤ w.geometry.blocks + names_max
+    → IsValid w → root < w.geometry.primaries → total_entries (tree_at kind w root) ≤ w.geometry.blocks + names_max

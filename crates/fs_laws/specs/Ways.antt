@@ -1,11 +1,11 @@
 -- How a session that may write a root gets to write what hangs from it.
-use Rattle.std.specs.Prelude.{ℕ, ◌<◌, ◌≤◌, Bool, true, false, ◌&&◌, ◌==◌, IsTrue}
+use Rattle.std.specs.Prelude.{ℕ, ◌<◌, ◌≤◌, Bool, ◌&&◌, ◌==◌, IsTrue}
 use Rattle.std.specs.List.{list_any}
 use Rattle.tsd_model.specs.World.{is_live}
 use Rattle.tsd_model.specs.Pairs.{holds}
 use Rattle.tsd_model.specs.Sessions.{level_le, level_from, Fits}
 use Rattle.tsd_model.specs.Attained.{attained}
-use Rattle.tsd_model.specs.Needs.{needs}
+use Rattle.tsd_model.specs.Needs.{needs, is_steady}
 use Rattle.tsd_model.specs.Verdict.{is_granted}
 use Rattle.tsd_model.specs.Valid.{IsValid}
 use Rattle.tsd_model.specs.Step.{State}
@@ -15,7 +15,6 @@ use Rattle.tsd_model.specs.declared.caps.Shown.{Shown}
 use Rattle.tsd_model.specs.declared.requests.Level.TheVariants as level
 use Rattle.tsd_model.specs.declared.requests.PlaceKind.{PlaceKind}
 use Rattle.tsd_model.specs.declared.requests.Request.{Request}
-use Rattle.tsd_model.specs.declared.requests.Request.TheVariants as ask
 
 -- the session holds write at the block, from some primary block
 abbrev pub HoldsWrite : State → ℕ → ℕ → Type 0
@@ -24,13 +23,6 @@ HoldsWrite st s a = (o : ℕ) × (o < st.world.geometry.primaries)
 
 abbrev pub attains_write : State → ℕ → ℕ → Shown → Bool
 attains_write st s b shown = level_le level.Write (attained st.world st.sessions s b shown)
-
--- it neither opens nor closes a session, nor sets a capability
-abbrev pub is_steady : Request → Bool
-is_steady (ask.Begin s) = false
-is_steady (ask.End s) = false
-is_steady (ask.SetCap s b shown caps) = false
-is_steady q = true
 
 -- the request needs something at the block, and what it shows attains write there
 abbrev pub writes_through : State → Request → ℕ → ℕ → Bool

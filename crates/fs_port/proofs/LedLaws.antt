@@ -15,7 +15,8 @@ use Rattle.tsd_model.specs.declared.requests.Request.{Request}
 use Rattle.tsd_model.specs.declared.requests.Request.TheVariants as ask
 use Rattle.disk_laws.proofs.GrantLaws.{answer_level}
 use Rattle.disk_laws.proofs.RunLaws.{answer_valid, answer_fits, run_geometry}
-use Rattle.fs_port.specs.Calls.{LeadTo, is_steady}
+use Rattle.tsd_model.specs.Needs.{is_steady}
+use Rattle.fs_port.specs.Calls.{LeadTo}
 use Rattle.fs_port.specs.Led.{LivesOn}
 
 least : (x : Level) → level_le level.Bare x ≡ true

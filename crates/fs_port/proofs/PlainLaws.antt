@@ -2,9 +2,9 @@
 use Rattle.std.proofs.Common.{◌≡◌, ℕ, zero, suc, ◌≤◌, ◌+◌, ◌-◌, ◌==◌, cond, ◌⊎◌, Bool, true, false, List, [], ◌∷◌, ◌++◌, length, drop, refl, sym, ◌∙◌, ap, subst, arith, inl, inr, ⊎_elim, Option, Some, None, length-append}
 use Rattle.std.specs.Prelude.{is_some, option_map, slice_set, slice_index_or}
 use Rattle.tsd_model.specs.World.{World}
-use Rattle.tsd_model.specs.Sessions.{Sessions, Held, held_by, is_open, raised_held, raised, fitted}
+use Rattle.tsd_model.specs.Sessions.{Sessions, Held, held_by, is_open, raised_held, raised_sessions, fitted}
 use Rattle.tsd_model.specs.Attained.{attained_from}
-use Rattle.tsd_model.specs.Needs.{session_of, needs}
+use Rattle.tsd_model.specs.Needs.{session_of, needs, is_steady}
 use Rattle.tsd_model.specs.Step.{State, change, raised_by, raised_at, raised_for, with_pointer, with_contents, with_new_blocks, zeros, run_at}
 use Rattle.tsd_model.specs.Placing.{chosen, chosen_run}
 use Rattle.tsd_model.specs.Run.{answer}
@@ -16,7 +16,7 @@ use Rattle.tsd_model.specs.declared.requests.Request.TheVariants as ask
 use Rattle.tsd_model.proofs.SessionLaws.{held-map}
 use Rattle.disk_laws.proofs.AnswerLaws.{after_answer}
 use Rattle.disk_laws.proofs.FitLaws.{geometry-change, version-change}
-use Rattle.fs_port.specs.Calls.{LeavesWorldsOnly, is_steady}
+use Rattle.fs_port.specs.Calls.{LeavesWorldsOnly}
 use Rattle.fs_port.specs.Plain.{IsOneOf, HadSince, plain_view, none_behind, GoesOn}
 use Rattle.fs_port.specs.declared.plain.PlainBlocks.{PlainBlocks}
 
@@ -73,7 +73,7 @@ open-set f (h ∷ v) zero (suc j) = refl
 open-set f (h ∷ v) (suc i) zero = refl
 open-set f (h ∷ v) (suc i) (suc j) = open-set f v i j
 
-open-raised : (v : Sessions) (s b : ℕ) (from : ℕ → Level) (n : ℕ) → is_open (raised v s b from) n ≡ is_open v n
+open-raised : (v : Sessions) (s b : ℕ) (from : ℕ → Level) (n : ℕ) → is_open (raised_sessions v s b from) n ≡ is_open v n
 open-raised v s b from n =
     elim (s == 0) as (λ z. is_open (cond z v (slice_set v (s - 1) (option_map (raised_held b from) (cond z None (slice_index_or v (s - 1) None))))) n ≡ is_open v n) [
       | true ↦ refl

@@ -14,7 +14,7 @@ use Rattle.fs_trees.specs.Tree.{Tree, nothing, is_there}
 use Rattle.fs_trees.specs.Answer.{Answer, bytes, listed, refused}
 use Rattle.fs_trees.specs.Step.{AskOutcome}
 use Rattle.fs_trees.specs.Needs.{need_of}
-use Rattle.fs_trees.specs.Refusals.{Need}
+use Rattle.fs_trees.specs.Refusals.{RoomNeed}
 use Rattle.fs_trees.specs.Outside.{OthersStay}
 use Rattle.fs_trees.specs.Layouts.{tree_at, named_at, IsTidy, step_in}
 use Rattle.fs_trees.specs.declared.ask.ShellAsk.{ShellAsk}
@@ -63,7 +63,7 @@ abbrev pub step_on : FilesView → DiskView → ShellAsk → AskOutcome
 step_on f v a = step_in f.kind v.world f.root (tree_on f v) a
 
 -- the blocks and pairs that it needs there
-abbrev pub need_on : FilesView → DiskView → ShellAsk → Need
+abbrev pub need_on : FilesView → DiskView → ShellAsk → RoomNeed
 need_on f v a = need_of f.kind v.world f.root (tree_on f v) a
 
 -- The answer is that of the step, and so is the tree afterwards. A refusal leaves the disk as it was, also where
@@ -89,7 +89,7 @@ pub record LeavesTidyWorld (f : FilesView) (old new : DiskView) : Type 0 where
       → IsTrue (has_number (named_at f.kind new.world f.root).blocks b)
 
 -- Room is kept to: no more blocks are taken than this, and no more pairs are added.
-pub record KeepsRoom (need : Need) (w next : World) : Type 0 where
+pub record KeepsRoom (need : RoomNeed) (w next : World) : Type 0 where
   pub blocks : free_count w ≤ free_count next + need.blocks
   pub pairs : length next.pairs ≤ length w.pairs + need.pairs
 

@@ -3,7 +3,8 @@
 ghost use Rattle.std.specs.Prelude.{◌≡◌, true, false, IsTrue, IsOk, IsErr, OnOk, OnErr, IfOk};
 ghost use Rattle.image_device.specs.Counts.{CountsFault};
 ghost use Rattle.fs_port.specs.View.{DiskView, IsDiskSound};
-ghost use Rattle.fs_port.specs.Calls.{Counts, IsAskCarriedOut, IsEitherSide, LeavesWorldsOnly, Stays, is_steady};
+ghost use Rattle.tsd_model.specs.Needs.{is_steady};
+ghost use Rattle.fs_port.specs.Calls.{Counts, IsAskCarriedOut, IsEitherSide, LeavesWorldsOnly, Stays};
 
 use image_device::{Failed, WorkDone};
 use tsd_model::{Geometry, Reply, Request};

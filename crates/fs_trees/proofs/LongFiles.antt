@@ -6,7 +6,7 @@ use Rattle.tsd_model.specs.World.{World}
 use Rattle.tsd_model.specs.Step.{filled}
 use Rattle.tsd_model.specs.Run.{fresh_world}
 use Rattle.fs_trees.specs.Tree.{none, file, a_dir}
-use Rattle.fs_trees.specs.Answer.{done, bytes, free_blocks, refused}
+use Rattle.fs_trees.specs.Answer.{done, bytes, available, refused}
 use Rattle.fs_trees.specs.Layouts.{tree_at, step_at}
 use Rattle.fs_trees.specs.declared.ask.ShellAsk.TheVariants as ask
 use Rattle.fs_trees.specs.declared.ask.ShellKind.TheVariants.{Inode, Chain}
@@ -356,5 +356,5 @@ chains_12_world =
 
 pub chains_12 :
     (tree_at Chain chains_12_world 0 ≡ a_dir tt (file (codes "B") (replicate 497 0x91) none))
-    × ((step_at Chain chains_12_world 0 ask.Df).answer ≡ free_blocks 5)
+    × ((step_at Chain chains_12_world 0 ask.Df).answer ≡ available 5)
 chains_12 = (refl, refl)

@@ -6,7 +6,7 @@ use Rattle.fs_trees.specs.Names.{Name, Path}
 use Rattle.fs_trees.specs.Tree.{none, file, a_dir, Tree}
 use Rattle.fs_trees.specs.Inode.{data_room}
 use Rattle.fs_trees.specs.Cluster.{bytes_room}
-use Rattle.fs_trees.specs.Refusals.{Need, entries_max, too_big}
+use Rattle.fs_trees.specs.Refusals.{RoomNeed, entries_max, too_big}
 use Rattle.fs_trees.specs.Needs.{need, inode_need, clusters_for, chain_need}
 use Rattle.fs_trees.specs.declared.ask.ShellAsk.TheVariants as ask
 use Rattle.fs_trees.specs.declared.ask.ShellKind.TheVariants.{Inode, Chain}
@@ -58,10 +58,10 @@ the_largest_file = refl
 
 -- ---- inodes
 
-abbrev inode_put : ℕ → ℕ → Need
+abbrev inode_put : ℕ → ℕ → RoomNeed
 inode_put k size = inode_need (of k) empty (ask.Put at_a (many size))
 
-abbrev inode_append : ℕ → ℕ → ℕ → Need
+abbrev inode_append : ℕ → ℕ → ℕ → RoomNeed
 inode_append k size more = inode_need (of k) (with_file size) (ask.Append at_a (many more))
 
 -- one inode, and a block for each started length
@@ -86,7 +86,7 @@ pub clusters_of_large_files : clusters_for (of 1) 248000 ∷ clusters_for (of 1)
     ≡ 500 ∷ 5000 ∷ 1 ∷ 1 ∷ 2 ∷ []
 clusters_of_large_files = refl
 
-abbrev chain_append : ℕ → ℕ → Need
+abbrev chain_append : ℕ → ℕ → RoomNeed
 chain_append size more = chain_need (of 1) (with_file size) false (ask.Append at_a (many more))
 
 -- as many clusters as the bytes take, and at least one

@@ -3,7 +3,7 @@ use Rattle.std.specs.Prelude.{◌≡◌, ℕ, zero, suc, ⊤, true, false, List,
 use Rattle.tsd_model.specs.declared.geometry.Geometry.{Geometry}
 use Rattle.fs_trees.specs.Names.{Name, Path, is_name, is_path, name_lt}
 use Rattle.fs_trees.specs.Tree.{Entries, none, file, dir, nothing, a_dir, Tree}
-use Rattle.fs_trees.specs.Answer.{Answer, done, bad, free_blocks, refused}
+use Rattle.fs_trees.specs.Answer.{Answer, done, bad, available, refused}
 use Rattle.fs_trees.specs.Needs.{inode_need}
 use Rattle.fs_trees.specs.Step.{tree_step}
 use Rattle.fs_trees.specs.declared.ask.ShellAsk.{ShellAsk}
@@ -67,7 +67,7 @@ pub nothing_is_mounted :
     ∷ refused no.NotThisFs
     ∷ refused no.NotThisFs
     ∷ done
-    ∷ free_blocks 3
+    ∷ available 3
     ∷ bad
     ∷ []
 nothing_is_mounted = refl

@@ -4,7 +4,7 @@ use Rattle.tsd_model.specs.World.{World}
 use Rattle.tsd_model.specs.Step.{filled}
 use Rattle.tsd_model.specs.Run.{fresh_world}
 use Rattle.fs_trees.specs.Tree.{none, file, dir, nothing, a_dir}
-use Rattle.fs_trees.specs.Answer.{done, bytes, listed, free_blocks, refused}
+use Rattle.fs_trees.specs.Answer.{done, bytes, listed, available, refused}
 use Rattle.fs_trees.specs.Layouts.{tree_at, step_at}
 use Rattle.fs_trees.specs.declared.ask.ShellAsk.TheVariants as ask
 use Rattle.fs_trees.specs.declared.ask.ShellKind.TheVariants.{Inode, Chain}
@@ -131,7 +131,7 @@ case_19 = refl
 abbrev w20 : World
 w20 = world 32 (Some (84 ∷ 83 ∷ 68 ∷ 67 ∷ 72 ∷ 65 ∷ 78 ∷ 49 ∷ 0 ∷ 0 ∷ 0 ∷ 0 ∷ 1 ∷ 0 ∷ 0 ∷ 0 ∷ 1 ∷ 0 ∷ 0 ∷ 0 ∷ 66 ∷ []) ∷ Some (84 ∷ 83 ∷ 68 ∷ 67 ∷ 72 ∷ 65 ∷ 78 ∷ 49 ∷ 0 ∷ 0 ∷ 0 ∷ 0 ∷ 3 ∷ 0 ∷ 0 ∷ 0 ∷ 211 ∷ 211 ∷ 211 ∷ []) ∷ None ∷ None ∷ None ∷ None ∷ None ∷ None ∷ []) ((0, 1) ∷ [])
 
-pub case_20 : (tree_at Chain w20 0 ≡ a_dir tt (file (codes "B") (211 ∷ 211 ∷ 211 ∷ []) none)) × ((step_at Chain w20 0 ask.Df).answer ≡ free_blocks 6)
+pub case_20 : (tree_at Chain w20 0 ≡ a_dir tt (file (codes "B") (211 ∷ 211 ∷ 211 ∷ []) none)) × ((step_at Chain w20 0 ask.Df).answer ≡ available 6)
 case_20 = (refl, refl)
 
 abbrev w21 : World

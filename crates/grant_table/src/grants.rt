@@ -4,7 +4,8 @@ ghost use Rattle.std.specs.Prelude.{◌≡◌, ℕ, ◌-◌, ◌<◌, ◌≤◌,
 ghost use Rattle.std.specs.Prelude.{option_map, slice_index_or, slice_set, IfSome, OnOk, OnErr, IfErr, None, Some};
 ghost use Rattle.std.specs.Prelude.{MatchOption};
 ghost use Rattle.tsd_model.specs.Sessions.{Sessions as AllSessions, no_sessions, held_by, with_held, is_open};
-ghost use Rattle.tsd_model.specs.Sessions.{level_from, level_of, ended, raised, raised_held, dropped_from};
+ghost use Rattle.tsd_model.specs.Sessions.{level_from, greatest_level, session_ended, raised_sessions, raised_held};
+ghost use Rattle.tsd_model.specs.Sessions.{dropped_from};
 ghost use Rattle.tsd_model.specs.declared.requests.Level.{Level as AnyLevel};
 ghost use Rattle.tsd_model.specs.declared.requests.Level.TheVariants as level;
 
@@ -120,7 +121,7 @@ impl Grants {
 
     /// Closes a session, and frees what it took.
     pub fn end(&mut self, session: u32) -> Result<(), EndRefusal>
-        ensures ok { OnOk result (self.new ≡ with_sessions self.old (ended self.old.sessions session)) }
+        ensures ok { OnOk result (self.new ≡ with_sessions self.old (session_ended self.old.sessions session)) }
         ensures granted { OnOk result (end_verdict self.old.sessions session ≡ None) }
         ensures refused { IfErr result (λ r. end_verdict self.old.sessions session ≡ end_rule r) }
         ensures unchanged { OnErr result (self.new ≡ self.old) }
@@ -170,7 +171,7 @@ impl Grants {
 
     /// The greatest level that a session holds at a block, from any primary block.
     pub fn level(&self, session: u32, block: u32) -> Level
-        ensures { result ≡ level_of self.now.sessions session block }
+        ensures { result ≡ greatest_level self.now.sessions session block }
     {
         match self.holding(session) {
             Some(holding) => holding.level(block),
@@ -183,7 +184,7 @@ impl Grants {
     pub fn raise(&mut self, session: u32, block: u32, origins: &Origins)
         ensures { (f : ℕ → AnyLevel) → ((o : ℕ) → o < self.old.primaries
             → f o ≡ slice_index_or origins.now o level.Bare)
-            → self.new ≡ with_sessions self.old (raised self.old.sessions session block f) }
+            → self.new ≡ with_sessions self.old (raised_sessions self.old.sessions session block f) }
     {
         if session == 0 {
             return;

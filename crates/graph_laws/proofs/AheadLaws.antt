@@ -3,10 +3,9 @@ use Rattle.std.proofs.Common.{◌≡◌, ℕ, ◌+◌, Bool, true, false, not, c
 use Rattle.std.proofs.lemmas.Bool.{eq-eqb, eqb-true, ne_eqb, and_parts, and_right, or_from, or_left, or_right, not-true, both_ways, cases_eq, false_from_ne_true}
 use Rattle.std.proofs.lemmas.List.Elements.{filter_agree}
 use Rattle.tsd_model.specs.Pairs.{is_pair, holds, with_pair, count_to}
-use Rattle.tsd_model.specs.World.{World, contents, is_live, is_free, has_number}
+use Rattle.tsd_model.specs.World.{World, contents, is_live, is_free, has_number, are_apart}
 use Rattle.tsd_model.specs.Doomed.{doomed, settle}
 use Rattle.tsd_model.specs.Step.{with_contents, with_pointer, without_pointer, zeros, with_new_blocks}
-use Rattle.disk_laws.specs.Reclaiming.{all_apart}
 use Rattle.tsd_model.proofs.PairLaws.{holds-with_pair}
 use Rattle.disk_laws.proofs.ChangeLaws.{contents-other, new_pair, old_pair}
 use Rattle.graph_laws.proofs.SettleLaws.{none_doomed, led_has_none, none_is_led}
@@ -64,14 +63,14 @@ kept_deleted r a t b out held from = count_deleted (λ e. not (has_number (doome
 -- ---- new blocks of a settled world
 
 -- a new pair to each of these blocks raises its count by one
-pub count-new_blocks : (a : ℕ) (bs : List ℕ) (w : World) → all_apart bs ≡ true → ((b : ℕ) → has_number bs b ≡ true → holds w.pairs a b ≡ false)
+pub count-new_blocks : (a : ℕ) (bs : List ℕ) (w : World) → are_apart bs ≡ true → ((b : ℕ) → has_number bs b ≡ true → holds w.pairs a b ≡ false)
     → (c : ℕ) → count_to (with_new_blocks w a bs).pairs c ≡ cond (has_number bs c) 1 0 + count_to w.pairs c
 count-new_blocks a [] w once new c = zero_more (count_to w.pairs c)
   where
     zero_more : (n : ℕ) → n ≡ 0 + n
     zero_more n = omega arith
 count-new_blocks a (b ∷ bs) w once new c =
-    let parts = and_parts (not (has_number bs b)) (all_apart bs) once in
+    let parts = and_parts (not (has_number bs b)) (are_apart bs) once in
     let out = not-true (has_number bs b) parts.0 in
     let rest = count-new_blocks a bs (with_pointer (with_contents w b (zeros w)) a b) parts.1
     (λ x in_. holds-with_pair (a, b) w.pairs a x ∙ or_from (is_pair a x (a, b)) (holds w.pairs a x)
@@ -105,7 +104,7 @@ free_is_dead w b free = dead (contents w b) (and_parts (nat_lt b (length w.block
     dead (Some x) e = absurd (cc)
 
 -- blocks are allocated where nothing is doomed: nothing is doomed then, and the count of each new block is one more
-pub kept-new_blocks : (w : World) (a : ℕ) (bs : List ℕ) → IsRawGraph w → doomed w ≡ [] → all_apart bs ≡ true → ((b : ℕ) → has_number bs b ≡ true → is_free w b ≡ true)
+pub kept-new_blocks : (w : World) (a : ℕ) (bs : List ℕ) → IsRawGraph w → doomed w ≡ [] → are_apart bs ≡ true → ((b : ℕ) → has_number bs b ≡ true → is_free w b ≡ true)
     → (doomed (with_new_blocks w a bs) ≡ []) × ((c : ℕ) → kept_count (with_new_blocks w a bs) c ≡ cond (has_number bs c) 1 0 + kept_count w c)
 kept-new_blocks w a bs raw none once free = (
   led_has_none now led,

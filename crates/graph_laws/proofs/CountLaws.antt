@@ -6,11 +6,10 @@ use Rattle.std.proofs.lemmas.List.Elements.{filter_agree}
 use Rattle.std.specs.Prelude.{filter}
 use Rattle.std.specs.List.{list_all, range_with_len}
 use Rattle.tsd_model.specs.Pairs.{is_pair, holds, is_rising}
-use Rattle.tsd_model.specs.World.{has_number}
+use Rattle.tsd_model.specs.World.{has_number, are_apart}
 use Rattle.tsd_model.proofs.CountLaws.{count-without_pair}
 use Rattle.tsd_model.proofs.PairLaws.{all_of_held, one_fails}
 use Rattle.tsd_model.proofs.SizeLaws.{length-filter_le}
-use Rattle.disk_laws.specs.Reclaiming.{all_apart}
 use Rattle.disk_laws.proofs.GraphLaws.{has_number-filter, has_number-range, length-range}
 
 -- ---- pairs that pass
@@ -86,13 +85,13 @@ count_but_number p i (suc n) b low high is = elim (cases_eq i b) [
 
 -- ---- numbers below a bound, none twice, are no more than it
 
-marked_fit : (xs : List ℕ) (n : ℕ) → all_apart xs ≡ true → ((b : ℕ) → has_number xs b ≡ true → b < n) → length (filter (has_number xs) (range_with_len 0 n)) ≡ length xs
+marked_fit : (xs : List ℕ) (n : ℕ) → are_apart xs ≡ true → ((b : ℕ) → has_number xs b ≡ true → b < n) → length (filter (has_number xs) (range_with_len 0 n)) ≡ length xs
 marked_fit [] n once below = nothing (range_with_len 0 n)
   where
     nothing : (ys : List ℕ) → length (filter (has_number []) ys) ≡ 0
     nothing [] = refl
     nothing (y ∷ ys) = nothing ys
-marked_fit (x ∷ xs) n once below = let parts = and_parts (not (has_number xs x)) (all_apart xs) once in
+marked_fit (x ∷ xs) n once below = let parts = and_parts (not (has_number xs x)) (are_apart xs) once in
     let within : x < n = below x (or_left (x == x) (has_number xs x) (eq-eqb x x refl)) in
     count_but_number (has_number (x ∷ xs)) 0 n x (omega arith) (omega arith) (or_left (x == x) (has_number xs x) (eq-eqb x x refl))
     ∙ ap suc (ap length (filter_agree (λ y. has_number (x ∷ xs) y && not (y == x)) (has_number xs) (one (not-true (has_number xs x) parts.0)) (range_with_len 0 n))
@@ -108,5 +107,5 @@ marked_fit (x ∷ xs) n once below = let parts = and_parts (not (has_number xs x
         and_true true = refl
         and_true false = refl
 
-pub apart_fits : (xs : List ℕ) (n : ℕ) → all_apart xs ≡ true → ((b : ℕ) → has_number xs b ≡ true → b < n) → length xs ≤ n
+pub apart_fits : (xs : List ℕ) (n : ℕ) → are_apart xs ≡ true → ((b : ℕ) → has_number xs b ≡ true → b < n) → length xs ≤ n
 apart_fits xs n once below = omega (arith, marked_fit xs n once below, length-filter_le (has_number xs) (range_with_len 0 n), length-range 0 n)

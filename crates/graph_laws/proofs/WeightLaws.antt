@@ -9,10 +9,9 @@ use Rattle.std.proofs.lemmas.List.Elements.{filter_agree}
 use Rattle.std.specs.Prelude.{slice_index_or, filter, map, is_none, is_some, count_by}
 use Rattle.std.specs.List.{range_with_len}
 use Rattle.tsd_model.specs.Pairs.{is_pair, holds}
-use Rattle.tsd_model.specs.World.{World, contents, is_live, all_blocks, has_number, free_count}
+use Rattle.tsd_model.specs.World.{World, contents, is_live, all_blocks, has_number, free_count, are_apart}
 use Rattle.tsd_model.specs.Doomed.{hangs_on, doomed_rounds, doomed, settle}
 use Rattle.tsd_model.specs.Step.{without_pointer}
-use Rattle.disk_laws.specs.Reclaiming.{all_apart}
 use Rattle.tsd_model.proofs.PairLaws.{holds-filter}
 use Rattle.disk_laws.proofs.DoomLaws.{live_below}
 use Rattle.graph_laws.specs.Counts.{kept_count, doomed_pairs}
@@ -115,7 +114,7 @@ free_count-with_free w b live =
 
 next_targets : (r : World) (a b : ℕ) (bs : List ℕ) → AreTargets r a (b ∷ bs) → (holds r.pairs a b ≡ true) × AreTargets (without_pointer r a b) a bs
 next_targets r a b bs targets =
-    let apart = and_parts (not (has_number bs b)) (all_apart bs) targets.once in (
+    let apart = and_parts (not (has_number bs b)) (are_apart bs) targets.once in (
       targets.held b (or_left (b == b) (has_number bs b) (eq-eqb b b refl)),
       record {
         held = λ c in_. holds-filter (λ e. not (is_pair a b e)) r.pairs a c ∙ and_from (holds r.pairs a c) (not (is_pair a b (a, c)))

@@ -1,10 +1,9 @@
 -- What the counts of pairs from blocks that stay tell, and how they change.
 use Rattle.std.specs.Prelude.{◌≡◌, ℕ, ◌+◌, ◌==◌, ◌&&◌, ◌||◌, Bool, false, not, cond, List, [], length, filter, IsTrue}
 use Rattle.tsd_model.specs.Pairs.{is_pair, holds, count_to}
-use Rattle.tsd_model.specs.World.{World, is_live, is_free, is_primary, has_number}
+use Rattle.tsd_model.specs.World.{World, is_live, is_free, is_primary, has_number, are_apart}
 use Rattle.tsd_model.specs.Doomed.{doomed, settle}
 use Rattle.tsd_model.specs.Step.{with_pointer, without_pointer, with_new_blocks}
-use Rattle.disk_laws.specs.Reclaiming.{all_apart}
 use Rattle.graph_laws.specs.Counts.{stays, count_where, kept_count, doomed_pairs}
 use Rattle.graph_laws.specs.Marking.{IsMarking, IsMarkingBut, IsCountedOff}
 use Rattle.graph_laws.specs.RawGraph.{IsLaidOut, IsRawGraph}
@@ -31,7 +30,7 @@ CountsAfterCreate =
 abbrev pub CountsAfterAlloc : Type 0
 CountsAfterAlloc =
     (w : World) (a : ℕ) (bs : List ℕ) → IsRawGraph w → doomed w ≡ []
-    → IsTrue (all_apart bs) → ((b : ℕ) → IsTrue (has_number bs b) → IsTrue (is_free w b))
+    → IsTrue (are_apart bs) → ((b : ℕ) → IsTrue (has_number bs b) → IsTrue (is_free w b))
     → (doomed (with_new_blocks w a bs) ≡ [])
     × ((c : ℕ) → kept_count (with_new_blocks w a bs) c ≡ cond (has_number bs c) 1 0 + kept_count w c)
 

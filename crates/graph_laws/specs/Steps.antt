@@ -2,10 +2,9 @@
 use Rattle.std.specs.Prelude.{◌≡◌, ℕ, ◌+◌, ◌≤◌, Bool, true, false, cond, List, [], ◌∷◌, length, filter, slice_set, None}
 use Rattle.std.specs.Prelude.{IsTrue}
 use Rattle.tsd_model.specs.Pairs.{holds}
-use Rattle.tsd_model.specs.World.{World, is_live, has_number, free_count}
+use Rattle.tsd_model.specs.World.{World, is_live, has_number, free_count, are_apart}
 use Rattle.tsd_model.specs.Step.{without_pointer}
 use Rattle.tsd_model.specs.Valid.{IsRaw}
-use Rattle.disk_laws.specs.Reclaiming.{all_apart}
 use Rattle.graph_laws.specs.RawGraph.{IsLaidOut, IsRawGraph}
 
 -- the pairs that pass, and no others
@@ -29,7 +28,7 @@ stepped w a bs false = without_pointers w a bs
 -- A pair to each of these targets is held, and none stands twice.
 pub record AreTargets (w : World) (a : ℕ) (targets : List ℕ) : Type 0 where
   pub held : (b : ℕ) → IsTrue (has_number targets b) → IsTrue (holds w.pairs a b)
-  pub once : IsTrue (all_apart targets)
+  pub once : IsTrue (are_apart targets)
 
 -- Pairs lead neither from the block nor to it.
 pub record IsAlone (w : World) (b : ℕ) : Type 0 where

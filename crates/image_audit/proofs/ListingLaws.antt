@@ -9,7 +9,7 @@ use Rattle.std.proofs.lemmas.Bool.Decides.{nat_tests}
 use Rattle.std.proofs.lemmas.Slice.Eq.{bytes_eq-Decides}
 use Rattle.tsd_model.specs.declared.requests.Hint.{Hint}
 use Rattle.tsd_model.specs.declared.requests.Hint.TheVariants.{Null, At}
-use Rattle.script_text.specs.Grammar.{Field, Name, Number, Near, IsNumber, IsHint, IsField, AreFields}
+use Rattle.script_text.specs.Grammar.{Field, Verb, Number, Near, IsNumber, IsHint, IsField, AreFields}
 use Rattle.script_text.specs.Pieces.{pieces}
 use Rattle.script_text.specs.Reading.{reads, num_of, hint_of, Words, ◌>>=◌}
 use Rattle.script_text.proofs.PiecesLaws.{join-pieces, pieces-join, lacks, take_all}
@@ -18,17 +18,17 @@ use Rattle.script_text.proofs.WordLaws.{are_digits, num_is, num_back, hint_is, h
 use Rattle.image_audit.specs.declared.entry.Entry.{Entry}
 use Rattle.image_audit.specs.declared.listing.Listing.{Listing}
 use Rattle.image_audit.specs.Listing.{parent_word, listing_fields, IsListing, IsAdded, ListsNone, IsListingTaken, IsNotTaken, MayFollow, IsNextBlock}
-use Rattle.image_audit.specs.ListingReading.{name_of, block_in, parent_of, if_last, listing_in, listing_of}
+use Rattle.image_audit.specs.ListingReading.{keyword, block_in, parent_of, if_last, listing_in, listing_of}
 
 -- ---- what one word says
 
-name_is : (name w : List ℕ) (t : Unit {0}) → name_of name w ≡ Some t → w ≡ name
+name_is : (name w : List ℕ) (t : Unit {0}) → keyword name w ≡ Some t → w ≡ name
 name_is name w t h = elim (bytes_eq w name) as (λ u. bytes_eq w name ≡ u → cond u (Some tt) None ≡ Some t → w ≡ name) [
   | true ↦ λ e _. (bytes_eq-Decides w name).0 e
   | false ↦ λ _ k. absurd (cc)
 ] refl h
 
-name_back : (name w : List ℕ) → w ≡ name → name_of name w ≡ Some tt
+name_back : (name w : List ℕ) → w ≡ name → keyword name w ≡ Some tt
 name_back name w h = ap (λ t. cond t (Some tt) None) ((bytes_eq-Decides w name).1 h)
 
 word_of : (h : Hint) → parent_word (block_in h) ≡ h
@@ -83,31 +83,31 @@ last_back (w ∷ ws) x h = absurd h
 listing_is : (ws : Words) (l : Listing) → listing_in ws ≡ Some l → AreFields (listing_fields l) ws
 unfolding listing_in
 listing_is ws l h =
-    let n = bound (reads (name_of (codes "block")) ws) _ l h in
+    let n = bound (reads (keyword (codes "block")) ws) _ l h in
     let b = bound (reads num_of n.0.1) _ l n.2 in
-    let m = bound (reads (name_of (codes "depth")) b.0.1) _ l b.2 in
+    let m = bound (reads (keyword (codes "depth")) b.0.1) _ l b.2 in
     let d = bound (reads num_of m.0.1) _ l m.2 in
-    let o = bound (reads (name_of (codes "parent")) d.0.1) _ l d.2 in
+    let o = bound (reads (keyword (codes "parent")) d.0.1) _ l d.2 in
     let p = bound (reads parent_of o.0.1) _ l o.2 in
     let read : Listing = record { block = b.0.0; entry = record { depth = d.0.0; parent = p.0.0 } } in
     let last = last_is p.0.1 read l p.2 in
     subst (λ x. AreFields (listing_fields x) ws) last.0
-    (word_is (name_of (codes "block")) (λ _. Name (codes "block")) (Number b.0.0 ∷ Name (codes "depth") ∷ Number d.0.0 ∷ Name (codes "parent") ∷ Near (parent_word p.0.0) ∷ []) ws n.0 (name_is (codes "block")) n.1
-    (word_is num_of (λ x. Number x) (Name (codes "depth") ∷ Number d.0.0 ∷ Name (codes "parent") ∷ Near (parent_word p.0.0) ∷ []) n.0.1 b.0 num_is b.1
-    (word_is (name_of (codes "depth")) (λ _. Name (codes "depth")) (Number d.0.0 ∷ Name (codes "parent") ∷ Near (parent_word p.0.0) ∷ []) b.0.1 m.0 (name_is (codes "depth")) m.1
-    (word_is num_of (λ x. Number x) (Name (codes "parent") ∷ Near (parent_word p.0.0) ∷ []) m.0.1 d.0 num_is d.1
-    (word_is (name_of (codes "parent")) (λ _. Name (codes "parent")) (Near (parent_word p.0.0) ∷ []) d.0.1 o.0 (name_is (codes "parent")) o.1
+    (word_is (keyword (codes "block")) (λ _. Verb (codes "block")) (Number b.0.0 ∷ Verb (codes "depth") ∷ Number d.0.0 ∷ Verb (codes "parent") ∷ Near (parent_word p.0.0) ∷ []) ws n.0 (name_is (codes "block")) n.1
+    (word_is num_of (λ x. Number x) (Verb (codes "depth") ∷ Number d.0.0 ∷ Verb (codes "parent") ∷ Near (parent_word p.0.0) ∷ []) n.0.1 b.0 num_is b.1
+    (word_is (keyword (codes "depth")) (λ _. Verb (codes "depth")) (Number d.0.0 ∷ Verb (codes "parent") ∷ Near (parent_word p.0.0) ∷ []) b.0.1 m.0 (name_is (codes "depth")) m.1
+    (word_is num_of (λ x. Number x) (Verb (codes "parent") ∷ Near (parent_word p.0.0) ∷ []) m.0.1 d.0 num_is d.1
+    (word_is (keyword (codes "parent")) (λ _. Verb (codes "parent")) (Near (parent_word p.0.0) ∷ []) d.0.1 o.0 (name_is (codes "parent")) o.1
     (word_is parent_of (λ x. Near (parent_word x)) [] o.0.1 p.0 parent_is p.1 last.1))))))
 
 -- what is spelled so is read
 listing_back : (ws : Words) (l : Listing) → AreFields (listing_fields l) ws → listing_in ws ≡ Some l
 unfolding listing_in
 listing_back ws l h =
-    let n = word_back (name_of (codes "block")) tt (Name (codes "block")) (Number l.block ∷ Name (codes "depth") ∷ Number l.entry.depth ∷ Name (codes "parent") ∷ Near (parent_word l.entry.parent) ∷ []) ws (name_back (codes "block")) h in
-    let b = word_back num_of l.block (Number l.block) (Name (codes "depth") ∷ Number l.entry.depth ∷ Name (codes "parent") ∷ Near (parent_word l.entry.parent) ∷ []) n.0 (λ w g. num_back w l.block g) n.2 in
-    let m = word_back (name_of (codes "depth")) tt (Name (codes "depth")) (Number l.entry.depth ∷ Name (codes "parent") ∷ Near (parent_word l.entry.parent) ∷ []) b.0 (name_back (codes "depth")) b.2 in
-    let d = word_back num_of l.entry.depth (Number l.entry.depth) (Name (codes "parent") ∷ Near (parent_word l.entry.parent) ∷ []) m.0 (λ w g. num_back w l.entry.depth g) m.2 in
-    let o = word_back (name_of (codes "parent")) tt (Name (codes "parent")) (Near (parent_word l.entry.parent) ∷ []) d.0 (name_back (codes "parent")) d.2 in
+    let n = word_back (keyword (codes "block")) tt (Verb (codes "block")) (Number l.block ∷ Verb (codes "depth") ∷ Number l.entry.depth ∷ Verb (codes "parent") ∷ Near (parent_word l.entry.parent) ∷ []) ws (name_back (codes "block")) h in
+    let b = word_back num_of l.block (Number l.block) (Verb (codes "depth") ∷ Number l.entry.depth ∷ Verb (codes "parent") ∷ Near (parent_word l.entry.parent) ∷ []) n.0 (λ w g. num_back w l.block g) n.2 in
+    let m = word_back (keyword (codes "depth")) tt (Verb (codes "depth")) (Number l.entry.depth ∷ Verb (codes "parent") ∷ Near (parent_word l.entry.parent) ∷ []) b.0 (name_back (codes "depth")) b.2 in
+    let d = word_back num_of l.entry.depth (Number l.entry.depth) (Verb (codes "parent") ∷ Near (parent_word l.entry.parent) ∷ []) m.0 (λ w g. num_back w l.entry.depth g) m.2 in
+    let o = word_back (keyword (codes "parent")) tt (Verb (codes "parent")) (Near (parent_word l.entry.parent) ∷ []) d.0 (name_back (codes "parent")) d.2 in
     let p = word_back parent_of l.entry.parent (Near (parent_word l.entry.parent)) [] o.0 (λ w g. parent_back w l.entry.parent g) o.2 in
     bind_some _ _ _ _ n.1 (bind_some _ _ _ _ b.1 (bind_some _ _ _ _ m.1 (bind_some _ _ _ _ d.1 (bind_some _ _ _ _ o.1 (bind_some _ _ _ _ p.1 (last_back p.0 l p.2))))))
 

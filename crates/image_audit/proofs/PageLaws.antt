@@ -12,7 +12,7 @@ use Rattle.pointer_table.proofs.SlotLaws.{rising-pairs_in}
 use Rattle.image_world.specs.Tables.{Tables, pairs_of}
 use Rattle.image_world.specs.Raw.{world_with, left_of, blank_of}
 use Rattle.image_audit.specs.declared.targets.Targets.{Targets}
-use Rattle.image_audit.specs.Paging.{targets_on, left_of as left_in, IsPageOf, HasRest}
+use Rattle.image_audit.specs.Paging.{targets_on, page_rest as left_in, IsPageOf, HasRest}
 
 -- the pairs that a volume tells ascend
 pub told_rising : (t : Tables) → is_rising (blank_of t).pairs ≡ true

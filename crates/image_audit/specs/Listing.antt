@@ -4,7 +4,7 @@ use Rattle.std.specs.Prelude.{IsTrue}
 use Rattle.std.specs.List.{join_with_byte}
 use Rattle.tsd_model.specs.declared.requests.Hint.{Hint}
 use Rattle.tsd_model.specs.declared.requests.Hint.TheVariants.{Null, At}
-use Rattle.script_text.specs.Grammar.{Field, Name, Number, Near, AreFields}
+use Rattle.script_text.specs.Grammar.{Field, Verb, Number, Near, AreFields}
 use Rattle.image_audit.specs.declared.entry.Entry.{Entry}
 use Rattle.image_audit.specs.declared.listing.Listing.{Listing}
 use Rattle.image_audit.specs.Entries.{entry_at, is_listed}
@@ -17,8 +17,8 @@ parent_word (Some a) = At a
 -- what the words of a line are: `block`, the block, `depth`, its depth, `parent`, its parent
 abbrev pub listing_fields : Listing → List Field
 listing_fields l =
-    Name (codes "block") ∷ Number l.block ∷ Name (codes "depth") ∷ Number l.entry.depth
-    ∷ Name (codes "parent") ∷ Near (parent_word l.entry.parent) ∷ []
+    Verb (codes "block") ∷ Number l.block ∷ Verb (codes "depth") ∷ Number l.entry.depth
+    ∷ Verb (codes "parent") ∷ Near (parent_word l.entry.parent) ∷ []
 
 -- what a certificate with these entries says of block b, if it is listed
 abbrev pub listing_at : List (Option Entry) → ℕ → Option Listing

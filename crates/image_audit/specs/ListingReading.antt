@@ -6,8 +6,8 @@ use Rattle.script_text.specs.Pieces.{pieces}
 use Rattle.script_text.specs.Reading.{◌>>=◌, reads, num_of, hint_of}
 use Rattle.image_audit.specs.declared.listing.Listing.{Listing}
 
-abbrev pub name_of : List ℕ → List ℕ → Option (Unit {0})
-name_of name w = cond (bytes_eq w name) (Some tt) None
+abbrev pub keyword : List ℕ → List ℕ → Option (Unit {0})
+keyword name w = cond (bytes_eq w name) (Some tt) None
 
 -- a block, or none
 abbrev pub block_in : Hint → Option ℕ
@@ -23,11 +23,11 @@ if_last (w ∷ ws) l = None
 
 unfoldable pub listing_in : List (List ℕ) → Option Listing
 listing_in ws = do
-  n ← reads (name_of (codes "block")) ws
+  n ← reads (keyword (codes "block")) ws
   b ← reads num_of n.1
-  m ← reads (name_of (codes "depth")) b.1
+  m ← reads (keyword (codes "depth")) b.1
   d ← reads num_of m.1
-  o ← reads (name_of (codes "parent")) d.1
+  o ← reads (keyword (codes "parent")) d.1
   p ← reads parent_of o.1
   if_last p.1 (record { block = b.0; entry = record { depth = d.0; parent = p.0 } })
 

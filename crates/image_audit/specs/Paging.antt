@@ -7,16 +7,16 @@ abbrev pub targets_on : List (ℕ × ℕ) → ℕ → ℕ → List ℕ
 targets_on es a from = map (λ e. e.1) (filter (λ e. (e.0 == a) && nat_le from e.1) es)
 
 -- of what was read this wasn't handed out
-abbrev pub left_of : Targets → List ℕ
-left_of t = drop t.position t.page
+abbrev pub page_rest : Targets → List ℕ
+page_rest t = drop t.position t.page
 
 -- it is the first ones of the targets that weren't handed out
 pub record IsPageOf (es : List (ℕ × ℕ)) (t : Targets) : Type 0 where
   pub many : ℕ
-  pub first : left_of t ≡ take many (targets_on es t.source t.from)
+  pub first : page_rest t ≡ take many (targets_on es t.source t.from)
   pub position : t.position ≤ length t.page
 
 -- and there is one, unless all were handed out
 pub record HasRest (es : List (ℕ × ℕ)) (t : Targets) : Type 0 where
   pub page : IsPageOf es t
-  pub some : left_of t ≡ [] → targets_on es t.source t.from ≡ []
+  pub some : page_rest t ≡ [] → targets_on es t.source t.from ≡ []

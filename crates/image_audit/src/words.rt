@@ -4,7 +4,7 @@ ghost use Rattle.std.specs.Prelude.{◌≡◌, ◌↔◌, ◌==◌, [], ◌∷�
 ghost use Rattle.std.specs.Prelude.{position};
 ghost use Rattle.script_text.specs.Pieces.{pieces, words_left};
 ghost use Rattle.script_text.specs.Reading.{reads, num_of};
-ghost use Rattle.image_audit.specs.ListingReading.{name_of, parent_of};
+ghost use Rattle.image_audit.specs.ListingReading.{keyword, parent_of};
 
 use script_text::fields::{parse_hint, parse_number};
 use std::marker::Model;
@@ -57,7 +57,7 @@ impl<'a> Words<'a> {
 
     /// The next word, where it is this name.
     pub(crate) fn name(&mut self, name: &[u8]) -> Option<()>
-        ensures { MatchOption result (reads (name_of name.now) self.old ≡ None) (λ n. reads (name_of name.now) self.old
+        ensures { MatchOption result (reads (keyword name.now) self.old ≡ None) (λ n. reads (keyword name.now) self.old
             ≡ Some (n, self.new)) }
     {
         let word = self.next()?;

@@ -28,8 +28,8 @@ use Rattle.tsd_words.specs.declared.status.Status.TheVariants as status
 use Rattle.shell_server.specs.Shell.{tree_under}
 use Rattle.image_copy.specs.declared.ending.CopyEnd.TheVariants as end
 use Rattle.image_copy.specs.Lines.{HasWords}
-use Rattle.image_copy.specs.Ends.{EndsAs, IsMounted, IsTrimmed, IsUnderWay, SourceStays}
-use Rattle.image_copy.specs.Steps.{CopiesBetween, end_of, unmounted_end}
+use Rattle.image_copy.specs.Ends.{EndsAs, IsSourceMounted, IsTrimmed, IsUnderWay, SourceStays}
+use Rattle.image_copy.specs.Steps.{CopiesBetween, copy_end, unmounted_end}
 use Rattle.image_copy.proofs.TrimLaws.{apart_back, same_tree, still_apart}
 
 -- ---- whatever mounting answers
@@ -113,7 +113,7 @@ module _ (told : Type 0) (f g : FilesView) (old : DiskView) (was_apart : told �
     pub apart_then : told → AreApart mid.world f.root g.root
     apart_then t = apart_back mid.world g.root f.root (still_apart start mid.world g.root f.root (valid t).valid (valid_then t) (size t) (here t) (apart_back start f.root g.root (was_apart t)) ((finds t).world.0).others)
 
-    is_mounted : told → IsMounted f g start mid.world
+    is_mounted : told → IsSourceMounted f g start mid.world
     is_mounted t = record {
       trimmed = trimmed_by t mid.world (valid_then t) (size t) (finds t).tree (finds t).deletes ((finds t).world.0).others;
       there = (finds t).there;
@@ -155,7 +155,7 @@ module _ (told : Type 0) (f g : FilesView) (old : DiskView) (was_apart : told �
       still_holds : told → CanHold g.kind (tree_at f.kind mid.world f.root) → CanHold g.kind (tree_under f start)
       still_holds t = subst (λ (u : Tree). CanHold g.kind u) (finds t).tree
 
-      ends_by : (t : told) (r : Result Copied CopyRefusal) → CopiesTree (mounted_now f) g mid new r → CopyRuns mid new r → IfOk (end_of r) (λ e. EndsAs f g start e new.world)
+      ends_by : (t : told) (r : Result Copied CopyRefusal) → CopiesTree (mounted_now f) g mid new r → CopyRuns mid new r → IfOk (copy_end r) (λ e. EndsAs f g start e new.world)
       ends_by t (Ok c) copies ran = record {
         stays = stays_by t ran.counts ran.unspent.0 copies.valid.0 copies.stays.0;
         holds = still_holds t copies.ok.holds;
@@ -163,7 +163,7 @@ module _ (told : Type 0) (f g : FilesView) (old : DiskView) (was_apart : told �
         tidy = copies.ok.tidy;
         count = subst (λ (u : Tree). IsCount u c) (finds t).tree copies.ok.count;
       }
-      ends_by t (Err (no.Nested path)) copies ran = (subst (λ (w : World). IsMounted f g start w) (sym copies.err.1) (is_mounted t), subst (λ (u : Tree). IsNested g.kind u path) (finds t).tree copies.err.0)
+      ends_by t (Err (no.Nested path)) copies ran = (subst (λ (w : World). IsSourceMounted f g start w) (sym copies.err.1) (is_mounted t), subst (λ (u : Tree). IsNested g.kind u path) (finds t).tree copies.err.0)
       ends_by t (Err (no.Into e)) copies ran =
           let other : no.Into e ≢ no.Device = λ is. cc in
           let here_is = copies.err.0 in
@@ -180,31 +180,31 @@ module _ (told : Type 0) (f g : FilesView) (old : DiskView) (was_apart : told �
           }
       ends_by t (Err no.Device) copies ran = tt
 
-      words_by : (r : Result Copied CopyRefusal) → CopyRuns mid new r → IfOk (end_of r) HasWords
+      words_by : (r : Result Copied CopyRefusal) → CopyRuns mid new r → IfOk (copy_end r) HasWords
       words_by (Ok c) ran = tt
       words_by (Err (no.Nested path)) ran = tt
       words_by (Err (no.Into e)) ran = λ is. ran.no_fault (ap no.Into is)
       words_by (Err no.Device) ran = tt
 
-      unspent_by : (r : Result Copied CopyRefusal) → CopyRuns mid new r → OnOk (end_of r) (new.spent ≡ false)
+      unspent_by : (r : Result Copied CopyRefusal) → CopyRuns mid new r → OnOk (copy_end r) (new.spent ≡ false)
       unspent_by (Ok c) ran = ran.unspent.0
       unspent_by (Err (no.Nested path)) ran = ran.unspent.1 (λ is. cc)
       unspent_by (Err (no.Into e)) ran = ran.unspent.1 (λ is. cc)
       unspent_by (Err no.Device) ran = tt
 
-      stops_by : (r : Result Copied CopyRefusal) → IfErr (end_of r) (λ why. why ≡ status.DeviceFault)
+      stops_by : (r : Result Copied CopyRefusal) → IfErr (copy_end r) (λ why. why ≡ status.DeviceFault)
       stops_by (Ok c) = tt
       stops_by (Err (no.Nested path)) = tt
       stops_by (Err (no.Into e)) = tt
       stops_by (Err no.Device) = refl
 
-      faults_by : (r : Result Copied CopyRefusal) → CopyRuns mid new r → CountsFault (end_of r) old.faults new.faults
+      faults_by : (r : Result Copied CopyRefusal) → CopyRuns mid new r → CountsFault (copy_end r) old.faults new.faults
       faults_by (Ok c) ran = ran.faultless.0 ∙ runs.faultless.0
       faults_by (Err (no.Nested path)) ran = ran.faultless.1 (λ is. cc) ∙ runs.faultless.0
       faults_by (Err (no.Into e)) ran = ran.faultless.1 (λ is. cc) ∙ runs.faultless.0
       faults_by (Err no.Device) ran = subst (λ (n : ℕ). Rose n new.faults) runs.faultless.0 (ran.cause refl)
 
-      copies_by : (r : Result Copied CopyRefusal) → (told → CopiesTree (mounted_now f) g mid new r) → CopyRuns mid new r → CopiesBetween told f g old new (end_of r)
+      copies_by : (r : Result Copied CopyRefusal) → (told → CopiesTree (mounted_now f) g mid new r) → CopyRuns mid new r → CopiesBetween told f g old new (copy_end r)
       copies_by r copies ran = record {
         ends = λ t. ends_by t r (copies t) ran;
         words = words_by r ran;
@@ -216,6 +216,6 @@ module _ (told : Type 0) (f g : FilesView) (old : DiskView) (was_apart : told �
       }
 
       -- of the file system as it is once it is mounted
-      pub copied_between : (h k : FilesView) → h ≡ mounted_now f → k ≡ g → (r : Result Copied CopyRefusal) → (told → CopiesTree h k mid new r) → CopyRuns mid new r → CopiesBetween told f g old new (end_of r)
+      pub copied_between : (h k : FilesView) → h ≡ mounted_now f → k ≡ g → (r : Result Copied CopyRefusal) → (told → CopiesTree h k mid new r) → CopyRuns mid new r → CopiesBetween told f g old new (copy_end r)
       copied_between h k is same r copies ran =
           copies_by r (subst (λ (s : FilesView). told → CopiesTree (mounted_now f) s mid new r) same (subst (λ (s : FilesView). told → CopiesTree s k mid new r) is copies)) ran

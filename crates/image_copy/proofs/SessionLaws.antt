@@ -3,7 +3,7 @@ use Rattle.std.proofs.Common.{◌≡◌, ◌≤◌, inl, inr, ℕ, Bool, true, f
 use Rattle.std.proofs.lemmas.List.{length-map}
 use Rattle.std.specs.Prelude.{Option, Some, None, Result, Ok, Err, is_some, option_map}
 use Rattle.tsd_model.specs.World.{World}
-use Rattle.tsd_model.specs.Sessions.{Fits, Held, Sessions, begun, fitted, held_by, is_open, no_sessions, sessions_max}
+use Rattle.tsd_model.specs.Sessions.{Fits, Held, Sessions, session_begun, fitted, held_by, is_open, no_sessions, sessions_max}
 use Rattle.tsd_model.specs.Step.{Outcome, State, judged}
 use Rattle.tsd_model.specs.Run.{IsAnswer, answer, starved}
 use Rattle.tsd_model.specs.Verdict.{verdict}
@@ -62,11 +62,11 @@ pub record HasOneMore (session : ℕ) (v u : Sessions) : Type 0 where
 
 -- a begin that is answered Done opens the session
 module _ (session : ℕ) (low : 1 ≤ session) (high : session ≤ sessions_max) where
-  one_more : (w : World) (v : Sessions) → length v ≡ sessions_max → HasOneMore session v (fitted w (begun w v session))
+  one_more : (w : World) (v : Sessions) → length v ≡ sessions_max → HasOneMore session v (fitted w (session_begun w v session))
   one_more w v all = record {
-    this = open_fitted w (begun w v session) session ∙ ap is_some (held-with_same v session _ low (subst (λ n. session ≤ n) (sym all) high));
-    others = λ n h. open_fitted w (begun w v session) n ∙ held_keeps (λ (o : Option Held). is_some o ≡ true) v session n _ refl h;
-    count = length-map (begun w v session) _ ∙ length-with_held v session _;
+    this = open_fitted w (session_begun w v session) session ∙ ap is_some (held-with_same v session _ low (subst (λ n. session ≤ n) (sym all) high));
+    others = λ n h. open_fitted w (session_begun w v session) n ∙ held_keeps (λ (o : Option Held). is_some o ≡ true) v session n _ refl h;
+    count = length-map (session_begun w v session) _ ∙ length-with_held v session _;
   }
 
   module _ (kind : PlaceKind) (s : State) (all : length s.sessions ≡ sessions_max) where

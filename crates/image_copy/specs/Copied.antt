@@ -101,7 +101,7 @@ HasCopied r words old new = new.sent ≡ old.sent
 
 -- The image stands for a world that the copy may leave of the one at the start: with nothing sent, one on the way; or
 -- the one in which the copy has ended, with a front of its line sent.
-pub record IsLeftWithin (words : CopyFs) (old : View) (x : Image) (sent : List ℕ) : Type 0 where
+pub record StandsWithinCopy (words : CopyFs) (old : View) (x : Image) (sent : List ℕ) : Type 0 where
   pub good : IsGood old.reads
   pub world : World
   pub stands : Stands x world
@@ -111,4 +111,4 @@ pub record IsLeftWithin (words : CopyFs) (old : View) (x : Image) (sent : List �
 
 -- What a crash leaves: with nothing sent, the world at the start, or none where there was none; or one of those.
 abbrev pub IsLeftOfCopy : CopyFs → View → Image → List ℕ → Type 0
-IsLeftOfCopy words old x sent = (StandAlike old.reads x × (sent ≡ old.sent)) ⊎ IsLeftWithin words old x sent
+IsLeftOfCopy words old x sent = (StandAlike old.reads x × (sent ≡ old.sent)) ⊎ StandsWithinCopy words old x sent

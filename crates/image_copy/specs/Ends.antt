@@ -20,13 +20,13 @@ use Rattle.image_copy.specs.declared.ending.CopyEnd.TheVariants as end
 
 -- ---- blocks that both roots reach
 
-abbrev pub IsShared : World → ℕ → ℕ → ℕ → Type 0
-IsShared w root other b = IsTrue (is_under w root b) × IsTrue (is_under w other b)
+abbrev pub IsUnderBoth : World → ℕ → ℕ → ℕ → Type 0
+IsUnderBoth w root other b = IsTrue (is_under w root b) × IsTrue (is_under w other b)
 
 -- the least of them
 pub record IsFirstShared (w : World) (root other b : ℕ) : Type 0 where
-  pub shared : IsShared w root other b
-  pub least : (c : ℕ) → IsShared w root other c → b ≤ c
+  pub shared : IsUnderBoth w root other b
+  pub least : (c : ℕ) → IsUnderBoth w root other c → b ≤ c
 
 -- ---- the source mounted
 
@@ -42,7 +42,7 @@ pub record IsTrimmed (f g : FilesView) (start w : World) : Type 0 where
   pub others : OthersStay f.root start w
 
 -- The source's tree is there, and mounted: its world is tidy, and still no block is reached from both roots.
-pub record IsMounted (f g : FilesView) (start w : World) : Type 0 where
+pub record IsSourceMounted (f g : FilesView) (start w : World) : Type 0 where
   pub trimmed : IsTrimmed f g start w
   pub there : IsTrue (is_there (tree_under f start))
   pub tidy : IsTidy f.kind w f.root
@@ -54,7 +54,7 @@ pub record IsMounted (f g : FilesView) (start w : World) : Type 0 where
 -- after some of the steps. What the target's root didn't reach once the source was mounted is as it was then.
 pub record IsPartlyCopied (f g : FilesView) (start w : World) : Type 0 where
   pub mounted : World
-  pub is_mounted : IsMounted f g start mounted
+  pub is_mounted : IsSourceMounted f g start mounted
   pub valid : IsValid w
   pub geometry : w.geometry ≡ start.geometry
   pub source : tree_under f w ≡ tree_under f start
@@ -70,7 +70,7 @@ IsUnderWay f g start w = IsTrimmed f g start w ⊎ IsPartlyCopied f g start w
 -- reach. What the target's root didn't reach once the source was mounted is as it was then.
 pub record SourceStays (f g : FilesView) (start w : World) : Type 0 where
   pub mounted : World
-  pub is_mounted : IsMounted f g start mounted
+  pub is_mounted : IsSourceMounted f g start mounted
   pub valid : IsValid w
   pub geometry : w.geometry ≡ start.geometry
   pub source : tree_under f w ≡ tree_under f start
@@ -79,7 +79,7 @@ pub record SourceStays (f g : FilesView) (start w : World) : Type 0 where
   pub others : OthersStay g.root mounted w
 
 -- The source's tree is under the target's root, in a tidy world. Its files and their bytes are counted.
-pub record IsCopied (f g : FilesView) (start w : World) (c : Copied) : Type 0 where
+pub record IsWholeTree (f g : FilesView) (start w : World) (c : Copied) : Type 0 where
   pub stays : SourceStays f g start w
   pub holds : CanHold g.kind (tree_under f start)
   pub target : tree_under g w ≡ tree_under f start
@@ -113,6 +113,6 @@ pub record IsNoTree (f g : FilesView) (start w : World) : Type 0 where
 abbrev pub EndsAs : FilesView → FilesView → World → CopyEnd → World → Type 0
 EndsAs f g start (end.Shared b) w = IsFirstShared start f.root g.root b × (w ≡ start)
 EndsAs f g start end.NotThisFs w = IsNoTree f g start w
-EndsAs f g start (end.Nested path) w = IsMounted f g start w × IsNested g.kind (tree_under f start) path
+EndsAs f g start (end.Nested path) w = IsSourceMounted f g start w × IsNested g.kind (tree_under f start) path
 EndsAs f g start (end.Refused e) w = IsRefusedStep f g start w e
-EndsAs f g start (end.Whole c) w = IsCopied f g start w c
+EndsAs f g start (end.Whole c) w = IsWholeTree f g start w c

@@ -91,11 +91,11 @@ pub record AreBothOpen (c : Core) : Type 0 where
 -- ---- mounting and copying
 
 -- what an answer of the copy is to the command
-abbrev pub end_of : Result Copied CopyRefusal → Result CopyEnd Status
-end_of (Ok copied) = Ok (end.Whole copied)
-end_of (Err (no.Nested path)) = Ok (end.Nested path)
-end_of (Err (no.Into e)) = Ok (end.Refused e)
-end_of (Err no.Device) = Err status.DeviceFault
+abbrev pub copy_end : Result Copied CopyRefusal → Result CopyEnd Status
+copy_end (Ok copied) = Ok (end.Whole copied)
+copy_end (Err (no.Nested path)) = Ok (end.Nested path)
+copy_end (Err (no.Into e)) = Ok (end.Refused e)
+copy_end (Err no.Device) = Err status.DeviceFault
 
 -- what a refusal to mount the source is
 abbrev pub unmounted_end : FsRefusal → Result CopyEnd Status

@@ -4,7 +4,7 @@ ghost use Rattle.std.specs.Prelude.{◌≡◌};
 ghost use Rattle.fs_laws.specs.Apart.{AreApart};
 ghost use Rattle.fs_port.specs.Calls.{IsValidNow};
 ghost use Rattle.fs_port.specs.Files.{IsClientReady};
-ghost use Rattle.image_copy.specs.Steps.{CopiesBetween, end_of, unmounted_end};
+ghost use Rattle.image_copy.specs.Steps.{CopiesBetween, copy_end, unmounted_end};
 
 use crate::ending::CopyEnd;
 use fs_copy::{Copied, CopyRefusal, copy_tree};
@@ -25,7 +25,7 @@ pub(crate) fn copy_between<K: Blocks, A: Files, B: Files>(
     ensures { CopiesBetween K.told (A.view from.old) (B.view into.old) (K.view disk.old) (K.view disk.new) result }
 {
     match from.mount(disk) {
-        Ok(()) => end_of(copy_tree(disk, from, into)),
+        Ok(()) => copy_end(copy_tree(disk, from, into)),
         Err(why) => unmounted_end(why),
     }
 }
@@ -41,8 +41,8 @@ fn unmounted_end(why: FsRefusal) -> Result<CopyEnd, Status>
 }
 
 /// What an answer of the copy is to the command.
-fn end_of(answer: Result<Copied, CopyRefusal>) -> Result<CopyEnd, Status>
-    ensures { result ≡ end_of answer }
+fn copy_end(answer: Result<Copied, CopyRefusal>) -> Result<CopyEnd, Status>
+    ensures { result ≡ copy_end answer }
 {
     match answer {
         Ok(copied) => Ok(CopyEnd::Whole { copied }),

@@ -9,8 +9,8 @@ use Rattle.image_device.specs.Cells.{begun}
 use Rattle.image_device.specs.MemStation.{history_view, found_in, station_sound, IsCalled}
 
 -- the station within
-abbrev pub within : FuseStation → MemStation
-within d = d.inner
+abbrev pub inner_of : FuseStation → MemStation
+inner_of d = d.inner
 
 -- how often it failed a call or a put itself
 abbrev pub own_faults_of : FuseStation → ℕ
@@ -41,7 +41,7 @@ fuse_sound d = let s = station_sound d.inner in record { counts_now = s.counts_n
 pub record IsPassed {T E : Type 0} (old new : FuseStation) (result : Result T E) : Type 0 where
   pub passes : passes_of new ≡ passes_of old - 1
   pub pick : pick_of new ≡ pick_of old
-  pub spent : passes_of old ≡ 0 → IsErr result × (within new ≡ within old)
-  pub called : 0 < passes_of old → IsCalled (within old) (within new) result
+  pub spent : passes_of old ≡ 0 → IsErr result × (inner_of new ≡ inner_of old)
+  pub called : 0 < passes_of old → IsCalled (inner_of old) (inner_of new) result
   pub own : 0 < passes_of old → (own_faults_of new ≡ own_faults_of old)
       × (own_put_faults_of new ≡ own_put_faults_of old)

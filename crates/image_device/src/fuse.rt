@@ -15,7 +15,7 @@ pub struct FuseStation {
 
 impl FuseStation {
     ghost use Rattle.image_device.specs.FuseStation.{fuse_view, own_faults_of, own_put_faults_of, passes_of, pick_of};
-    ghost use Rattle.image_device.specs.FuseStation.{within};
+    ghost use Rattle.image_device.specs.FuseStation.{inner_of};
     ghost use Rattle.image_device.specs.MemStation.{failing_of, station_view, synced_reads, IsUnused};
     ghost use Rattle.image_device.specs.Image.{IsImage};
     ghost use Rattle.std.specs.Prelude.{◌≡◌, [], ℕ, true, replicate};
@@ -23,7 +23,7 @@ impl FuseStation {
     /// Passes so many calls of the device and of the port to the station within, and then fails
     /// each. `pick` says what `into_image` leaves in loose sectors.
     pub fn new(inner: MemStation, passes: u64, pick: Pick) -> FuseStation
-        ensures within { within result ≡ inner }
+        ensures within { inner_of result ≡ inner }
         ensures passes { passes_of result ≡ passes }
         ensures pick { pick_of result ≡ pick }
         ensures faults { (fuse_view result).faults ≡ (station_view inner).faults }
@@ -52,7 +52,7 @@ impl FuseStation {
     pub fn into_image(self) -> MemStation
         ensures image { IsImage (fuse_view self).reads (fuse_view self).loose (station_view result).reads }
         ensures left { (fuse_view self).left (fuse_view self).clock (station_view result).reads (fuse_view self).sent }
-        ensures old { pick_of self ≡ Pick.Old → (station_view result).reads ≡ synced_reads (within self) }
+        ensures old { pick_of self ≡ Pick.Old → (station_view result).reads ≡ synced_reads (inner_of self) }
         ensures new { pick_of self ≡ Pick.New → (station_view result).reads ≡ (fuse_view self).reads }
         ensures torn { (b : ℕ) → pick_of self ≡ Pick.Torn b → (n : ℕ) → (fuse_view self).loose n ≡ true
             → (station_view result).reads n ≡ replicate 512 b }
@@ -83,7 +83,7 @@ impl FuseStation {
 }
 
 impl Device for FuseStation {
-    ghost use Rattle.image_device.specs.FuseStation.{fuse_sound, fuse_view, within, IsPassed};
+    ghost use Rattle.image_device.specs.FuseStation.{fuse_sound, fuse_view, inner_of, IsPassed};
     ghost use Rattle.image_device.specs.MemStation.{synced_reads};
     ghost use Rattle.image_device.specs.Calls.{Rests, Settles, Touches, Uses};
     ghost use Rattle.image_device.specs.Runs.{IsFirm};
@@ -104,7 +104,7 @@ impl Device for FuseStation {
         ensures faults { CountsFault result (fuse_view self.old).faults (fuse_view self.new).faults }
         ensures once { OnErr result ((fuse_view self.new).faults ≡ raised (fuse_view self.old).faults) }
         ensures passed { IsPassed self.old self.new result }
-        ensures synced { synced_reads (within self.new) ≡ synced_reads (within self.old) }
+        ensures synced { synced_reads (inner_of self.new) ≡ synced_reads (inner_of self.old) }
     {
         if !self.is_passing() {
             self.faults = self.faults.saturating_add(1);
@@ -121,7 +121,7 @@ impl Device for FuseStation {
         ensures faults { CountsFault result (fuse_view self.old).faults (fuse_view self.new).faults }
         ensures once { OnErr result ((fuse_view self.new).faults ≡ raised (fuse_view self.old).faults) }
         ensures passed { IsPassed self.old self.new result }
-        ensures synced { synced_reads (within self.new) ≡ synced_reads (within self.old) }
+        ensures synced { synced_reads (inner_of self.new) ≡ synced_reads (inner_of self.old) }
     {
         if !self.is_passing() {
             self.faults = self.faults.saturating_add(1);
@@ -138,8 +138,8 @@ impl Device for FuseStation {
         ensures faults { CountsFault result (fuse_view self.old).faults (fuse_view self.new).faults }
         ensures once { OnErr result ((fuse_view self.new).faults ≡ raised (fuse_view self.old).faults) }
         ensures passed { IsPassed self.old self.new result }
-        ensures synced { OnOk result (synced_reads (within self.new) ≡ (fuse_view self.old).reads) }
-        ensures same_synced { OnErr result (synced_reads (within self.new) ≡ synced_reads (within self.old)) }
+        ensures synced { OnOk result (synced_reads (inner_of self.new) ≡ (fuse_view self.old).reads) }
+        ensures same_synced { OnErr result (synced_reads (inner_of self.new) ≡ synced_reads (inner_of self.old)) }
     {
         if !self.is_passing() {
             self.faults = self.faults.saturating_add(1);
@@ -150,7 +150,7 @@ impl Device for FuseStation {
 }
 
 impl Port for FuseStation {
-    ghost use Rattle.image_device.specs.FuseStation.{fuse_view, within, IsPassed};
+    ghost use Rattle.image_device.specs.FuseStation.{fuse_view, inner_of, IsPassed};
     ghost use Rattle.image_device.specs.MemStation.{synced_reads};
     ghost use Rattle.image_device.specs.View.{IsLeftInPut};
     ghost use Rattle.image_device.specs.Calls.{Appends, Includes, Puts};
@@ -171,7 +171,7 @@ impl Port for FuseStation {
         ensures faults { CountsFault result (fuse_view self.old).put_faults (fuse_view self.new).put_faults }
         ensures once { OnErr result ((fuse_view self.new).put_faults ≡ raised (fuse_view self.old).put_faults) }
         ensures passed { IsPassed self.old self.new result }
-        ensures synced { synced_reads (within self.new) ≡ synced_reads (within self.old) }
+        ensures synced { synced_reads (inner_of self.new) ≡ synced_reads (inner_of self.old) }
         ensures all { IfOk result (λ count. count ≡ length piece.now) }
         ensures none { OnErr result ((fuse_view self.new).sent ≡ (fuse_view self.old).sent) }
     {

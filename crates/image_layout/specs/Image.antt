@@ -18,13 +18,13 @@ abbrev pub number_at : Image → Offset → ℕ
 number_at image at = little_from at.byte 4 (image at.sector)
 
 -- so many bytes from an offset on
-abbrev pub bytes_at : Image → Offset → ℕ → List ℕ
-bytes_at image at len = take len (drop at.byte (image at.sector))
+abbrev pub bytes_from : Image → Offset → ℕ → List ℕ
+bytes_from image at len = take len (drop at.byte (image at.sector))
 
 -- ---- gates and flags
 -- whether the gate or flag of a sector with these bytes is open: by its first byte alone
-abbrev pub is_open : List ℕ → Bool
-is_open bytes = slice_index bytes 0 == 1
+abbrev pub says_open : List ℕ → Bool
+says_open bytes = slice_index bytes 0 == 1
 
 -- what is written to open or to close one: a byte 1 or 0, and zeros
 abbrev pub gate_bytes : Bool → List ℕ
@@ -32,8 +32,8 @@ gate_bytes open_now = (if open_now then 1 else 0) ∷ replicate 511 0
 
 -- ---- blocks
 -- whether a block's bit in the bitmap is 1
-abbrev pub is_marked : Image → Geometry → ℕ → Bool
-is_marked image g block =
+abbrev pub is_bit_set : Image → Geometry → ℕ → Bool
+is_bit_set image g block =
     let at = bit_offset g block in
     bit_at (slice_index (image at.sector) at.byte) (bit_of block) == 1
 
@@ -66,8 +66,8 @@ abbrev pub kept_len : ℕ → ℕ
 kept_len version = if version == 2 then 32 else 16
 
 abbrev pub kept_for_reading : ℕ → Image → ℕ → List ℕ
-kept_for_reading version image block = bytes_at image (kept_offset version block) (kept_len version)
+kept_for_reading version image block = bytes_from image (kept_offset version block) (kept_len version)
 
 abbrev pub kept_for_writing : ℕ → Image → ℕ → List ℕ
 kept_for_writing version image block =
-    bytes_at image (further (kept_offset version block) (kept_len version)) (kept_len version)
+    bytes_from image (further (kept_offset version block) (kept_len version)) (kept_len version)

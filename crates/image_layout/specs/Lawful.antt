@@ -4,7 +4,7 @@ use Rattle.std.specs.Coded.{×_prop, le_prop, Coded-set, coded_ℕ}
 use Rattle.tsd_model.specs.declared.geometry.Geometry.{Geometry}
 use Rattle.tsd_model.specs.Geometry.{IsLawful}
 
-either_prop : {A B : Type 0} → IsProp A → IsProp B → (A → B → ⊥) → IsProp (A ⊎ B)
+pub either_prop : {A B : Type 0} → IsProp A → IsProp B → (A → B → ⊥) → IsProp (A ⊎ B)
 either_prop a b never (inl x) (inl y) = ap inl (a x y)
 either_prop a b never (inl x) (inr y) = absurd (never x y)
 either_prop a b never (inr x) (inl y) = absurd (never y x)

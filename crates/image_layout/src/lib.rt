@@ -20,7 +20,7 @@ pub mod sectors;
 pub mod things;
 
 pub use fault::{HeaderFault, ImageFault};
-pub use gate::{gate_bytes, is_open};
+pub use gate::{gate_bytes, says_open};
 pub use header::{Header, read_header, write_header};
 pub use layout::Layout;
 pub use offset::{Offset, Patch, bit_mask};

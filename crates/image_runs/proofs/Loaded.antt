@@ -21,7 +21,7 @@ use Rattle.tsd_words.specs.Lines.{line_of, load_words}
 use Rattle.tsd_words.specs.declared.lines.Summary.{Summary}
 use Rattle.image_runs.specs.Opened.{IsJudged, IsUnopened}
 use Rattle.image_runs.specs.Sending.{IsStopped}
-use Rattle.image_runs.specs.Load.{HasLoaded, IsLeftOfLoad, IsLoadDone, IsLoadedBy, grants, load_line, loaded, loaded_replies, refusals}
+use Rattle.image_runs.specs.Load.{HasLoaded, IsLeftOfLoad, IsLoadDone, IsLoadedBy, granted_count, load_line, loaded, loaded_replies, refused_count}
 use Rattle.image_runs.specs.Applying.{HasApplied, IsSummary, LeavesRun}
 use Rattle.image_runs.proofs.Saying.{put_over, still_firm}
 use Rattle.image_runs.proofs.Upgraded.{alike_of}
@@ -137,9 +137,9 @@ pub line_is : (kind : PlaceKind) (seed : List ℕ) (image : Image) (count : ℕ)
 line_is kind seed image count s is =
     ap (λ (n : ℕ). line_of (load_words n s.granted s.refused s.free s.pointers)) is.count_is
     ∙ ap (λ (n : ℕ). line_of (load_words count n s.refused s.free s.pointers)) is.granted_are
-    ∙ ap (λ (n : ℕ). line_of (load_words count (grants (loaded_replies kind seed (world_of image) count)) n s.free s.pointers)) is.refused_are
-    ∙ ap (λ (n : ℕ). line_of (load_words count (grants (loaded_replies kind seed (world_of image) count)) (refusals (loaded_replies kind seed (world_of image) count)) n s.pointers)) is.free_is
-    ∙ ap (λ (n : ℕ). line_of (load_words count (grants (loaded_replies kind seed (world_of image) count)) (refusals (loaded_replies kind seed (world_of image) count)) (free_count (loaded kind seed (world_of image) count).world) n)) is.pointers_are
+    ∙ ap (λ (n : ℕ). line_of (load_words count (granted_count (loaded_replies kind seed (world_of image) count)) n s.free s.pointers)) is.refused_are
+    ∙ ap (λ (n : ℕ). line_of (load_words count (granted_count (loaded_replies kind seed (world_of image) count)) (refused_count (loaded_replies kind seed (world_of image) count)) n s.pointers)) is.free_is
+    ∙ ap (λ (n : ℕ). line_of (load_words count (granted_count (loaded_replies kind seed (world_of image) count)) (refused_count (loaded_replies kind seed (world_of image) count)) (free_count (loaded kind seed (world_of image) count).world) n)) is.pointers_are
 
 pub loaded_still : (kind : PlaceKind) (seed : List ℕ) (image : Image) (count : ℕ) (mid new : View) → IsLoadDone kind seed image count mid → new.reads ≡ mid.reads → new.loose ≡ mid.loose → IsLoadDone kind seed image count new
 loaded_still kind seed image count mid new is reads loose = record {

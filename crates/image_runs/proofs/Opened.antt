@@ -6,7 +6,7 @@ use Rattle.tsd_model.specs.Sessions.{Sessions, no_sessions, fitted}
 use Rattle.tsd_model.specs.Step.{State}
 use Rattle.tsd_model.specs.Run.{at_rest}
 use Rattle.image_layout.specs.Areas.{sweep_flag}
-use Rattle.image_layout.specs.Image.{Image, is_open}
+use Rattle.image_layout.specs.Image.{Image, says_open}
 use Rattle.image_device.specs.View.{View, IsSound}
 use Rattle.image_device.specs.Runs.{PutsAll}
 use Rattle.intent_journal.specs.Home.{home}
@@ -25,7 +25,7 @@ use Rattle.image_runs.specs.Sending.{IsStopped}
 use Rattle.image_runs.proofs.Saying.{put_behind}
 
 -- the flag of a sweep, in the tables and on the image
-pub flag_of : (x : Image) → (tables_of x).is_sweeping ≡ is_open (x sweep_flag)
+pub flag_of : (x : Image) → (tables_of x).is_sweeping ≡ says_open (x sweep_flag)
 unfolding tables_of
 flag_of x = refl
 

@@ -19,7 +19,7 @@ use Rattle.tsd_model.specs.declared.replies.Rule.{Rule}
 use Rattle.rand_chacha.specs.ChaCha.{key_of}
 use Rattle.cap_store.specs.Seeds.{seed_pairs}
 use Rattle.load_gen.specs.Requests.{seed_request, request_of_words, request_of_kind, shown_at, stream_word, window, words_place}
-use Rattle.image_runs.specs.Load.{requests_of, loaded, loaded_replies, is_refused, grants, refusals}
+use Rattle.image_runs.specs.Load.{requests_of, loaded, loaded_replies, is_refused, granted_count, refused_count}
 use Rattle.image_runs.specs.Applying.{HasApplied, IsRequestNext, more_granted, more_refused}
 
 -- ---- runs
@@ -161,10 +161,10 @@ applied_more kind seed w n s t q granted refused all_granted all_refused had ask
     let all = loaded_replies_more kind seed w n ∙ ap (λ (r : Reply). loaded_replies kind seed w n ++ r ∷ []) (sym reply_is) in
     record {
       state = next.given.state ∙ ap (λ (o : Outcome). o.state) outcome ∙ sym (loaded_more kind seed w n);
-      granted_are = next.granted_are ∙ ap (λ (k : ℕ). k + more_granted next.reply) had.granted_are ∙ ap (λ (k : ℕ). grants (loaded_replies kind seed w n) + k) (granted_of next.reply)
-          ∙ sym (counted_more (λ r. not (is_refused r)) (loaded_replies kind seed w n) next.reply) ∙ ap (λ (rs : List Reply). grants rs) (sym all);
+      granted_are = next.granted_are ∙ ap (λ (k : ℕ). k + more_granted next.reply) had.granted_are ∙ ap (λ (k : ℕ). granted_count (loaded_replies kind seed w n) + k) (granted_of next.reply)
+          ∙ sym (counted_more (λ r. not (is_refused r)) (loaded_replies kind seed w n) next.reply) ∙ ap (λ (rs : List Reply). granted_count rs) (sym all);
       refused_are = next.refused_are ∙ ap (λ (k : ℕ). k + more_refused next.reply) had.refused_are
-          ∙ sym (counted_more is_refused (loaded_replies kind seed w n) next.reply) ∙ ap (λ (rs : List Reply). refusals rs) (sym all);
+          ∙ sym (counted_more is_refused (loaded_replies kind seed w n) next.reply) ∙ ap (λ (rs : List Reply). refused_count rs) (sym all);
     }
   where
     turned : (t : Bool) → cond {A = ℕ} t 0 1 ≡ cond {A = ℕ} (not t) 1 0

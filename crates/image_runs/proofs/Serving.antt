@@ -2,11 +2,10 @@
 use Rattle.std.proofs.Common.{◌≡◌, ◌↔◌, ◌<◌, ◌≤◌, ◌+◌, ◌||◌, ℕ, Bool, true, false, cond, refl, sym, ◌∙◌, ap, subst, inl, inr, arith, Option, Some, None}
 use Rattle.std.proofs.lemmas.Bool.{or_left}
 use Rattle.std.specs.Prelude.{Result, Ok, Err, IfOk, OnOk, IsTrue, is_none}
-use Rattle.tsd_model.specs.ReplyForm.{HasForm}
+use Rattle.tsd_model.specs.ReplyForm.{HasForm, is_refusal}
 use Rattle.tsd_model.specs.Step.{step, Outcome, State}
 use Rattle.tsd_model.specs.Verdict.{is_granted, verdict}
 use Rattle.tsd_model.specs.declared.replies.Reply.{Reply}
-use Rattle.tsd_model.specs.declared.replies.Reply.TheVariants as replied
 use Rattle.tsd_model.specs.declared.replies.Rule.{Rule}
 use Rattle.tsd_model.specs.declared.requests.PlaceKind.{PlaceKind}
 use Rattle.tsd_model.specs.declared.requests.Request.{Request}
@@ -23,12 +22,11 @@ use Rattle.image_world.specs.Debt.{debt, owed}
 use Rattle.volume_laws.specs.Moments.{LeavesEither}
 use Rattle.volume_laws.specs.Volume.{Volume}
 use Rattle.volume_laws.specs.Writes.{Works}
-use Rattle.serving.specs.Handling.{StandsBeforeOrAfter, is_refusal}
+use Rattle.serving.specs.Handling.{StandsBeforeOrAfter}
 use Rattle.serving.specs.Handling.{CountsRise as AreCounted}
 use Rattle.serving.specs.ModelRules.{Placed}
 use Rattle.tsd_core.specs.Core.{Core, FitsReads, IsCoreAt, state_on}
 use Rattle.tsd_core.specs.Applying.{asks_nothing, next_world}
-use Rattle.tsd_core.specs.Applying.{is_refusal as is_core_refusal}
 use Rattle.tsd_core.specs.Work.{write_limit}
 use Rattle.image_runs.specs.Server.{disk_rules, limit_with, placed_on, writes_before}
 use Rattle.image_runs.proofs.StepForm.{step_form}
@@ -59,13 +57,8 @@ before_or_after kind c q v w sound held either =
 
 -- ---- before a reply
 
-refusals_are : (r : Reply) → is_refusal r ≡ true → is_core_refusal r ≡ true
-refusals_are (replied.Refused rule) e = refl
-refusals_are replied.NoMemory e = refl
-refusals_are r e = absurd (cc)
-
-pub refusal_asks : {E : Type 0} (result : Result Reply E) (b : Bool) (X : Type 0) → IfOk result (λ r. (is_core_refusal r || b) ≡ true → X) → IfOk result (λ r. is_refusal r ≡ true → X)
-refusal_asks (Ok r) b X h = λ e. h (or_left (is_core_refusal r) b (refusals_are r e))
+pub refusal_asks : {E : Type 0} (result : Result Reply E) (b : Bool) (X : Type 0) → IfOk result (λ r. (is_refusal r || b) ≡ true → X) → IfOk result (λ r. is_refusal r ≡ true → X)
+refusal_asks (Ok r) b X h = λ e. h (or_left (is_refusal r) b e)
 refusal_asks (Err e) b X h = tt
 
 limits_are : (v : Volume) (q : Request) → write_limit v q ≡ limit_with (owed v.tables) q
@@ -88,10 +81,10 @@ some_rule None h = absurd (cc)
 some_rule (Some rule) h = (rule, refl)
 
 -- a request that isn't granted is refused
-refused_reply : (kind : PlaceKind) (s : State) (q : Request) (r : Reply) (t : State) → IsAnswer kind s q r t → is_granted s.world s.sessions q ≡ false → is_core_refusal r ≡ true
+refused_reply : (kind : PlaceKind) (s : State) (q : Request) (r : Reply) (t : State) → IsAnswer kind s q r t → is_granted s.world s.sessions q ≡ false → is_refusal r ≡ true
 refused_reply kind s q r t answer unmet =
     let rule = some_rule (verdict s.world s.sessions q) unmet in
-    subst (λ x. is_core_refusal x ≡ true) (sym (answer.reply ∙ ap (λ (o : Outcome). o.reply) (refused_answer kind s q answer.want rule.0 rule.1))) refl
+    subst (λ x. is_refusal x ≡ true) (sym (answer.reply ∙ ap (λ (o : Outcome). o.reply) (refused_answer kind s q answer.want rule.0 rule.1))) refl
 
 at_most : (now was limit other : ℕ) → now ≤ was + limit → limit ≡ other → now ≤ was + other
 at_most now was limit other le same = omega (arith, le, same)
@@ -101,7 +94,7 @@ no_more now was same = omega (arith, same)
 
 -- how often is written before the reply
 pub before_reply : {E : Type 0} (kind : PlaceKind) (c : Core) (q : Request) (v w : View) (t : State) (result : Result Reply E) (X : Type 0) → (X → w.writes ≡ v.writes) → FitsReads c v.reads
-    → w.writes ≤ v.writes + write_limit c.volume q → IfOk result (λ r. IsAnswer kind (state_on c v.reads) q r t) → IfOk result (λ r. (is_core_refusal r || asks_nothing q) ≡ true → X)
+    → w.writes ≤ v.writes + write_limit c.volume q → IfOk result (λ r. IsAnswer kind (state_on c v.reads) q r t) → IfOk result (λ r. (is_refusal r || asks_nothing q) ≡ true → X)
     → OnOk result (w.writes ≤ v.writes + writes_before (state_on c v.reads) (debt v.reads) q)
 before_reply kind c q v w t (Err e) X same held limit given asks = tt
 before_reply kind c q v w t (Ok r) X same held limit given asks =
@@ -109,7 +102,7 @@ before_reply kind c q v w t (Ok r) X same held limit given asks =
     let most : write_limit c.volume q ≡ limit_with (debt v.reads) q = limits_are c.volume q ∙ ap (λ n. limit_with n q) (sym (ap owed held.tables)) in
     elim (is_granted s.world s.sessions q) as (λ g. is_granted s.world s.sessions q ≡ g → w.writes ≤ v.writes + cond g (limit_with (debt v.reads) q) 0) [
       | true ↦ λ _. at_most w.writes v.writes (write_limit c.volume q) (limit_with (debt v.reads) q) limit most
-      | false ↦ λ unmet. no_more w.writes v.writes (same (asks (or_left (is_core_refusal r) (asks_nothing q) (refused_reply kind s q r t given unmet))))
+      | false ↦ λ unmet. no_more w.writes v.writes (same (asks (or_left (is_refusal r) (asks_nothing q) (refused_reply kind s q r t given unmet))))
     ] refl
 
 -- what the tables of a core at a device owe is what is left to be done on it

@@ -8,7 +8,7 @@ use Rattle.tsd_model.specs.World.{World, contents, is_live, free_count, has_numb
 use Rattle.tsd_model.specs.Reach.{reach, swept}
 use Rattle.tsd_model.specs.Doomed.{doomed, settle}
 use Rattle.tsd_model.specs.Rank.{rank_of}
-use Rattle.tsd_model.specs.Placing.{hint_block, in_rank_order, sorted_by_rank, free_blocks, chosen, chosen_run, runs, first_of}
+use Rattle.tsd_model.specs.Placing.{hint_block, in_rank_order, sorted_by_rank, free_blocks, chosen, chosen_run, runs, first_block}
 use Rattle.tsd_model.specs.Sessions.{Sessions}
 use Rattle.tsd_model.specs.Valid.{IsSized}
 use Rattle.tsd_model.specs.Verdict.{is_empty, verdict}
@@ -50,7 +50,7 @@ length-chosen_enough kind w h count enough =
     omega (arith, length-take count order, all, enough)
 
 -- the first of some
-first_found : (xs : List ℕ) → 1 ≤ length xs → (b : ℕ) × (first_of xs ≡ Some b)
+first_found : (xs : List ℕ) → 1 ≤ length xs → (b : ℕ) × (first_block xs ≡ Some b)
 first_found [] some = absurd (omega arith)
 first_found (x ∷ xs) some = (x, refl)
 

@@ -10,21 +10,21 @@ use Rattle.tsd_model.specs.Run.{IsAnswer}
 use Rattle.image_device.specs.View.{View}
 use Rattle.image_device.specs.Runs.{LeavesOnly}
 use Rattle.image_world.specs.Stands.{Stands, world_of}
-use Rattle.image_runs.specs.Load.{is_refused, grants, refusals, loaded, loaded_replies}
+use Rattle.image_runs.specs.Load.{is_refused, granted_count, refused_count, loaded, loaded_replies}
 use Rattle.tsd_words.specs.declared.lines.Summary.{Summary}
 
 -- after so many requests over a world: the state, and how many were granted and how many refused
 pub record HasApplied (kind : PlaceKind) (seed : List ℕ) (w : World) (count : ℕ) (s : State)
     (granted refused : ℕ) : Type 0 where
   pub state : s ≡ loaded kind seed w count
-  pub granted_are : granted ≡ grants (loaded_replies kind seed w count)
-  pub refused_are : refused ≡ refusals (loaded_replies kind seed w count)
+  pub granted_are : granted ≡ granted_count (loaded_replies kind seed w count)
+  pub refused_are : refused ≡ refused_count (loaded_replies kind seed w count)
 
 -- what is said of so many requests over a world
 pub record IsSummary (kind : PlaceKind) (seed : List ℕ) (w : World) (count : ℕ) (s : Summary) : Type 0 where
   pub count_is : s.count ≡ count
-  pub granted_are : s.granted ≡ grants (loaded_replies kind seed w count)
-  pub refused_are : s.refused ≡ refusals (loaded_replies kind seed w count)
+  pub granted_are : s.granted ≡ granted_count (loaded_replies kind seed w count)
+  pub refused_are : s.refused ≡ refused_count (loaded_replies kind seed w count)
   pub free_is : s.free ≡ free_count (loaded kind seed w count).world
   pub pointers_are : s.pointers ≡ length (loaded kind seed w count).world.pairs
 

@@ -38,18 +38,18 @@ is_refused (reply.Refused rule) = true
 is_refused r = false
 
 -- how many of the requests are refused, and how many aren't
-abbrev pub refusals : List Reply → ℕ
-refusals rs = count_by is_refused rs
+abbrev pub refused_count : List Reply → ℕ
+refused_count rs = count_by is_refused rs
 
-abbrev pub grants : List Reply → ℕ
-grants rs = count_by (λ r. not (is_refused r)) rs
+abbrev pub granted_count : List Reply → ℕ
+granted_count rs = count_by (λ r. not (is_refused r)) rs
 
 -- the line of a load over the world for which an image stands
 abbrev pub load_line : PlaceKind → List ℕ → Image → ℕ → List ℕ
 load_line kind seed image count =
     let rs = loaded_replies kind seed (world_of image) count in
     let w = (loaded kind seed (world_of image) count).world in
-    line_of (load_words count (grants rs) (refusals rs) (free_count w) (length w.pairs))
+    line_of (load_words count (granted_count rs) (refused_count rs) (free_count w) (length w.pairs))
 
 -- an image stands for the world after so many requests over the world of the image at the start
 pub record IsLoadedBy (kind : PlaceKind) (seed : List ℕ) (image : Image) (count : ℕ) (x : Image) : Type 0 where

@@ -10,7 +10,7 @@ use Rattle.image_world.specs.Stands.{Stands}
 use Rattle.disk_laws.specs.Reclaiming.{is_sweep}
 use Rattle.serving.specs.Handling.{DiskRules}
 use Rattle.serving.specs.ModelRules.{Placed, model_rules}
-use Rattle.serving.specs.Work.{Work}
+use Rattle.serving.specs.Work.{WorkCount}
 use Rattle.tsd_core.specs.Core.{Core, state_on}
 use Rattle.image_world.specs.Debt.{debt}
 use Rattle.tsd_core.specs.Work.{made_in, cost_in}
@@ -33,7 +33,7 @@ abbrev pub writes_before : State → ℕ → Request → ℕ
 writes_before s owed q = cond (is_granted s.world s.sessions q) (limit_with owed q) 0
 
 -- how its work is counted; of a sweep no bound is said here, but by the core
-abbrev pub disk_work : Work Request Placed
+abbrev pub disk_work : WorkCount Request Placed
 disk_work = record {
   bounded = λ q. is_sweep q ≡ false;
   cost = λ s q. cost_in s.state q;

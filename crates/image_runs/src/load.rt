@@ -7,7 +7,7 @@ ghost use Rattle.image_device.specs.Runs.{IsFirm, LeavesOnly, LeavesPart};
 ghost use Rattle.image_world.specs.Behind.{LeavesBehind, behind};
 ghost use Rattle.image_world.specs.Stands.{world_of};
 ghost use Rattle.tsd_model.specs.Run.{at_rest};
-ghost use Rattle.load_gen.specs.Load.{load_of};
+ghost use Rattle.load_gen.specs.Load.{load_after};
 ghost use Rattle.recovery.specs.Opening.{IsForeign, IsSpared, IsUntouched, StandAlike};
 ghost use Rattle.tsd_model.specs.Run.{IsAnswer};
 ghost use Rattle.volume_laws.specs.Moments.{LeavesEither};
@@ -154,7 +154,7 @@ fn run<D: Device>(
     requires ready { IsCoreReady core.old }
     requires at { D.told → IsCoreAt core.old (D.view dev.old) }
     requires start { D.told → state_on core.old (D.view dev.old).reads ≡ at_rest (world_of (D.view dev.old).reads) }
-    requires draws { draws.old ≡ load_of load.now.seed (told_world core.old).geometry 0 }
+    requires draws { draws.old ≡ load_after load.now.seed (told_world core.old).geometry 0 }
     ensures loaded { D.told → OnOk result (IsLoadDone placement.now.kind load.now.seed (D.view dev.old).reads
         load.now.count (D.view dev.new)) }
     ensures summary { D.told
@@ -198,7 +198,7 @@ fn apply_all<D: Device>(
     requires ready { IsCoreReady core.old }
     requires at { D.told → IsCoreAt core.old (D.view dev.old) }
     requires start { D.told → state_on core.old (D.view dev.old).reads ≡ at_rest (world_of (D.view dev.old).reads) }
-    requires draws { draws.old ≡ load_of load.now.seed (told_world core.old).geometry 0 }
+    requires draws { draws.old ≡ load_after load.now.seed (told_world core.old).geometry 0 }
     ensures ready { OnOk result (IsCoreReady core.new) }
     ensures at { D.told → OnOk result (IsCoreAt core.new (D.view dev.new)) }
     ensures applied { D.told

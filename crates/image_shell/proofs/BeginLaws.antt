@@ -2,7 +2,7 @@
 use Rattle.std.proofs.Common.{◌≡◌, inl, inr, ℕ, Bool, true, false, List, [], ◌∷◌, refl, sym, ◌∙◌, ap, subst}
 use Rattle.std.specs.Prelude.{Option, Some, None, Ok, Err, is_some, option_map}
 use Rattle.tsd_model.specs.World.{World}
-use Rattle.tsd_model.specs.Sessions.{Fits, Held, Sessions, begun, fitted, held_by, is_open, no_sessions}
+use Rattle.tsd_model.specs.Sessions.{Fits, Held, Sessions, session_begun, fitted, held_by, is_open, no_sessions}
 use Rattle.tsd_model.specs.Step.{Outcome, State, judged}
 use Rattle.tsd_model.specs.Run.{answer, starved}
 use Rattle.tsd_model.specs.Valid.{IsValid}
@@ -63,7 +63,7 @@ module _ (kind : PlaceKind) (s : State) (none : s.sessions ≡ no_sessions) wher
   opens_by (Some r) false e = absurd (no_refusal r e)
   opens_by (Some r) true e = absurd (no_refusal r e)
   opens_by None true e = absurd (no_memory e)
-  opens_by None false e = open_fitted s.world (begun s.world s.sessions 1) 1 ∙ ap (λ (v : Sessions). is_open (begun s.world v 1) 1) none
+  opens_by None false e = open_fitted s.world (session_begun s.world s.sessions 1) 1 ∙ ap (λ (v : Sessions). is_open (session_begun s.world v 1) 1) none
 
   begin_opens : (want : Bool) → (answer kind s (ask.Begin 1) want).reply ≡ reply.Done → is_open (answer kind s (ask.Begin 1) want).state.sessions 1 ≡ true
   begin_opens false e = opens_by (verdict s.world s.sessions (ask.Begin 1)) false e

@@ -10,7 +10,7 @@ use Rattle.image_device.specs.Runs.{IsFirm}
 use Rattle.image_layout.specs.Areas.{header_sector, format_gate, data_start}
 use Rattle.image_layout.specs.Header.{header_of}
 use Rattle.image_layout.specs.Offsets.{data_sector}
-use Rattle.image_layout.specs.Image.{Image, is_open, is_marked}
+use Rattle.image_layout.specs.Image.{Image, says_open, is_bit_set}
 use Rattle.intent_journal.specs.Crash.{IsBefore, IsTheSame}
 use Rattle.intent_journal.specs.Home.{home, is_journal, AgreeBut}
 use Rattle.intent_journal.specs.Records.{has_valid_records}
@@ -34,7 +34,7 @@ alike_back x y alike = record {
   blocks = λ b part inside within live.
       let inside_x = subst (λ (g : Geometry). b < g.blocks) size inside in
       let within_x = subst (λ (g : Geometry). part < g.sectors) size within in
-      let live_x = sym (same_marks (header_on x).geometry x y alike.areas b inside_x) ∙ subst (λ (g : Geometry). is_marked y g b ≡ true) size live in
+      let live_x = sym (same_marks (header_on x).geometry x y alike.areas b inside_x) ∙ subst (λ (g : Geometry). is_bit_set y g b ≡ true) size live in
       subst (λ (g : Geometry). x (data_sector g b part) ≡ y (data_sector g b part)) (sym size) (sym (alike.blocks b part inside_x within_x live_x));
 }
   where
@@ -65,8 +65,8 @@ alike_outside x y same = record {
   blocks = λ b part inside within live. same (data_sector (header_on x).geometry b part) (above_journal (data_sector (header_on x).geometry b part) (omega arith));
 }
 
-pub gate_outside : (x y : Image) → home y format_gate ≡ home x format_gate → is_open (y format_gate) ≡ is_open (x format_gate)
-gate_outside x y same = ap is_open (sym (home_gate y) ∙ (same ∙ home_gate x))
+pub gate_outside : (x y : Image) → home y format_gate ≡ home x format_gate → says_open (y format_gate) ≡ says_open (x format_gate)
+gate_outside x y same = ap says_open (sym (home_gate y) ∙ (same ∙ home_gate x))
 
 pub formatted_by : (x y : Image) → home y format_gate ≡ home x format_gate → IsFormatGateOpen x → IsFormatGateOpen y
 formatted_by x y same formatted = gate_outside x y same ∙ formatted
@@ -111,7 +111,7 @@ not_unused g x some unused n low = elim (cases_Bool (some n)) [
 
 pub unused_agree : (image y : Image) (some : ℕ → Bool) → AreUnused (header_on (home image)).geometry (home image) some → ((n : ℕ) → some n ≡ false → y n ≡ image n) → ReadAlike image y
 unused_agree image y some unused same = record {
-  gate = ap is_open (same format_gate (low format_gate (omega arith)));
+  gate = ap says_open (same format_gate (low format_gate (omega arith)));
   journal = valid_same image y (journal_alike image y journal);
   homes = record {
     header = there header_sector (low header_sector (omega arith));

@@ -12,7 +12,7 @@ use Rattle.image_layout.specs.declared.fault.HeaderFault.{HeaderFault}
 use Rattle.image_layout.specs.declared.fault.HeaderFault.TheVariants.{Magic, Version, Field}
 use Rattle.image_layout.specs.Areas.{header_sector, format_gate}
 use Rattle.image_layout.specs.Header.{magic, header_of, IsVersion, IsSectors, IsPrimaries, IsFirstBad, IsHeaderReading}
-use Rattle.image_layout.specs.Image.{Image, is_open, is_marked, stored_count, source_field, target_field}
+use Rattle.image_layout.specs.Image.{Image, says_open, is_bit_set, stored_count, source_field, target_field}
 use Rattle.intent_journal.specs.Home.{home}
 use Rattle.intent_journal.specs.Records.{has_valid_records}
 use Rattle.pointer_table.specs.Slots.{pairs_in}
@@ -156,9 +156,9 @@ module _ (x : Image) (g : Geometry) where
       true_if false h = absurd (h refl)
 
   primaries_or_fault : HasNoBad x g → HasNoRepeated x g → AreRight x g ⊎ Fails
-  primaries_or_fault good apart = elim (least_below (λ b. not (is_marked x g b)) g.primaries) [
-    | inl none ↦ ends_or_fault good apart (λ b h. on (is_marked x g b) (none b h))
-    | inr bad ↦ inr (fault.Primary bad.number, (good, apart, record { inside = bad.inside; free = off (is_marked x g bad.number) bad.passes; least = λ a h. on (is_marked x g a) (bad.least a h) }))
+  primaries_or_fault good apart = elim (least_below (λ b. not (is_bit_set x g b)) g.primaries) [
+    | inl none ↦ ends_or_fault good apart (λ b h. on (is_bit_set x g b) (none b h))
+    | inr bad ↦ inr (fault.Primary bad.number, (good, apart, record { inside = bad.inside; free = off (is_bit_set x g bad.number) bad.passes; least = λ a h. on (is_bit_set x g a) (bad.least a h) }))
   ]
     where
       on : (t : Bool) → not t ≡ false → t ≡ true
@@ -194,7 +194,7 @@ module _ (x : Image) (g : Geometry) where
   ]
 
 -- ---- all of them
-pub damaged : (image : Image) (why : ImageFault) → is_open (image format_gate) ≡ true → has_valid_records image ≡ true → HasHeader (home image) → IsTableFault (home image) (header_on (home image)).geometry why → IsFirstFault image why
+pub damaged : (image : Image) (why : ImageFault) → says_open (image format_gate) ≡ true → has_valid_records image ≡ true → HasHeader (home image) → IsTableFault (home image) (header_on (home image)).geometry why → IsFirstFault image why
 damaged image fault.NotFormatted formatted journal header p = absurd p
 damaged image fault.Descriptor formatted journal header p = absurd p
 damaged image (fault.Header why) formatted journal header p = absurd p
@@ -205,7 +205,7 @@ damaged image (fault.EndNotLive a b) formatted journal header p = record { forma
 damaged image (fault.Count b s f) formatted journal header p = record { formatted = formatted; journal = journal; header = header; tables = p }
 
 pub good_or_fault : (image : Image) → IsGood image ⊎ ((why : ImageFault) × IsFirstFault image why)
-good_or_fault image = elim (cases_Bool (is_open (image format_gate))) [
+good_or_fault image = elim (cases_Bool (says_open (image format_gate))) [
   | inr closed ↦ inr (fault.NotFormatted, closed)
   | inl formatted ↦ elim (cases_Bool (has_valid_records image)) [
     | inr fails ↦ inr (fault.Descriptor, (formatted, fails))

@@ -13,7 +13,7 @@ use Rattle.image_device.specs.Image.{put_at}
 use Rattle.image_layout.specs.declared.fault.HeaderFault.TheVariants as why
 use Rattle.image_layout.specs.declared.fault.ImageFault.TheVariants as fault
 use Rattle.image_layout.specs.Header.{header_bytes}
-use Rattle.image_layout.specs.Image.{Image, is_marked, stored_count}
+use Rattle.image_layout.specs.Image.{Image, is_bit_set, stored_count}
 use Rattle.intent_journal.specs.Descriptor.{descriptor_bytes}
 use Rattle.intent_journal.specs.Home.{home}
 use Rattle.intent_journal.specs.Records.{open_records, has_valid_records}
@@ -78,8 +78,8 @@ module _ (x : Image) (g : Geometry) where
       (sym ((slots_stored x g).each r.first (let a = r.apart in let b = r.inside in omega arith)) ∙ r.one)
       (sym ((slots_stored x g).each r.second r.inside) ∙ r.other)
 
-  primaries_by : all_below (is_marked x g) g.primaries ≡ true → HasPrimaries x g
-  primaries_by all b h = each_below (is_marked x g) g.primaries all b h
+  primaries_by : all_below (is_bit_set x g) g.primaries ≡ true → HasPrimaries x g
+  primaries_by all b h = each_below (is_bit_set x g) g.primaries all b h
 
   ends_by : list_all (are_marked x g) (pairs_in (slots_on x g)) ≡ true → HasEnds x g
   ends_by all e held = all_of_held (are_marked x g) (pairs_in (slots_on x g)) e.0 e.1 all held

@@ -8,22 +8,22 @@ use Rattle.image_layout.specs.declared.fault.ImageFault.TheVariants as fault
 use Rattle.image_layout.specs.Areas.{header_sector, format_gate}
 use Rattle.image_layout.proofs.ReadingLaws.{none_wrong}
 use Rattle.image_layout.proofs.ReadingLaws.{one_fault as one_why}
-use Rattle.image_layout.specs.Image.{Image, is_open, is_marked, stored_count, source_field, target_field}
+use Rattle.image_layout.specs.Image.{Image, says_open, is_bit_set, stored_count, source_field, target_field}
 use Rattle.intent_journal.specs.Home.{home}
 use Rattle.intent_journal.specs.Records.{has_valid_records}
-use Rattle.pointer_table.specs.Loading.{is_bad, is_bad_at, HasNoBad, IsLeastBadSlot, IsLeastRepeated}
+use Rattle.pointer_table.specs.Loading.{is_bad_slot, is_bad_at, HasNoBad, IsLeastBadSlot, IsLeastRepeated}
 use Rattle.image_world.specs.Faults.{HasPrimaries, HasEnds, HasCounts, AreRight, are_marked, found_count, IsLeastPrimary, IsLeastEnd, IsLeastCount, IsTableFault, IsGood, IsFirstFault}
 use Rattle.image_world.specs.Tables.{header_on}
 
 -- ---- a test that passes has no fault
 bad_there : (x : Image) (g : Geometry) (k s t : ℕ) → IsLeastBadSlot x g k s t → is_bad_at x g k ≡ true
-bad_there x g k s t least = ap (λ a. is_bad g a (target_field x g k)) (sym least.source_is) ∙ (ap (is_bad g s) (sym least.target_is) ∙ least.bad)
+bad_there x g k s t least = ap (λ a. is_bad_slot g a (target_field x g k)) (sym least.source_is) ∙ (ap (is_bad_slot g s) (sym least.target_is) ∙ least.bad)
 
 not_bad : (x : Image) (g : Geometry) (k s t : ℕ) → HasNoBad x g → IsLeastBadSlot x g k s t → ⊥
 not_bad x g k s t none least = both_ways (is_bad_at x g k) (none k least.inside) (bad_there x g k s t least)
 
 not_free : (x : Image) (g : Geometry) (b : ℕ) → HasPrimaries x g → IsLeastPrimary x g b → ⊥
-not_free x g b all least = both_ways (is_marked x g b) least.free (all b least.inside)
+not_free x g b all least = both_ways (is_bit_set x g b) least.free (all b least.inside)
 
 not_ended : (x : Image) (g : Geometry) (e : ℕ × ℕ) → HasEnds x g → IsLeastEnd x g e → ⊥
 not_ended x g e all least = both_ways (are_marked x g e) least.free (all e least.held)
@@ -55,8 +55,8 @@ one_primary : (x : Image) (g : Geometry) (a b : ℕ) → IsLeastPrimary x g a �
 one_primary x g a b one other = elim (cases_order a b) [
   | inl same ↦ ap fault.Primary same
   | inr order ↦ elim order [
-    | inl before ↦ absurd (both_ways (is_marked x g a) one.free (other.least a before))
-    | inr after ↦ absurd (both_ways (is_marked x g b) other.free (one.least b after))
+    | inl before ↦ absurd (both_ways (is_bit_set x g a) one.free (other.least a before))
+    | inr after ↦ absurd (both_ways (is_bit_set x g b) other.free (one.least b after))
   ]
 ]
 
@@ -141,14 +141,14 @@ no_table_fault x g (fault.Count b s f) right p = not_counted x g b s f right.cou
 -- ---- all of them
 pub one_fault : (image : Image) (one other : ImageFault) → IsFirstFault image one → IsFirstFault image other → one ≡ other
 one_fault image fault.NotFormatted fault.NotFormatted p q = refl
-one_fault image fault.NotFormatted fault.Descriptor p q = absurd (both_ways (is_open (image format_gate)) p q.0)
-one_fault image fault.NotFormatted (fault.Header bwhy) p q = absurd (both_ways (is_open (image format_gate)) p q.0)
-one_fault image fault.NotFormatted (fault.Slot k2 s2 t2) p q = absurd (both_ways (is_open (image format_gate)) p q.formatted)
-one_fault image fault.NotFormatted (fault.Repeated a2 b2) p q = absurd (both_ways (is_open (image format_gate)) p q.formatted)
-one_fault image fault.NotFormatted (fault.Primary b2) p q = absurd (both_ways (is_open (image format_gate)) p q.formatted)
-one_fault image fault.NotFormatted (fault.EndNotLive a2 b2) p q = absurd (both_ways (is_open (image format_gate)) p q.formatted)
-one_fault image fault.NotFormatted (fault.Count b2 s2 f2) p q = absurd (both_ways (is_open (image format_gate)) p q.formatted)
-one_fault image fault.Descriptor fault.NotFormatted p q = absurd (both_ways (is_open (image format_gate)) q p.0)
+one_fault image fault.NotFormatted fault.Descriptor p q = absurd (both_ways (says_open (image format_gate)) p q.0)
+one_fault image fault.NotFormatted (fault.Header bwhy) p q = absurd (both_ways (says_open (image format_gate)) p q.0)
+one_fault image fault.NotFormatted (fault.Slot k2 s2 t2) p q = absurd (both_ways (says_open (image format_gate)) p q.formatted)
+one_fault image fault.NotFormatted (fault.Repeated a2 b2) p q = absurd (both_ways (says_open (image format_gate)) p q.formatted)
+one_fault image fault.NotFormatted (fault.Primary b2) p q = absurd (both_ways (says_open (image format_gate)) p q.formatted)
+one_fault image fault.NotFormatted (fault.EndNotLive a2 b2) p q = absurd (both_ways (says_open (image format_gate)) p q.formatted)
+one_fault image fault.NotFormatted (fault.Count b2 s2 f2) p q = absurd (both_ways (says_open (image format_gate)) p q.formatted)
+one_fault image fault.Descriptor fault.NotFormatted p q = absurd (both_ways (says_open (image format_gate)) q p.0)
 one_fault image fault.Descriptor fault.Descriptor p q = refl
 one_fault image fault.Descriptor (fault.Header bwhy) p q = absurd (both_ways (has_valid_records image) p.1 q.1)
 one_fault image fault.Descriptor (fault.Slot k2 s2 t2) p q = absurd (both_ways (has_valid_records image) p.1 q.journal)
@@ -156,7 +156,7 @@ one_fault image fault.Descriptor (fault.Repeated a2 b2) p q = absurd (both_ways 
 one_fault image fault.Descriptor (fault.Primary b2) p q = absurd (both_ways (has_valid_records image) p.1 q.journal)
 one_fault image fault.Descriptor (fault.EndNotLive a2 b2) p q = absurd (both_ways (has_valid_records image) p.1 q.journal)
 one_fault image fault.Descriptor (fault.Count b2 s2 f2) p q = absurd (both_ways (has_valid_records image) p.1 q.journal)
-one_fault image (fault.Header awhy) fault.NotFormatted p q = absurd (both_ways (is_open (image format_gate)) q p.0)
+one_fault image (fault.Header awhy) fault.NotFormatted p q = absurd (both_ways (says_open (image format_gate)) q p.0)
 one_fault image (fault.Header awhy) fault.Descriptor p q = absurd (both_ways (has_valid_records image) q.1 p.1)
 one_fault image (fault.Header awhy) (fault.Header bwhy) p q = ap fault.Header (one_why (home image header_sector) awhy bwhy p.2 q.2)
 one_fault image (fault.Header awhy) (fault.Slot k2 s2 t2) p q = absurd (none_wrong (home image header_sector) (header_on (home image)) awhy q.header p.2)
@@ -164,7 +164,7 @@ one_fault image (fault.Header awhy) (fault.Repeated a2 b2) p q = absurd (none_wr
 one_fault image (fault.Header awhy) (fault.Primary b2) p q = absurd (none_wrong (home image header_sector) (header_on (home image)) awhy q.header p.2)
 one_fault image (fault.Header awhy) (fault.EndNotLive a2 b2) p q = absurd (none_wrong (home image header_sector) (header_on (home image)) awhy q.header p.2)
 one_fault image (fault.Header awhy) (fault.Count b2 s2 f2) p q = absurd (none_wrong (home image header_sector) (header_on (home image)) awhy q.header p.2)
-one_fault image (fault.Slot k1 s1 t1) fault.NotFormatted p q = absurd (both_ways (is_open (image format_gate)) q p.formatted)
+one_fault image (fault.Slot k1 s1 t1) fault.NotFormatted p q = absurd (both_ways (says_open (image format_gate)) q p.formatted)
 one_fault image (fault.Slot k1 s1 t1) fault.Descriptor p q = absurd (both_ways (has_valid_records image) q.1 p.journal)
 one_fault image (fault.Slot k1 s1 t1) (fault.Header bwhy) p q = absurd (none_wrong (home image header_sector) (header_on (home image)) bwhy p.header q.2)
 one_fault image (fault.Slot k1 s1 t1) (fault.Slot k2 s2 t2) p q = one_table_fault (home image) (header_on (home image)).geometry (fault.Slot k1 s1 t1) (fault.Slot k2 s2 t2) p.tables q.tables
@@ -172,7 +172,7 @@ one_fault image (fault.Slot k1 s1 t1) (fault.Repeated a2 b2) p q = one_table_fau
 one_fault image (fault.Slot k1 s1 t1) (fault.Primary b2) p q = one_table_fault (home image) (header_on (home image)).geometry (fault.Slot k1 s1 t1) (fault.Primary b2) p.tables q.tables
 one_fault image (fault.Slot k1 s1 t1) (fault.EndNotLive a2 b2) p q = one_table_fault (home image) (header_on (home image)).geometry (fault.Slot k1 s1 t1) (fault.EndNotLive a2 b2) p.tables q.tables
 one_fault image (fault.Slot k1 s1 t1) (fault.Count b2 s2 f2) p q = one_table_fault (home image) (header_on (home image)).geometry (fault.Slot k1 s1 t1) (fault.Count b2 s2 f2) p.tables q.tables
-one_fault image (fault.Repeated a1 b1) fault.NotFormatted p q = absurd (both_ways (is_open (image format_gate)) q p.formatted)
+one_fault image (fault.Repeated a1 b1) fault.NotFormatted p q = absurd (both_ways (says_open (image format_gate)) q p.formatted)
 one_fault image (fault.Repeated a1 b1) fault.Descriptor p q = absurd (both_ways (has_valid_records image) q.1 p.journal)
 one_fault image (fault.Repeated a1 b1) (fault.Header bwhy) p q = absurd (none_wrong (home image header_sector) (header_on (home image)) bwhy p.header q.2)
 one_fault image (fault.Repeated a1 b1) (fault.Slot k2 s2 t2) p q = one_table_fault (home image) (header_on (home image)).geometry (fault.Repeated a1 b1) (fault.Slot k2 s2 t2) p.tables q.tables
@@ -180,7 +180,7 @@ one_fault image (fault.Repeated a1 b1) (fault.Repeated a2 b2) p q = one_table_fa
 one_fault image (fault.Repeated a1 b1) (fault.Primary b2) p q = one_table_fault (home image) (header_on (home image)).geometry (fault.Repeated a1 b1) (fault.Primary b2) p.tables q.tables
 one_fault image (fault.Repeated a1 b1) (fault.EndNotLive a2 b2) p q = one_table_fault (home image) (header_on (home image)).geometry (fault.Repeated a1 b1) (fault.EndNotLive a2 b2) p.tables q.tables
 one_fault image (fault.Repeated a1 b1) (fault.Count b2 s2 f2) p q = one_table_fault (home image) (header_on (home image)).geometry (fault.Repeated a1 b1) (fault.Count b2 s2 f2) p.tables q.tables
-one_fault image (fault.Primary b1) fault.NotFormatted p q = absurd (both_ways (is_open (image format_gate)) q p.formatted)
+one_fault image (fault.Primary b1) fault.NotFormatted p q = absurd (both_ways (says_open (image format_gate)) q p.formatted)
 one_fault image (fault.Primary b1) fault.Descriptor p q = absurd (both_ways (has_valid_records image) q.1 p.journal)
 one_fault image (fault.Primary b1) (fault.Header bwhy) p q = absurd (none_wrong (home image header_sector) (header_on (home image)) bwhy p.header q.2)
 one_fault image (fault.Primary b1) (fault.Slot k2 s2 t2) p q = one_table_fault (home image) (header_on (home image)).geometry (fault.Primary b1) (fault.Slot k2 s2 t2) p.tables q.tables
@@ -188,7 +188,7 @@ one_fault image (fault.Primary b1) (fault.Repeated a2 b2) p q = one_table_fault 
 one_fault image (fault.Primary b1) (fault.Primary b2) p q = one_table_fault (home image) (header_on (home image)).geometry (fault.Primary b1) (fault.Primary b2) p.tables q.tables
 one_fault image (fault.Primary b1) (fault.EndNotLive a2 b2) p q = one_table_fault (home image) (header_on (home image)).geometry (fault.Primary b1) (fault.EndNotLive a2 b2) p.tables q.tables
 one_fault image (fault.Primary b1) (fault.Count b2 s2 f2) p q = one_table_fault (home image) (header_on (home image)).geometry (fault.Primary b1) (fault.Count b2 s2 f2) p.tables q.tables
-one_fault image (fault.EndNotLive a1 b1) fault.NotFormatted p q = absurd (both_ways (is_open (image format_gate)) q p.formatted)
+one_fault image (fault.EndNotLive a1 b1) fault.NotFormatted p q = absurd (both_ways (says_open (image format_gate)) q p.formatted)
 one_fault image (fault.EndNotLive a1 b1) fault.Descriptor p q = absurd (both_ways (has_valid_records image) q.1 p.journal)
 one_fault image (fault.EndNotLive a1 b1) (fault.Header bwhy) p q = absurd (none_wrong (home image header_sector) (header_on (home image)) bwhy p.header q.2)
 one_fault image (fault.EndNotLive a1 b1) (fault.Slot k2 s2 t2) p q = one_table_fault (home image) (header_on (home image)).geometry (fault.EndNotLive a1 b1) (fault.Slot k2 s2 t2) p.tables q.tables
@@ -196,7 +196,7 @@ one_fault image (fault.EndNotLive a1 b1) (fault.Repeated a2 b2) p q = one_table_
 one_fault image (fault.EndNotLive a1 b1) (fault.Primary b2) p q = one_table_fault (home image) (header_on (home image)).geometry (fault.EndNotLive a1 b1) (fault.Primary b2) p.tables q.tables
 one_fault image (fault.EndNotLive a1 b1) (fault.EndNotLive a2 b2) p q = one_table_fault (home image) (header_on (home image)).geometry (fault.EndNotLive a1 b1) (fault.EndNotLive a2 b2) p.tables q.tables
 one_fault image (fault.EndNotLive a1 b1) (fault.Count b2 s2 f2) p q = one_table_fault (home image) (header_on (home image)).geometry (fault.EndNotLive a1 b1) (fault.Count b2 s2 f2) p.tables q.tables
-one_fault image (fault.Count b1 s1 f1) fault.NotFormatted p q = absurd (both_ways (is_open (image format_gate)) q p.formatted)
+one_fault image (fault.Count b1 s1 f1) fault.NotFormatted p q = absurd (both_ways (says_open (image format_gate)) q p.formatted)
 one_fault image (fault.Count b1 s1 f1) fault.Descriptor p q = absurd (both_ways (has_valid_records image) q.1 p.journal)
 one_fault image (fault.Count b1 s1 f1) (fault.Header bwhy) p q = absurd (none_wrong (home image header_sector) (header_on (home image)) bwhy p.header q.2)
 one_fault image (fault.Count b1 s1 f1) (fault.Slot k2 s2 t2) p q = one_table_fault (home image) (header_on (home image)).geometry (fault.Count b1 s1 f1) (fault.Slot k2 s2 t2) p.tables q.tables
@@ -206,7 +206,7 @@ one_fault image (fault.Count b1 s1 f1) (fault.EndNotLive a2 b2) p q = one_table_
 one_fault image (fault.Count b1 s1 f1) (fault.Count b2 s2 f2) p q = one_table_fault (home image) (header_on (home image)).geometry (fault.Count b1 s1 f1) (fault.Count b2 s2 f2) p.tables q.tables
 
 pub no_fault : (image : Image) (why : ImageFault) → IsGood image → IsFirstFault image why → ⊥
-no_fault image fault.NotFormatted good p = both_ways (is_open (image format_gate)) p good.formatted
+no_fault image fault.NotFormatted good p = both_ways (says_open (image format_gate)) p good.formatted
 no_fault image fault.Descriptor good p = both_ways (has_valid_records image) p.1 good.journal
 no_fault image (fault.Header why) good p = none_wrong (home image header_sector) (header_on (home image)) why good.header p.2
 no_fault image (fault.Slot k s t) good p = no_table_fault (home image) (header_on (home image)).geometry (fault.Slot k s t) good.tables p.tables

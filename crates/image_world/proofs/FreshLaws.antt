@@ -17,7 +17,7 @@ use Rattle.tsd_model.specs.World.{World, contents, is_live, is_primary, all_bloc
 use Rattle.tsd_model.specs.Reach.{blocks_that, restricted}
 use Rattle.tsd_model.specs.Doomed.{is_led_only_from, hangs_on, doomed_round, doomed_rounds, settle}
 use Rattle.image_device.specs.Image.{zeros}
-use Rattle.image_layout.specs.Image.{Image, is_open, sector_bytes, data_bytes}
+use Rattle.image_layout.specs.Image.{Image, says_open, sector_bytes, data_bytes}
 use Rattle.image_layout.specs.Offsets.{data_sector}
 use Rattle.intent_journal.specs.Home.{home}
 use Rattle.intent_journal.specs.Records.{open_records}
@@ -180,8 +180,8 @@ fresh_stands g caps x lawful each fresh formatted = record {
         ]
 
 -- a torn format gate
-pub torn_gate : (g : Geometry) (caps : List CapPair) (x : Image) → IsLawful g → length caps ≡ g.primaries → IsWrittenFresh g caps x → (is_open (x 1) ≡ false) ⊎ Stands x (fresh_world g caps)
-torn_gate g caps x lawful each fresh = elim (cases_Bool (is_open (x 1))) [
+pub torn_gate : (g : Geometry) (caps : List CapPair) (x : Image) → IsLawful g → length caps ≡ g.primaries → IsWrittenFresh g caps x → (says_open (x 1) ≡ false) ⊎ Stands x (fresh_world g caps)
+torn_gate g caps x lawful each fresh = elim (cases_Bool (says_open (x 1))) [
   | inl e ↦ inr (fresh_stands g caps x lawful each fresh e)
   | inr e ↦ inl e
 ]

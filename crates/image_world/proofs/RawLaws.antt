@@ -11,7 +11,7 @@ use Rattle.tsd_model.specs.World.{contents, is_live}
 use Rattle.tsd_model.specs.Valid.{IsRaw}
 use Rattle.image_device.specs.Image.{IsSector}
 use Rattle.image_layout.specs.Header.{IsVersion}
-use Rattle.image_layout.specs.Image.{Image, is_marked, sector_bytes}
+use Rattle.image_layout.specs.Image.{Image, is_bit_set, sector_bytes}
 use Rattle.pointer_table.proofs.SlotLaws.{rising-pairs_in, length-pairs_in_le}
 use Rattle.pointer_table.specs.Sectors.{stored_slot}
 use Rattle.block_alloc.specs.LiveMap.{is_live as is_marked_in}
@@ -68,7 +68,7 @@ unfolding tables_of world_with
 raw_is_raw x whole header right =
     let g = (header_on x).geometry in
     let t = tables_of x in
-    let marked : (b : ℕ) → b < g.blocks → is_marked x g b ≡ true → is_live (raw_of x) b ≡ true = λ b h e. live_with t (data_on x) b h ∙ (live_is x b h ∙ e) in
+    let marked : (b : ℕ) → b < g.blocks → is_bit_set x g b ≡ true → is_live (raw_of x) b ≡ true = λ b h e. live_with t (data_on x) b h ∙ (live_is x b h ∙ e) in
     record {
       sized = record {
         lawful = header.2;

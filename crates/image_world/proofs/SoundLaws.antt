@@ -11,12 +11,12 @@ use Rattle.tsd_model.specs.Pairs.{count_to, holds}
 use Rattle.image_layout.specs.declared.header.Header.{Header}
 use Rattle.image_layout.specs.Areas.{header_sector, sweep_flag}
 use Rattle.image_layout.specs.Header.{IsHeaderReading}
-use Rattle.image_layout.specs.Image.{Image, is_open, is_marked, stored_count, source_field, target_field}
+use Rattle.image_layout.specs.Image.{Image, says_open, is_bit_set, stored_count, source_field, target_field}
 use Rattle.intent_journal.specs.Home.{home}
 use Rattle.pointer_table.specs.Slots.{slot_at, pairs_in}
 use Rattle.pointer_table.specs.Table.{MayBeHeld}
 use Rattle.pointer_table.specs.Sectors.{slot_of, stored_slot}
-use Rattle.pointer_table.specs.Loading.{is_bad}
+use Rattle.pointer_table.specs.Loading.{is_bad_slot}
 use Rattle.pointer_table.proofs.LoadingLaws.{one_table, stored_elsewhere}
 use Rattle.pointer_table.proofs.LoadLaws.{good_slot}
 use Rattle.pointer_table.proofs.SlotLaws.{some_inside}
@@ -72,11 +72,11 @@ had_elsewhere t x y sound header same had = record {
   slots = stored_elsewhere t.slots t.geometry x y (λ n from to. same n (omega arith) (omega arith)) had.slots;
   counts = same_counts t.counts t.geometry x y (λ n from to. same n (omega arith) (omega arith)) had.counts;
   records = same_records t.version t.records x y sound.version (omega (arith, sound.each_record, sound.slots.lawful.primaries.1)) (λ n from to. same n (omega arith) (omega arith)) had.records;
-  flag = ap is_open (same sweep_flag (omega arith) (omega arith)) ∙ had.flag;
+  flag = ap says_open (same sweep_flag (omega arith) (omega arith)) ∙ had.flag;
 }
 
 -- ---- the tests
-bad_within : (g : Geometry) (source target : ℕ) → ((e : ℕ × ℕ) → slot_of source target ≡ Some e → MayBeHeld g e) → is_bad g source target ≡ false
+bad_within : (g : Geometry) (source target : ℕ) → ((e : ℕ × ℕ) → slot_of source target ≡ Some e → MayBeHeld g e) → is_bad_slot g source target ≡ false
 bad_within g source target within = elim (cases_eq source 0) [
   | inl none ↦ grind (arith, nat_tests)
   | inr some ↦
@@ -133,7 +133,7 @@ right_sound x header right = record {
           ]
         ];
   };
-  each_block = length-map-range_with_len (is_marked x g) 0 g.blocks;
+  each_block = length-map-range_with_len (is_bit_set x g) 0 g.blocks;
   each_count = length-map-range_with_len (stored_count x g) 0 g.blocks;
   each_record = length-map-range_with_len (stored_record (header_on x).version x) 0 g.primaries;
   primaries = λ b h. sym (live_stored x g b (let most = header.2.primaries.2 in omega arith)) ∙ right.primaries b h;

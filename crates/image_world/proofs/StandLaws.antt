@@ -12,7 +12,7 @@ use Rattle.intent_journal.specs.Home.{home}
 use Rattle.pointer_table.specs.Slots.{pairs_in}
 use Rattle.pointer_table.specs.Table.{MayBeHeld}
 use Rattle.pointer_table.specs.Sectors.{stored_slot}
-use Rattle.pointer_table.specs.Loading.{is_bad, is_bad_at, HasNoBad, IsRepeatedOn}
+use Rattle.pointer_table.specs.Loading.{is_bad_slot, is_bad_at, HasNoBad, IsRepeatedOn}
 use Rattle.pointer_table.proofs.LoadLaws.{good_slot}
 use Rattle.pointer_table.proofs.SlotLaws.{slot_from_holds}
 use Rattle.image_world.specs.Alike.{AreAlike}
@@ -38,7 +38,7 @@ pub same_pairs : (g : Geometry) (x y : Image) → SameAreas g x y → pairs_in (
 same_pairs g x y same = ap pairs_in (same_below (stored_slot y g) (stored_slot x g) g.slots (same_slots g x y same))
 
 pub bad_alike : (g : Geometry) (x y : Image) → SameAreas g x y → (k : ℕ) → k < g.slots → is_bad_at y g k ≡ is_bad_at x g k
-bad_alike g x y same k h = λ i. is_bad g (same_sources g x y same k h i) (same_targets g x y same k h i)
+bad_alike g x y same k h = λ i. is_bad_slot g (same_sources g x y same k h i) (same_targets g x y same k h i)
 
 pub no_bad_alike : (g : Geometry) (x y : Image) → SameAreas g x y → HasNoBad x g → HasNoBad y g
 no_bad_alike g x y same none k h = bad_alike g x y same k h ∙ none k h

@@ -8,7 +8,7 @@ use Rattle.image_device.specs.View.{View}
 use Rattle.image_layout.specs.Areas.{header_sector, format_gate, sweep_flag, data_start}
 use Rattle.image_layout.specs.Header.{IsHeaderReading}
 use Rattle.image_layout.specs.Offsets.{data_sector}
-use Rattle.image_layout.specs.Image.{Image, is_open, data_bytes, gate_bytes}
+use Rattle.image_layout.specs.Image.{Image, says_open, data_bytes, gate_bytes}
 use Rattle.image_layout.specs.declared.offset.Patch.{Patch}
 use Rattle.intent_journal.specs.Crash.{IsAfter}
 use Rattle.intent_journal.specs.Home.{home, overlaid, is_journal, AgreeBut}
@@ -97,7 +97,7 @@ flag_turns t open_now sound = record {
     slots = stored_elsewhere t.slots t.geometry z (now z) (λ n from to. other n (above n (omega arith))) had.slots;
     counts = same_counts t.counts t.geometry z (now z) (λ n from to. other n (above n (omega arith))) had.counts;
     records = same_records t.version t.records z (now z) sound.version (omega (arith, sound.each_record, sound.slots.lawful.primaries.1)) (λ n from to. other n (above n (omega arith))) had.records;
-    flag = ap is_open (put_here sweep_flag (gate_bytes open_now) z sweep_flag refl) ∙ is_gate open_now;
+    flag = ap says_open (put_here sweep_flag (gate_bytes open_now) z sweep_flag refl) ∙ is_gate open_now;
   };
   contents = λ z n from. elsewhere z n (above n (omega arith));
   gate = λ z. elsewhere z format_gate refl;
@@ -112,6 +112,6 @@ flag_turns t open_now sound = record {
     above : (n : ℕ) → sweep_flag < n → (n == sweep_flag) ≡ false
     above n more = grind (arith, nat_tests)
 
-    is_gate : (now_open : Bool) → is_open (gate_bytes now_open) ≡ now_open
+    is_gate : (now_open : Bool) → says_open (gate_bytes now_open) ≡ now_open
     is_gate true = refl
     is_gate false = refl

@@ -13,7 +13,7 @@ use Rattle.image_layout.specs.Image.{Image}
 use Rattle.image_layout.specs.declared.offset.Patch.{Patch}
 use Rattle.intent_journal.specs.Batch.{IsBatch}
 use Rattle.intent_journal.specs.Home.{home, overlaid}
-use Rattle.intent_journal.specs.Records.{Record, patches_of, open_records}
+use Rattle.intent_journal.specs.Records.{JournalRecord, patches_of, open_records}
 use Rattle.intent_journal.proofs.OpenedRing.{opened_ring}
 use Rattle.intent_journal.proofs.Overlays.{overlaid_append, put_here, put_elsewhere}
 use Rattle.image_world.specs.Raw.{world_with, left_of, blank_of, zeros_of, data_on, raw_of}
@@ -34,7 +34,7 @@ overlaid_whole (p ∷ ps) x each whole =
       | inr e ↦ subst IsSector (sym (put_elsewhere p.sector p.bytes x n e)) (whole n)
     ])
 
-records_whole : (rs : List Record) (x : Image) → ((r : Record) → Contains rs r → IsBatch r) → ((n : ℕ) → IsSector (x n)) → (n : ℕ) → IsSector (overlaid (patches_of rs) x n)
+records_whole : (rs : List JournalRecord) (x : Image) → ((r : JournalRecord) → Contains rs r → IsBatch r) → ((n : ℕ) → IsSector (x n)) → (n : ℕ) → IsSector (overlaid (patches_of rs) x n)
 records_whole [] x each whole = whole
 records_whole (r ∷ rs) x each whole = λ n.
     subst IsSector (sym (λ i. overlaid_append r (patches_of rs) x i n))

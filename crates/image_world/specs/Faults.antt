@@ -6,7 +6,7 @@ use Rattle.image_layout.specs.declared.fault.ImageFault.{ImageFault}
 use Rattle.image_layout.specs.declared.fault.ImageFault.TheVariants as fault
 use Rattle.image_layout.specs.Areas.{header_sector, format_gate}
 use Rattle.image_layout.specs.Header.{IsHeaderReading}
-use Rattle.image_layout.specs.Image.{Image, is_open, is_marked, stored_count}
+use Rattle.image_layout.specs.Image.{Image, says_open, is_bit_set, stored_count}
 use Rattle.pointer_table.specs.Slots.{pairs_in}
 use Rattle.pointer_table.specs.Loading.{HasNoBad, IsLeastBadSlot, IsRepeatedOn, IsLeastRepeated}
 use Rattle.intent_journal.specs.Home.{home}
@@ -17,7 +17,7 @@ use Rattle.image_world.specs.Tables.{header_on, slots_on}
 
 -- 1: the format gate is open
 abbrev pub IsFormatGateOpen : Image → Type 0
-IsFormatGateOpen image = is_open (image format_gate) ≡ true
+IsFormatGateOpen image = says_open (image format_gate) ≡ true
 
 -- 2: each open record of the journal has a valid descriptor
 abbrev pub HasJournal : Image → Type 0
@@ -33,17 +33,17 @@ HasNoRepeated x g = (e : ℕ × ℕ) → ¬ IsRepeatedOn x g e
 
 -- 6: the primary blocks are live
 abbrev pub HasPrimaries : Image → Geometry → Type 0
-HasPrimaries x g = (b : ℕ) → b < g.primaries → is_marked x g b ≡ true
+HasPrimaries x g = (b : ℕ) → b < g.primaries → is_bit_set x g b ≡ true
 
 -- this is the least primary block that isn't live
 pub record IsLeastPrimary (x : Image) (g : Geometry) (b : ℕ) : Type 0 where
   pub inside : b < g.primaries
-  pub free : is_marked x g b ≡ false
-  pub least : (a : ℕ) → a < b → is_marked x g a ≡ true
+  pub free : is_bit_set x g b ≡ false
+  pub least : (a : ℕ) → a < b → is_bit_set x g a ≡ true
 
 -- whether both ends of a pair are live
 abbrev pub are_marked : Image → Geometry → (ℕ × ℕ) → Bool
-are_marked x g e = is_marked x g e.0 && is_marked x g e.1
+are_marked x g e = is_bit_set x g e.0 && is_bit_set x g e.1
 
 -- 7: both ends of each pair are live
 abbrev pub HasEnds : Image → Geometry → Type 0
@@ -111,7 +111,7 @@ pub record IsDamaged (image : Image) (why : ImageFault) : Type 0 where
 
 -- the first test that an image fails, with what fails it
 abbrev pub IsFirstFault : Image → ImageFault → Type 0
-IsFirstFault image fault.NotFormatted = is_open (image format_gate) ≡ false
+IsFirstFault image fault.NotFormatted = says_open (image format_gate) ≡ false
 IsFirstFault image fault.Descriptor = IsFormatGateOpen image × (has_valid_records image ≡ false)
 IsFirstFault image (fault.Header why) = IsFormatGateOpen image × HasJournal image
     × IsHeaderReading (home image header_sector) (Err why)

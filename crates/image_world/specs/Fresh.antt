@@ -10,14 +10,14 @@ use Rattle.image_layout.specs.Ring.{records}
 use Rattle.image_layout.specs.Areas.{header_sector, format_gate, sweep_flag, counts_start, bitmap_start, slots_start}
 use Rattle.image_layout.specs.Areas.{data_start}
 use Rattle.image_layout.specs.Header.{IsHeaderReading}
-use Rattle.image_layout.specs.Image.{Image, is_open}
+use Rattle.image_layout.specs.Image.{Image, says_open}
 use Rattle.pointer_table.specs.Fresh.{fresh_slots}
 use Rattle.ref_counts.specs.Fresh.{fresh_counts}
 use Rattle.block_alloc.specs.Fresh.{fresh_live}
 use Rattle.block_alloc.specs.Stored.{AreWritten as AreBitsWritten}
 use Rattle.cap_store.specs.Fresh.{fresh_records}
 use Rattle.cap_store.specs.Stored.{IsStored as AreKept}
-use Rattle.intent_journal.specs.Records.{is_open_gate}
+use Rattle.intent_journal.specs.Records.{is_gate_open}
 use Rattle.image_world.specs.Tables.{Tables}
 use Rattle.image_world.specs.Faults.{IsFormatGateOpen}
 use Rattle.image_world.specs.Sound.{HasTables}
@@ -37,7 +37,7 @@ fresh_tables g caps = record {
 
 -- every gate of the journal reads closed
 abbrev pub AreClosed : Image → Type 0
-AreClosed x = (index : ℕ) → index < records → is_open_gate x index ≡ false
+AreClosed x = (index : ℕ) → index < records → is_gate_open x index ≡ false
 
 -- All that formatting writes but the format gate: the tables, zeros in the primary blocks, and closed gates of the
 -- journal.
@@ -49,7 +49,7 @@ pub record IsWrittenFresh (g : Geometry) (caps : List CapPair) (x : Image) : Typ
 -- The sectors of those tables as they are written: zeros for counts and slots, a bit for each primary block.
 pub record AreFreshSectors (g : Geometry) (caps : List CapPair) (x : Image) : Type 0 where
   pub header : IsHeaderReading (x header_sector) (Ok (record { version = 1; geometry = g }))
-  pub flag : is_open (x sweep_flag) ≡ false
+  pub flag : says_open (x sweep_flag) ≡ false
   pub kept : AreKept 1 (fresh_records caps) x
   pub counts : (n : ℕ) → counts_start ≤ n → n < bitmap_start g → x n ≡ zeros
   pub bits : AreBitsWritten (fresh_live g) g x
@@ -73,4 +73,4 @@ FormattedStandsForFresh =
 abbrev pub TornGateIsClosedOrOpen : Type 0
 TornGateIsClosedOrOpen =
     (g : Geometry) (caps : List CapPair) (x : Image) → IsLawful g → length caps ≡ g.primaries → IsWrittenFresh g caps x
-    → (is_open (x format_gate) ≡ false) ⊎ Stands x (fresh_world g caps)
+    → (says_open (x format_gate) ≡ false) ⊎ Stands x (fresh_world g caps)

@@ -3,7 +3,7 @@ use Rattle.std.specs.Prelude.{◌≡◌, ℕ, ◌<◌, ◌&&◌, true, length, s
 use Rattle.tsd_model.specs.Pairs.{count_to, holds}
 use Rattle.image_layout.specs.Areas.{header_sector, sweep_flag}
 use Rattle.image_layout.specs.Header.{IsVersion, IsHeaderReading}
-use Rattle.image_layout.specs.Image.{Image, is_open}
+use Rattle.image_layout.specs.Image.{Image, says_open}
 use Rattle.intent_journal.specs.Home.{home}
 use Rattle.pointer_table.specs.Table.{IsTable}
 use Rattle.pointer_table.specs.Sectors.{IsStored as AreSlots}
@@ -21,7 +21,7 @@ pub record HasTables (t : Tables) (x : Image) : Type 0 where
   pub slots : AreSlots t.slots t.geometry x
   pub counts : AreCounts t.counts t.geometry x
   pub records : AreKept t.version t.records x
-  pub flag : is_open (x sweep_flag) ≡ t.is_sweeping
+  pub flag : says_open (x sweep_flag) ≡ t.is_sweeping
 
 -- The tables fit one another. For the tables of an image this is that tests 3 to 8 pass.
 pub record AreSound (t : Tables) : Type 0 where

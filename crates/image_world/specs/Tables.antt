@@ -6,7 +6,7 @@ use Rattle.tsd_model.specs.declared.records.Record.{Record}
 use Rattle.image_layout.specs.declared.header.Header.{Header}
 use Rattle.image_layout.specs.Areas.{header_sector, sweep_flag}
 use Rattle.image_layout.specs.Header.{header_of}
-use Rattle.image_layout.specs.Image.{Image, is_open, is_marked, stored_count}
+use Rattle.image_layout.specs.Image.{Image, says_open, is_bit_set, stored_count}
 use Rattle.pointer_table.specs.Slots.{pairs_in}
 use Rattle.pointer_table.specs.Sectors.{stored_slot}
 use Rattle.cap_store.specs.Stored.{stored_record}
@@ -34,7 +34,7 @@ abbrev pub header_on : Image → Header
 header_on x = header_of (x header_sector)
 
 abbrev pub live_on : Image → Geometry → List Bool
-live_on x g = map (is_marked x g) (range_with_len 0 g.blocks)
+live_on x g = map (is_bit_set x g) (range_with_len 0 g.blocks)
 
 abbrev pub slots_on : Image → Geometry → List (Option (ℕ × ℕ))
 slots_on x g = map (stored_slot x g) (range_with_len 0 g.slots)
@@ -53,7 +53,7 @@ tables_as h x = record {
   slots = slots_on x h.geometry;
   counts = counts_on x h.geometry;
   records = records_on h.version x h.geometry;
-  is_sweeping = is_open (x sweep_flag);
+  is_sweeping = says_open (x sweep_flag);
 }
 
 -- the tables of the sectors, right or not

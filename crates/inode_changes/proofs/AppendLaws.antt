@@ -6,7 +6,7 @@ use Rattle.tsd_model.specs.declared.geometry.Geometry.{Geometry}
 use Rattle.fs_trees.specs.Names.{Path}
 use Rattle.fs_trees.specs.Tree.{Tree, nothing, a_file, a_dir, at, is_there, is_file, is_dir, bytes_in}
 use Rattle.fs_trees.specs.Inode.{data_room}
-use Rattle.fs_trees.specs.Refusals.{Need, when, first_of, lost_on_the_way, missing, no_file, too_big, no_room, refusal}
+use Rattle.fs_trees.specs.Refusals.{RoomNeed, when, first_of, lost_on_the_way, missing, no_file, too_big, no_room, refusal}
 use Rattle.fs_trees.specs.declared.ask.ShellAsk.TheVariants as ask
 use Rattle.fs_trees.specs.declared.ask.ShellKind.TheVariants as kind
 use Rattle.fs_trees.specs.declared.refusal.FsRefusal.{FsRefusal}
@@ -25,7 +25,7 @@ dir_only nothing h = absurd (cc)
 dir_only (a_file x) h = absurd (cc)
 dir_only (a_dir d es) h = refl
 
-module _ (g : Geometry) (t : Tree) (free held : ℕ) (n : Need) (root : is_dir t ≡ true) (x : List ℕ) where
+module _ (g : Geometry) (t : Tree) (free held : ℕ) (n : RoomNeed) (root : is_dir t ≡ true) (x : List ℕ) where
   abbrev size : Path → ℕ
   size p = length (bytes_in (at t p)) + length x
 

@@ -29,14 +29,14 @@ use Rattle.fs_client.proofs.NeedLaws.{free_count_new}
 use Rattle.inode_changes.specs.Blocks.{the_block}
 use Rattle.inode_changes.specs.Making.{Making}
 use Rattle.inode_changes.specs.Filling.{Stage, IsAside}
-use Rattle.inode_changes.specs.Beginning.{Began, IsBack, AsideOr}
+use Rattle.inode_changes.specs.Beginning.{HasNewInode, IsBack, AsideOr}
 use Rattle.inode_changes.proofs.MakingLaws.{making_begins}
 use Rattle.inode_changes.proofs.FillLaws.{aside_now, took_some}
 use Rattle.inode_changes.proofs.ShareLaws.{fault_before}
 use Rattle.inode_changes.proofs.BackLaws.{taken_back}
 
 pub began_so : (c : Client) (old new : DiskView) (d i : ℕ) → Stage c.root old.world d → IsValidNow old → MayWrite c old d → chosen old.kind old.world (At d) 1 ≡ i ∷ []
-    → Went c old new (alloc_by c d 1) d (taken old d 1) → Stays old new → Began c old new d i
+    → Went c old new (alloc_by c d 1) d (taken old d 1) → Stays old new → HasNewInode c old new d i
 began_so c old new d i at now may only went stays =
     let took = took_some c old d 1 now new may went stays in
     let among : has_number (chosen old.kind old.world (At d) 1) i ≡ true = ap (λ bs. has_number bs i) only ∙ or_left (i == i) false (eq-eqb i i refl) in

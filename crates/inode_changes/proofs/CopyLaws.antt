@@ -6,7 +6,7 @@ use Rattle.std.proofs.Math.Nat.{mul-div_cancel_left, mul_comm}
 use Rattle.std.specs.Prelude.{take, flat_map, slice_get}
 use Rattle.std.specs.Int.{div_ceil}
 use Rattle.tsd_model.specs.Geometry.{block_len}
-use Rattle.tsd_model.specs.World.{free_count, has_number}
+use Rattle.tsd_model.specs.World.{free_count, has_number, are_apart}
 use Rattle.tsd_model.specs.declared.geometry.Geometry.{Geometry}
 use Rattle.tsd_model.specs.Records.{kept_of}
 use Rattle.tsd_model.specs.Attained.{record_level}
@@ -15,9 +15,9 @@ use Rattle.fs_trees.specs.InodeTree.{node_at, inodes_under, inode_tree}
 use Rattle.fs_trees.specs.Tree.{Tree, a_file, at, is_there, bytes_in, with_at}
 use Rattle.fs_trees.specs.Fields.{numbers}
 use Rattle.fs_trees.specs.Inode as tree
-use Rattle.fs_trees.specs.Inode.{entries_room, data_room, are_apart}
+use Rattle.fs_trees.specs.Inode.{entries_room, data_room}
 use Rattle.fs_trees.specs.Needs.{need, inode_need, need_of}
-use Rattle.fs_trees.specs.Refusals.{Need, first_of, lost_on_the_way, missing, no_file, taken, dir_full, no_room, refusal}
+use Rattle.fs_trees.specs.Refusals.{RoomNeed, first_of, lost_on_the_way, missing, no_file, name_taken, dir_full, no_room, refusal}
 use Rattle.fs_trees.specs.Step.{change}
 use Rattle.fs_trees.specs.declared.ask.ShellAsk.TheVariants as ask
 use Rattle.fs_trees.specs.declared.ask.ShellKind.TheVariants as kind
@@ -35,7 +35,7 @@ use Rattle.inode_layout.specs.Block.{inode_of, block_len_of, body_of}
 use Rattle.inode_layout.specs.Said.{is_directory, amount_said, blocks_said}
 use Rattle.inode_walks.specs.declared.finding.Found.{Found}
 use Rattle.inode_walks.specs.declared.finding.Lookup.{Lookup}
-use Rattle.inode_walks.specs.Asking.{tree_of, MayAsk, mounted_by}
+use Rattle.inode_walks.specs.Asking.{tree_under, MayAsk, mounted_by}
 use Rattle.inode_walks.specs.Finding.{StandsAtPath, IsLookup, not_found, no_file_found}
 use Rattle.inode_walks.specs.Reading.{bytes_at, bytes_said}
 use Rattle.inode_walks.proofs.RefusalLaws.{refused_by, passes_by}
@@ -65,10 +65,10 @@ none_first : (o : Option FsRefusal) (rest : List (Option FsRefusal)) → ◌≡�
 none_first None rest h = refl
 none_first (Some r) rest h = absurd (cc)
 
-module _ (g : Geometry) (t : Tree) (free held : ℕ) (n : Need) (there : is_there t ≡ true) (p q : Path) where
+module _ (g : Geometry) (t : Tree) (free held : ℕ) (n : RoomNeed) (there : is_there t ≡ true) (p q : Path) where
   -- what is left behind the old file
   abbrev behind : List (Option FsRefusal)
-  behind = lost_on_the_way t q ∷ taken t q ∷ dir_full kind.Inode g t q ∷ no_room g free held n
+  behind = lost_on_the_way t q ∷ name_taken t q ∷ dir_full kind.Inode g t q ∷ no_room g free held n
 
   pub copy_lost : (e : FsRefusal) → no_file_found t p ≡ Some e → refusal kind.Inode g t free held n (ask.Copy p q) ≡ Some e
   copy_lost e h = is_mounted t (lost_on_the_way t p ∷ missing t p ∷ no_file t p ∷ behind) there ∙ by_way (not_found t p) refl h
@@ -85,22 +85,22 @@ module _ (g : Geometry) (t : Tree) (free held : ℕ) (n : Need) (there : is_ther
       by_way (Some r) f k = absurd (cc)
       by_way None f k = passes_by t p (no_file t p ∷ behind) f ∙ none_first (no_file t p) behind k
 
-module _ (c : Client) (v : DiskView) (path new : Path) (there : is_there (tree_of c v) ≡ true) where
-  abbrev wanted : Need
-  wanted = need_of kind.Inode v.world c.root (tree_of c v) (ask.Copy path new)
+module _ (c : Client) (v : DiskView) (path new : Path) (there : is_there (tree_under c v) ≡ true) where
+  abbrev wanted : RoomNeed
+  wanted = need_of kind.Inode v.world c.root (tree_under c v) (ask.Copy path new)
 
-  pub lost_refuses : (e : FsRefusal) → no_file_found (tree_of c v) path ≡ Some e → refused_on (mounted_by c) v (ask.Copy path new) ≡ Some e
-  lost_refuses e h = copy_lost v.world.geometry (tree_of c v) (free_count v.world) (length v.world.pairs) wanted there path new e h
+  pub lost_refuses : (e : FsRefusal) → no_file_found (tree_under c v) path ≡ Some e → refused_on (mounted_by c) v (ask.Copy path new) ≡ Some e
+  lost_refuses e h = copy_lost v.world.geometry (tree_under c v) (free_count v.world) (length v.world.pairs) wanted there path new e h
 
-  module _ (way : ◌≡◌ {A = Option FsRefusal} (no_file_found (tree_of c v) path) None) where
-    as_dir : refused_on (mounted_by c) v (ask.Copy path new) ≡ refusal kind.Inode v.world.geometry (tree_of c v) (free_count v.world) (length v.world.pairs) wanted (ask.MakeDir new)
-    as_dir = copy_way v.world.geometry (tree_of c v) (free_count v.world) (length v.world.pairs) wanted there path new way
+  module _ (way : ◌≡◌ {A = Option FsRefusal} (no_file_found (tree_under c v) path) None) where
+    as_dir : refused_on (mounted_by c) v (ask.Copy path new) ≡ refusal kind.Inode v.world.geometry (tree_under c v) (free_count v.world) (length v.world.pairs) wanted (ask.MakeDir new)
+    as_dir = copy_way v.world.geometry (tree_under c v) (free_count v.world) (length v.world.pairs) wanted there path new way
 
-    pub place_refuses : (e : FsRefusal) → lookup_refusal (tree_of c v) new no.Exists ≡ Some e → refused_on (mounted_by c) v (ask.Copy path new) ≡ Some e
-    place_refuses e h = as_dir ∙ dir_lost v.world.geometry (tree_of c v) (free_count v.world) (length v.world.pairs) wanted there new e h
+    pub place_refuses : (e : FsRefusal) → lookup_refusal (tree_under c v) new no.Exists ≡ Some e → refused_on (mounted_by c) v (ask.Copy path new) ≡ Some e
+    place_refuses e h = as_dir ∙ dir_lost v.world.geometry (tree_under c v) (free_count v.world) (length v.world.pairs) wanted there new e h
 
-    pub taken_refuses : ◌≡◌ {A = Option FsRefusal} (lookup_refusal (tree_of c v) new no.Exists) None → is_there (at (tree_of c v) new) ≡ true → refused_on (mounted_by c) v (ask.Copy path new) ≡ Some no.Exists
-    taken_refuses h k = as_dir ∙ dir_taken v.world.geometry (tree_of c v) (free_count v.world) (length v.world.pairs) wanted there new h k
+    pub taken_refuses : ◌≡◌ {A = Option FsRefusal} (lookup_refusal (tree_under c v) new no.Exists) None → is_there (at (tree_under c v) new) ≡ true → refused_on (mounted_by c) v (ask.Copy path new) ≡ Some no.Exists
+    taken_refuses h k = as_dir ∙ dir_taken v.world.geometry (tree_under c v) (free_count v.world) (length v.world.pairs) wanted there new h k
 
 -- ---- after looks
 
@@ -127,9 +127,9 @@ at_still c old new path file seen stays now x = record {
 }
 
 -- the file was found first, and then the place
-pub copies_now : (c : Client) (first mid v : DiskView) (path : Path) (file : Found) (new : Path) (lookup : Lookup) → is_there (tree_of c first) ≡ true → c.root < first.world.geometry.primaries → is_path new ≡ true
-    → Looked first mid → StandsAtPath c mid path file → ◌≡◌ {A = Option FsRefusal} (no_file_found (tree_of c first) path) None
-    → Looked mid v → Stays mid v → IsLookup c v new lookup → lookup.old ≡ None → ◌≡◌ {A = Option FsRefusal} (lookup_refusal (tree_of c mid) new no.Exists) None → Copies c v path file new lookup
+pub copies_now : (c : Client) (first mid v : DiskView) (path : Path) (file : Found) (new : Path) (lookup : Lookup) → is_there (tree_under c first) ≡ true → c.root < first.world.geometry.primaries → is_path new ≡ true
+    → Looked first mid → StandsAtPath c mid path file → ◌≡◌ {A = Option FsRefusal} (no_file_found (tree_under c first) path) None
+    → Looked mid v → Stays mid v → IsLookup c v new lookup → lookup.old ≡ None → ◌≡◌ {A = Option FsRefusal} (lookup_refusal (tree_under c mid) new no.Exists) None → Copies c v path file new lookup
 copies_now c first mid v path file new lookup there primary new_is seen found way seen_on stays place_is vacant new_way =
     let same : v.world ≡ first.world = seen_on.world ∙ seen.world in
     record {
@@ -147,7 +147,7 @@ copies_now c first mid v path file new lookup there primary new_is seen found wa
 
 module _ (c : Client) (v : DiskView) (path : Path) (file : Found) (new : Path) (lookup : Lookup) (x : Copies c v path file new lookup) (dir : is_directory (inode_of lookup.directory.inode) ≡ true) (now : IsValidNow v) where
   abbrev t : Tree
-  t = tree_of c v
+  t = tree_under c v
 
   abbrev g : Geometry
   g = v.world.geometry
@@ -259,7 +259,7 @@ module _ (c : Client) (v : DiskView) (path : Path) (file : Found) (new : Path) (
 
   -- ---- its bytes are those of the old file
 
-  file_at : at (tree_of c v) path ≡ a_file (take size (bytes_said v.world (inode_of file.inode)))
+  file_at : at (tree_under c v) path ≡ a_file (take size (bytes_said v.world (inode_of file.inode)))
   file_at = tree_there c v path file x.found ∙ file_is c v x.found.more file x.found.stands no_dir now
 
   pub made_bytes : bytes_of v.world content ≡ take size (bytes_said v.world (inode_of file.inode))
@@ -269,16 +269,16 @@ module _ (c : Client) (v : DiskView) (path : Path) (file : Found) (new : Path) (
       ∙ (ap (λ xs. take size (flat_map (bytes_at v.world) blocks ++ xs)) (none_new file.inode no_dir whole content k)
       ∙ ap (take size) (append_none (flat_map (bytes_at v.world) blocks) ∙ sym (said_is_row c v x.found.more file x.found.stands no_dir now))))
 
-  pub changed : (change (tree_of c v) (free_count v.world) (ask.Copy path new)).tree ≡ with_at new (a_file (bytes_of v.world content)) (tree_of c v)
-  changed = ap (λ y. with_at new y (tree_of c v)) (file_at ∙ ap (λ xs. a_file xs) (sym made_bytes))
+  pub changed : (change (tree_under c v) (free_count v.world) (ask.Copy path new)).tree ≡ with_at new (a_file (bytes_of v.world content)) (tree_under c v)
+  changed = ap (λ y. with_at new y (tree_under c v)) (file_at ∙ ap (λ xs. a_file xs) (sym made_bytes))
 
-  size_is : length (bytes_in (at (tree_of c v) path)) ≡ content.size
+  size_is : length (bytes_in (at (tree_under c v) path)) ≡ content.size
   size_is = ap (λ y. length (bytes_in y)) file_at ∙ (length-take-le size (bytes_said v.world (inode_of file.inode)) (row_is_long c v x.found.more file x.found.stands no_dir now whole) ∙ sym k.size)
 
   -- what it needs
-  pub need_is : inode_need v.world.geometry (tree_of c v) (ask.Copy path new) ≡ need (1 + new_count content) (1 + all_count content)
+  pub need_is : inode_need v.world.geometry (tree_under c v) (ask.Copy path new) ≡ need (1 + new_count content) (1 + all_count content)
   need_is =
-      copy_need v.world.geometry (tree_of c v) path new content.size size_is
+      copy_need v.world.geometry (tree_under c v) path new content.size size_is
       ∙ (ap (λ n. need 1 (1 + n)) (ap (div_ceil content.size) (sym same_len) ∙ sym count) ∙ ap (λ n. need n (1 + all_count content)) one_more)
     where
       one_more : 1 ≡ 1 + new_count content

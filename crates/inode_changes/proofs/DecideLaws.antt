@@ -5,15 +5,15 @@ use Rattle.std.specs.Prelude.{is_some, map}
 use Rattle.std.specs.List.{list_all}
 use Rattle.std.specs.Option.{option_and_then}
 use Rattle.tsd_model.specs.Geometry.{block_len}
-use Rattle.tsd_model.specs.World.{World, contents, is_live, is_free, has_number}
+use Rattle.tsd_model.specs.World.{World, contents, is_live, is_free, has_number, are_apart}
 use Rattle.tsd_model.specs.Pairs.{holds, is_pair}
 use Rattle.tsd_model.specs.Valid.{IsValid}
-use Rattle.tsd_model.specs.Step.{filled}
+use Rattle.tsd_model.specs.Step.{filled, written}
 use Rattle.disk_laws.proofs.ChangeLaws.{contents-same}
 use Rattle.fs_trees.specs.Names.{Name, Path, path_max, is_name}
 use Rattle.fs_trees.specs.Tree.{nothing, a_file, a_dir, entry, at, is_there, with_entry, with_child, with_at}
 use Rattle.fs_trees.specs.Fields.{Entry}
-use Rattle.fs_trees.specs.Inode.{Inode, directory, regular, entries_room, are_apart, block_named, inode_in, inode_bytes, with_listed}
+use Rattle.fs_trees.specs.Inode.{Inode, directory, regular, entries_room, block_named, inode_in, inode_bytes, with_listed}
 use Rattle.fs_trees.specs.InodeTree.{InodeNode, InodeEntries, tree_of, inode_at, entries_by, node_by, as_dir, node_at, inode_blocks, data_blocks, named_pairs, inode_tree}
 use Rattle.fs_trees.specs.Layouts.{named_at, IsTidy}
 use Rattle.fs_trees.specs.Outside.{is_under, OthersStay}
@@ -33,7 +33,7 @@ use Rattle.fs_laws.proofs.EntryLaws as deciding
 use Rattle.fs_laws.proofs.UnderLaws.{each_under, root_under, target_under}
 use Rattle.fs_client.specs.declared.client.Client.{Client}
 use Rattle.fs_client.specs.Client.{write_by, unlink_by}
-use Rattle.fs_client.specs.Steps.{Leads, written, dropped}
+use Rattle.fs_client.specs.Steps.{Leads, dropped}
 use Rattle.fs_client.proofs.RunLaws.{clash_free_live}
 use Rattle.inode_walks.proofs.WalkLaws.{block_is, node_block, named_is_there, entry_pair, dir_node}
 use Rattle.fs_client.proofs.DropLaws.{fewer_pairs, fewer_live, other_pair}

@@ -12,15 +12,16 @@ use Rattle.fs_trees.specs.InodeTree.{inode_at}
 use Rattle.fs_port.specs.View.{DiskView}
 use Rattle.fs_client.specs.declared.client.Client.{Client}
 use Rattle.fs_client.specs.Client.{write_by}
-use Rattle.fs_client.specs.Steps.{Leads, Went, written}
+use Rattle.tsd_model.specs.Step.{written}
+use Rattle.fs_client.specs.Steps.{Leads, Went}
 use Rattle.fs_client.proofs.WriteLaws.{block_long, written_here}
 use Rattle.inode_layout.proofs.BackLaws.{reads_back}
-use Rattle.inode_changes.specs.Beginning.{Began}
+use Rattle.inode_changes.specs.Beginning.{HasNewInode}
 use Rattle.inode_changes.specs.Filling.{Stage, IsAside}
 use Rattle.inode_changes.specs.Entering.{IsMadeInode}
 use Rattle.inode_changes.proofs.FillLaws.{made_by_one, stop_at_one}
 
-module _ (c : Client) (old mid : DiskView) (d i : ℕ) (at : Stage c.root old.world d) (b : Began c old mid d i) where
+module _ (c : Client) (old mid : DiskView) (d i : ℕ) (at : Stage c.root old.world d) (b : HasNewInode c old mid d i) where
   among : has_number (i ∷ []) i ≡ true
   among = or_left (i == i) _ (eq-eqb i i refl)
 

@@ -14,7 +14,8 @@ use Rattle.fs_trees.specs.Refusals.{directory_of}
 use Rattle.fs_trees.specs.Outside.{is_under}
 use Rattle.fs_client.specs.declared.client.Client.{Client}
 use Rattle.fs_client.specs.Client.{write_by, unlink_by}
-use Rattle.fs_client.specs.Steps.{Leads, written, dropped}
+use Rattle.tsd_model.specs.Step.{written}
+use Rattle.fs_client.specs.Steps.{Leads, dropped}
 use Rattle.inode_layout.specs.Block.{inode_of}
 use Rattle.inode_layout.specs.Said.{entries_said}
 use Rattle.inode_walks.specs.declared.finding.Lookup.{Lookup}

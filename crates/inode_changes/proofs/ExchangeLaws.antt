@@ -3,11 +3,10 @@ use Rattle.std.proofs.Common.{◌≡◌, ℕ, zero, suc, ◌+◌, ◌≤◌, Boo
 use Rattle.std.proofs.lemmas.Bool.{and_parts, or_cases, or_left, or_right, eqb-true, not-true}
 use Rattle.std.specs.Prelude.{map}
 use Rattle.std.specs.List.{list_all}
-use Rattle.tsd_model.specs.World.{has_number}
+use Rattle.tsd_model.specs.World.{has_number, are_apart}
 use Rattle.tsd_model.specs.Pairs.{holds, is_pair}
 use Rattle.fs_trees.specs.Names.{Name, Path}
 use Rattle.fs_trees.specs.Tree.{none, file, dir, nothing, a_file, a_dir, entry, at, is_there, with_entry, with_child, with_at}
-use Rattle.fs_trees.specs.Inode.{are_apart}
 use Rattle.fs_trees.specs.InodeTree.{InodeNode, InodeEntries, inode_blocks, data_blocks, named_pairs}
 use Rattle.fs_laws.proofs.ListLaws.{number_left, number_right, held_append, in_append}
 use Rattle.fs_laws.proofs.InodeLaws.{node_blocks, from_inode}

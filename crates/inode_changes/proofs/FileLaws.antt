@@ -11,12 +11,12 @@ use Rattle.std.specs.Int.{div_ceil}
 use Rattle.std.specs.Option.{option_and_then}
 use Rattle.byteorder.specs.Endian.{little_bytes}
 use Rattle.tsd_model.specs.Geometry.{block_len}
-use Rattle.tsd_model.specs.World.{World, contents, is_live, has_number}
+use Rattle.tsd_model.specs.World.{World, contents, is_live, has_number, are_apart}
 use Rattle.tsd_model.specs.Valid.{IsValid}
-use Rattle.tsd_model.specs.Step.{filled}
+use Rattle.tsd_model.specs.Step.{filled, written}
 use Rattle.disk_laws.proofs.ChangeLaws.{contents-other, live-with_contents}
 use Rattle.disk_laws.proofs.DoomLaws.{live_below}
-use Rattle.fs_trees.specs.Inode.{regular, are_apart, data_room, inode_in, inode_bytes}
+use Rattle.fs_trees.specs.Inode.{regular, data_room, inode_in, inode_bytes}
 use Rattle.fs_trees.specs.InodeTree.{inode_at, file_bytes}
 use Rattle.fs_laws.proofs.ListLaws.{flat_map_same, in_append}
 use Rattle.fs_port.specs.View.{DiskView}
@@ -24,7 +24,7 @@ use Rattle.fs_port.specs.Calls.{IsValidNow, Stays}
 use Rattle.fs_client.specs.declared.client.Client.{Client}
 use Rattle.fs_client.specs.Client.{write_by}
 use Rattle.fs_client.specs.May.{MayWrite}
-use Rattle.fs_client.specs.Steps.{Leads, Went, written}
+use Rattle.fs_client.specs.Steps.{Leads, Went}
 use Rattle.fs_client.proofs.RunLaws.{clash_free_live}
 use Rattle.fs_client.proofs.WriteLaws.{written_here}
 use Rattle.fs_client.proofs.MayLaws.{may_after}
@@ -33,7 +33,7 @@ use Rattle.inode_layout.specs.Said.{are_small}
 use Rattle.inode_layout.proofs.BackLaws.{reads_back}
 use Rattle.inode_changes.specs.Making.{Making}
 use Rattle.inode_changes.specs.Content.{RootReaches}
-use Rattle.inode_changes.specs.Filling.{Stage, HoldBytes, AsideWith, Wrote, AsideOf, Took, Shared, joined, IsFile, Filled}
+use Rattle.inode_changes.specs.Filling.{Stage, HoldBytes, AsideWith, Wrote, AsideOf, Took, Shared, joined, IsFilledFile, Filled}
 use Rattle.inode_changes.proofs.FillLaws.{made_by_one, stop_at_one}
 
 clash : (t : Bool) → t ≡ true → t ≡ false → ⊥
@@ -222,7 +222,7 @@ module _ (c : Client) (old vs v1 v2 : DiskView) (i n : ℕ) (shared bytes blocks
           ∙ joined_so size (flat_map (bytes_at first) shared) (flat_map (bytes_at v2.world) blocks) bytes (holds_bytes (block_len v1.world.geometry) v2.world blocks bytes wrote.here.holds)
           (subst (λ k. size ≤ k + length bytes) (sym long) (subst (λ k. size ≤ k * length shared + length bytes) same most))
 
-      the_file : IsFile c.root first d i size shared bytes after
+      the_file : IsFilledFile c.root first d i size shared bytes after
       the_file = record {
         fresh = blocks;
         making = made_by_one c (i ∷ []) i among_inode v2.world x went.leads first d i shared blocks at m2 inode_only;
@@ -234,7 +234,7 @@ module _ (c : Client) (old vs v1 v2 : DiskView) (i n : ℕ) (shared bytes blocks
     pub filled_so : Filled c old v3 i size shared bytes
     filled_so = record {
       geometry = ap (λ w. w.geometry) went.world ∙ same_size;
-      file = λ first d at m reached. subst (IsFile c.root first d i size shared bytes) (sym went.world) (the_file first d at m reached);
+      file = λ first d at m reached. subst (IsFilledFile c.root first d i size shared bytes) (sym went.world) (the_file first d at m reached);
       may = λ b h. may_after c v2 v3 (write_by c i x) i after went now refl refl (λ p q j. j)
           (λ k j. live-with_contents v2.world i k (filled (block_len v2.world.geometry) x) j) stays b (wrote.may b (took.may b (sh.may b h)));
     }

@@ -4,14 +4,13 @@ use Rattle.std.proofs.lemmas.Bool.{and_parts, or_left, or_right, eq-eqb, not-tru
 use Rattle.std.specs.Prelude.{take, drop, slice_index_or}
 use Rattle.std.proofs.lemmas.List.{length-drop}
 use Rattle.tsd_model.specs.Geometry.{block_len}
-use Rattle.tsd_model.specs.World.{World, contents, is_live, has_number}
+use Rattle.tsd_model.specs.World.{World, contents, is_live, has_number, are_apart}
 use Rattle.tsd_model.specs.Pairs.{holds}
 use Rattle.tsd_model.specs.Placing.{chosen}
-use Rattle.tsd_model.specs.Step.{filled}
+use Rattle.tsd_model.specs.Step.{filled, written}
 use Rattle.tsd_model.specs.declared.requests.Hint.TheVariants.{At}
 use Rattle.disk_laws.proofs.ChangeLaws.{contents-other, live-with_contents, free_may}
 use Rattle.disk_laws.proofs.StayLaws.{live-new_blocks, holds-new_blocks}
-use Rattle.fs_trees.specs.Inode.{are_apart}
 use Rattle.fs_trees.specs.declared.refusal.FsRefusal.{FsRefusal}
 use Rattle.fs_laws.proofs.WayLaws.{ways_lead_on}
 use Rattle.fs_port.specs.View.{DiskView, IsDiskSound, state_of}
@@ -20,7 +19,7 @@ use Rattle.fs_client.specs.declared.client.Client.{Client}
 use Rattle.fs_client.specs.Client.{shown_at, write_by, alloc_by}
 use Rattle.fs_client.specs.May.{MayWrite}
 use Rattle.fs_client.proofs.LookLaws.{no_look}
-use Rattle.fs_client.specs.Steps.{Leads, Went, Steps, written, taken}
+use Rattle.fs_client.specs.Steps.{Leads, Went, Steps, taken}
 use Rattle.fs_port.specs.Runs.{Runs}
 use Rattle.fs_client.proofs.RunLaws.{runs_look, runs_step, then_runs}
 use Rattle.fs_client.proofs.NewLaws.{chosen_apart, chosen_free, lives_new, holds_new, version_new, records_new}

@@ -7,12 +7,12 @@ use Rattle.std.proofs.Math.Nat.{div-add-mod, mod-lt, mul-div_cancel_left, mul-le
 use Rattle.std.specs.Prelude.{take, flat_map}
 use Rattle.std.specs.Int.{div_ceil}
 use Rattle.tsd_model.specs.Geometry.{block_len}
-use Rattle.tsd_model.specs.World.{World, free_count, has_number}
+use Rattle.tsd_model.specs.World.{World, free_count, has_number, are_apart}
 use Rattle.fs_trees.specs.Names.{Path}
 use Rattle.fs_trees.specs.Tree.{at, is_there, is_file, is_dir, bytes_in}
 use Rattle.fs_trees.specs.Fields.{numbers}
 use Rattle.fs_trees.specs.Inode as tree
-use Rattle.fs_trees.specs.Inode.{data_room, are_apart}
+use Rattle.fs_trees.specs.Inode.{data_room}
 use Rattle.fs_trees.specs.InodeTree as inodes
 use Rattle.fs_trees.specs.InodeTree.{inode_at, inodes_under, inode_tree}
 use Rattle.fs_trees.specs.Needs.{need, inode_need, need_of}
@@ -35,7 +35,7 @@ use Rattle.inode_layout.specs.Block.{said, inode_of, bytes_of, block_len_of, bod
 use Rattle.inode_layout.specs.Said.{is_directory, amount_said, blocks_said}
 use Rattle.inode_walks.specs.declared.finding.Found.{Found}
 use Rattle.inode_walks.specs.declared.finding.Lookup.{Lookup}
-use Rattle.inode_walks.specs.Asking.{tree_of, mounted_by}
+use Rattle.inode_walks.specs.Asking.{tree_under, mounted_by}
 use Rattle.inode_walks.specs.Reading.{part, bytes_at, bytes_said}
 use Rattle.inode_walks.proofs.FileLaws.{file_said, file_count, named_held, named_full, may_look, said_is_row, row_is_long, found_long, node_is}
 use Rattle.inode_walks.proofs.FoundLaws.{a_file_there}
@@ -169,36 +169,36 @@ module _ (c : Client) (v : DiskView) (path : Path) (lookup : Lookup) (file : Fou
 
   -- ---- what stands there
 
-  pub bytes_is : bytes_in (at (tree_of c v) path) ≡ take size all
+  pub bytes_is : bytes_in (at (tree_under c v) path) ≡ take size all
   bytes_is = bytes_are c v v path file x.found refl no_dir now whole
 
   enough : size ≤ length all
   enough = row_is_long c v x.found.more file x.found.stands no_dir now whole
 
-  pub size_is : length (bytes_in (at (tree_of c v) path)) ≡ amount_said (inode_of file.inode)
+  pub size_is : length (bytes_in (at (tree_under c v) path)) ≡ amount_said (inode_of file.inode)
   size_is = ap length bytes_is ∙ length-take-le size all enough
 
-  pub file_there : is_file (at (tree_of c v) path) ≡ true
+  pub file_there : is_file (at (tree_under c v) path) ≡ true
   file_there = (a_file_there c v path file x.found no_dir).1
 
-  root_dir : is_dir (tree_of c v) ≡ true
+  root_dir : is_dir (tree_under c v) ≡ true
   root_dir = root_is_dir v.world c.root x.grounds.there
 
   -- ---- what refuses it
 
-  big_is : (y : List ℕ) → nat_lt (data_room len) (div_ceil (size + length y) len) ≡ nat_lt (data_room (block_len v.world.geometry)) (div_ceil (length (bytes_in (at (tree_of c v) path)) + length y) (block_len v.world.geometry))
+  big_is : (y : List ℕ) → nat_lt (data_room len) (div_ceil (size + length y) len) ≡ nat_lt (data_room (block_len v.world.geometry)) (div_ceil (length (bytes_in (at (tree_under c v) path)) + length y) (block_len v.world.geometry))
   big_is y = ap (λ n. nat_lt (data_room n) (div_ceil (size + length y) n)) same_len ∙ ap (λ n. nat_lt (data_room (block_len v.world.geometry)) (div_ceil (n + length y) (block_len v.world.geometry))) (sym size_is)
 
   pub big_refuses : (y : List ℕ) → nat_lt (data_room (block_len_of file.inode)) (div_ceil (amount_said (inode_of file.inode) + length y) (block_len_of file.inode)) ≡ true → refused_on (mounted_by c) v (ask.Append path y) ≡ Some no.TooBig
-  big_refuses y h = append_big v.world.geometry (tree_of c v) (free_count v.world) (length v.world.pairs) (need_of kind.Inode v.world c.root (tree_of c v) (ask.Append path y)) root_dir y path x.way file_there (sym (big_is y) ∙ h)
+  big_refuses y h = append_big v.world.geometry (tree_under c v) (free_count v.world) (length v.world.pairs) (need_of kind.Inode v.world c.root (tree_under c v) (ask.Append path y)) root_dir y path x.way file_there (sym (big_is y) ∙ h)
 
   pub room_refuses : (y : List ℕ) → 1 ≤ length y → nat_lt (data_room (block_len_of file.inode)) (div_ceil (amount_said (inode_of file.inode) + length y) (block_len_of file.inode)) ≡ false
       → refused_on (mounted_by c) v (ask.Append path y) ≡ no_room_in v.world (1 + div_ceil (amount_said (inode_of file.inode) % block_len_of file.inode + length y) (block_len_of file.inode))
       (1 + (amount_said (inode_of file.inode) / block_len_of file.inode + div_ceil (amount_said (inode_of file.inode) % block_len_of file.inode + length y) (block_len_of file.inode)))
   room_refuses y least h =
       let g = v.world.geometry in
-      append_room g (tree_of c v) (free_count v.world) (length v.world.pairs) (need_of kind.Inode v.world c.root (tree_of c v) (ask.Append path y)) root_dir y path x.way file_there (sym (big_is y) ∙ h)
-      ∙ (ap (λ n. first_of (no_room g (free_count v.world) (length v.world.pairs) n)) (append_need g (tree_of c v) path y size (subst (λ n. 0 < n) same_len some) least size_is)
+      append_room g (tree_under c v) (free_count v.world) (length v.world.pairs) (need_of kind.Inode v.world c.root (tree_under c v) (ask.Append path y)) root_dir y path x.way file_there (sym (big_is y) ∙ h)
+      ∙ (ap (λ n. first_of (no_room g (free_count v.world) (length v.world.pairs) n)) (append_need g (tree_under c v) path y size (subst (λ n. 0 < n) same_len some) least size_is)
       ∙ ap (λ n. no_room_in v.world (1 + div_ceil (size % n + length y) n) (1 + (size / n + div_ceil (size % n + length y) n))) (sym same_len))
 
   -- nothing needs no room
@@ -206,7 +206,7 @@ module _ (c : Client) (v : DiskView) (path : Path) (lookup : Lookup) (file : Fou
   nothing_refuses =
       let geo = v.world.geometry in
       let b = blocks_behind file.inode no_dir in
-      append_room geo (tree_of c v) (free_count v.world) (length v.world.pairs) (need_of kind.Inode v.world c.root (tree_of c v) (ask.Append path [])) root_dir [] path x.way file_there
+      append_room geo (tree_under c v) (free_count v.world) (length v.world.pairs) (need_of kind.Inode v.world c.root (tree_under c v) (ask.Append path [])) root_dir [] path x.way file_there
       (sym (big_is []) ∙ fits (data_room len) (div_ceil (size + 0) len) file.inode.count b.room (ap (λ n. div_ceil n len) plus_none ∙ sym b.each))
       ∙ none_wanted (free_count v.world) (length v.world.pairs) now.valid.raw.sized.room
     where
@@ -289,7 +289,7 @@ module _ (c : Client) (v : DiskView) (path : Path) (lookup : Lookup) (file : Fou
     pub of_files : (b : ℕ) → has_number (shared_of content) b ≡ true → IsOfFile c.root v.world b
     of_files b h = (path, record { block = file.block; size = size; blocks = blocks }, x.found.node ∙ node_is c v x.found.more file x.found.stands no_dir now, in_file b h)
 
-    pub made_bytes : take content.size (joined v.world (shared_of content) (new_bytes content)) ≡ bytes_in (at (tree_of c v) path) ++ y
+    pub made_bytes : take content.size (joined v.world (shared_of content) (new_bytes content)) ≡ bytes_in (at (tree_under c v) path) ++ y
     made_bytes =
         let behind = part all (len * full) size in
         ap (λ n. take n (joined v.world (shared_of content) (new_bytes content))) g.size
@@ -301,9 +301,9 @@ module _ (c : Client) (v : DiskView) (path : Path) (lookup : Lookup) (file : Fou
         ∙ (ap (λ xs. take size xs ++ y) (sym row) ∙ ap (λ xs. xs ++ y) (sym bytes_is)))))))
 
     -- what it needs, in the numbers of what is made
-    pub need_is : 1 ≤ length y → inode_need v.world.geometry (tree_of c v) (ask.Append path y) ≡ need (1 + new_count content) (1 + all_count content)
+    pub need_is : 1 ≤ length y → inode_need v.world.geometry (tree_under c v) (ask.Append path y) ≡ need (1 + new_count content) (1 + all_count content)
     need_is least =
-        append_need v.world.geometry (tree_of c v) path y size (subst (λ n. 0 < n) same_len some) least size_is
+        append_need v.world.geometry (tree_under c v) path y size (subst (λ n. 0 < n) same_len some) least size_is
         ∙ (ap (λ n. need (1 + div_ceil (size % n + length y) n) (1 + (size / n + div_ceil (size % n + length y) n))) (sym same_len)
         ∙ (ap (λ n. need (1 + n) (1 + (full + div_ceil (size % len + length y) len))) (sym new_is) ∙ ap (λ n. need (1 + new_count content) (1 + n)) (sym all_is)))
 

@@ -25,7 +25,7 @@ use Rattle.inode_changes.specs.Making.{Making}
 use Rattle.inode_changes.specs.Content.{shared_of, new_bytes, IsFor, RootReaches}
 use Rattle.inode_changes.specs.Filling.{Stage, Filled, Stopped}
 use Rattle.inode_changes.proofs.MakingLaws.{inode_held}
-use Rattle.inode_changes.specs.Beginning.{Began}
+use Rattle.inode_changes.specs.Beginning.{HasNewInode}
 use Rattle.inode_changes.specs.NewFile.{bytes_of}
 use Rattle.inode_changes.specs.Entering.{AreOfFiles, IsMadeInode}
 use Rattle.inode_changes.proofs.EntryLaws.{file_data}
@@ -51,7 +51,7 @@ files_reached root first d shared at of b h =
     named_under first root at.valid at.primary at.there b
     (ap (λ k. has_number k.blocks b) (named_of first root all.0 all.1) ∙ number_right (root ∷ inode_blocks all.0) (data_blocks all.0) b (file_data root first all.0 (under_is first root all.0 all.1) b (of b h)))
 
-module _ (c : Client) (old mid begun : DiskView) (d i : ℕ) (at : Stage c.root old.world d) (now : IsValidNow old) (seen : Looked old mid) (stays : Stays old mid) (b : Began c mid begun d i) where
+module _ (c : Client) (old mid begun : DiskView) (d i : ℕ) (at : Stage c.root old.world d) (now : IsValidNow old) (seen : Looked old mid) (stays : Stays old mid) (b : HasNewInode c mid begun d i) where
   pub making_first : Making c.root old.world d i [] [] begun.world
   making_first = subst (λ w. Making c.root w d i [] [] begun.world) seen.world b.making
 

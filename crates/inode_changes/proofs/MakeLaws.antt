@@ -11,7 +11,7 @@ use Rattle.fs_trees.specs.Fields.{Entry, entry_names}
 use Rattle.fs_trees.specs.Inode.{entries_room}
 use Rattle.fs_trees.specs.InodeTree.{inode_tree}
 use Rattle.fs_trees.specs.Needs.{need}
-use Rattle.fs_trees.specs.Refusals.{Need, when, first_of, directory_of, lost_on_the_way, taken, dir_full, no_room, refusal}
+use Rattle.fs_trees.specs.Refusals.{RoomNeed, when, first_of, directory_of, lost_on_the_way, name_taken, dir_full, no_room, refusal}
 use Rattle.fs_trees.specs.declared.ask.ShellAsk.TheVariants as ask
 use Rattle.fs_trees.specs.declared.ask.ShellKind.TheVariants as kind
 use Rattle.fs_trees.specs.declared.refusal.FsRefusal.{FsRefusal}
@@ -26,7 +26,7 @@ use Rattle.fs_client.proofs.AskLaws.{is_mounted}
 use Rattle.inode_layout.specs.Block.{inode_of, block_len_of}
 use Rattle.inode_layout.specs.Said.{is_directory, entries_said, blocks_said}
 use Rattle.inode_walks.specs.declared.finding.Lookup.{Lookup}
-use Rattle.inode_walks.specs.Asking.{tree_of, mounted_by}
+use Rattle.inode_walks.specs.Asking.{tree_under, mounted_by}
 use Rattle.inode_walks.specs.Finding.{IsLookup}
 use Rattle.inode_walks.proofs.FoundLaws.{names_there, dir_said}
 use Rattle.inode_changes.specs.Entering.{DirectoryHasRoom, Grounds}
@@ -36,20 +36,20 @@ use Rattle.inode_changes.proofs.PlaceLaws.{none_at}
 
 -- ---- mkdir
 
-module _ (g : Geometry) (t : Tree) (free held : ℕ) (n : Need) (there : is_there t ≡ true) where
+module _ (g : Geometry) (t : Tree) (free held : ℕ) (n : RoomNeed) (there : is_there t ≡ true) where
   pub dir_lost : (p : Path) (e : FsRefusal) → lookup_refusal t p no.Exists ≡ Some e → refusal kind.Inode g t free held n (ask.MakeDir p) ≡ Some e
   dir_lost [] e h =
-      is_mounted t (lost_on_the_way t [] ∷ taken t [] ∷ dir_full kind.Inode g t [] ∷ no_room g free held n) there
+      is_mounted t (lost_on_the_way t [] ∷ name_taken t [] ∷ dir_full kind.Inode g t [] ∷ no_room g free held n) there
       ∙ (ap (λ b. first_of (when b no.Exists ∷ dir_full kind.Inode g t [] ∷ no_room g free held n)) there ∙ h)
   dir_lost (m ∷ ms) e h =
-      is_mounted t (lost_on_the_way t (m ∷ ms) ∷ taken t (m ∷ ms) ∷ dir_full kind.Inode g t (m ∷ ms) ∷ no_room g free held n) there
-      ∙ ap (λ o. first_of (o ∷ taken t (m ∷ ms) ∷ dir_full kind.Inode g t (m ∷ ms) ∷ no_room g free held n)) h
+      is_mounted t (lost_on_the_way t (m ∷ ms) ∷ name_taken t (m ∷ ms) ∷ dir_full kind.Inode g t (m ∷ ms) ∷ no_room g free held n) there
+      ∙ ap (λ o. first_of (o ∷ name_taken t (m ∷ ms) ∷ dir_full kind.Inode g t (m ∷ ms) ∷ no_room g free held n)) h
 
-  dir_way : (p : Path) → ◌≡◌ {A = Option FsRefusal} (lookup_refusal t p no.Exists) None → refusal kind.Inode g t free held n (ask.MakeDir p) ≡ first_of (taken t p ∷ dir_full kind.Inode g t p ∷ no_room g free held n)
+  dir_way : (p : Path) → ◌≡◌ {A = Option FsRefusal} (lookup_refusal t p no.Exists) None → refusal kind.Inode g t free held n (ask.MakeDir p) ≡ first_of (name_taken t p ∷ dir_full kind.Inode g t p ∷ no_room g free held n)
   dir_way [] h = absurd (cc)
   dir_way (m ∷ ms) h =
-      is_mounted t (lost_on_the_way t (m ∷ ms) ∷ taken t (m ∷ ms) ∷ dir_full kind.Inode g t (m ∷ ms) ∷ no_room g free held n) there
-      ∙ ap (λ o. first_of (o ∷ taken t (m ∷ ms) ∷ dir_full kind.Inode g t (m ∷ ms) ∷ no_room g free held n)) h
+      is_mounted t (lost_on_the_way t (m ∷ ms) ∷ name_taken t (m ∷ ms) ∷ dir_full kind.Inode g t (m ∷ ms) ∷ no_room g free held n) there
+      ∙ ap (λ o. first_of (o ∷ name_taken t (m ∷ ms) ∷ dir_full kind.Inode g t (m ∷ ms) ∷ no_room g free held n)) h
 
   pub dir_taken : (p : Path) → ◌≡◌ {A = Option FsRefusal} (lookup_refusal t p no.Exists) None → is_there (at t p) ≡ true → refusal kind.Inode g t free held n (ask.MakeDir p) ≡ Some no.Exists
   dir_taken p h k = dir_way p h ∙ ap (λ b. first_of (when b no.Exists ∷ dir_full kind.Inode g t p ∷ no_room g free held n)) k
@@ -77,7 +77,7 @@ blocks_count (e ∷ es) = ap suc (blocks_count es)
 
 module _ (c : Client) (v : DiskView) (path : Path) (lookup : Lookup) (x : IsVacant c v path lookup) (dir : is_directory (inode_of lookup.directory.inode) ≡ true) where
   abbrev t : Tree
-  t = tree_of c v
+  t = tree_under c v
 
   abbrev g : Geometry
   g = v.world.geometry
@@ -88,24 +88,24 @@ module _ (c : Client) (v : DiskView) (path : Path) (lookup : Lookup) (x : IsVaca
   pub grounds : IsValidNow v → DirectoryHasRoom lookup.directory.inode lookup.name.now → Grounds c.root v.world path lookup
   grounds now room = record { valid = now.valid; primary = x.primary; there = x.there; path_is = x.path_is; entry = entry_of c v path lookup dir x.found; room = room }
 
-  absent : is_there (at (tree_of c v) path) ≡ false
+  absent : is_there (at (tree_under c v) path) ≡ false
   absent = none_at c v path lookup dir x.found x.vacant
 
-  names_are : length (names_in (at (tree_of c v) (directory_of path))) ≡ length (entries_said (inode_of lookup.directory.inode))
+  names_are : length (names_in (at (tree_under c v) (directory_of path))) ≡ length (entries_said (inode_of lookup.directory.inode))
   names_are = ap length (names_there c v (directory_of path) lookup.directory x.found.above dir) ∙ names_count es
 
   blocks_are : length (blocks_said (inode_of lookup.directory.inode)) ≡ length (entries_said (inode_of lookup.directory.inode))
   blocks_are = ap (λ i. length (blocks_said i)) (dir_said (inode_of lookup.directory.inode) dir) ∙ blocks_count es
 
   -- whatever is needed there
-  module _ (n : Need) where
+  module _ (n : RoomNeed) where
     pub full_asks : nat_le (entries_room (block_len_of lookup.directory.inode)) (length (blocks_said (inode_of lookup.directory.inode))) ≡ true
-        → refusal kind.Inode v.world.geometry (tree_of c v) (free_count v.world) (length v.world.pairs) n (ask.MakeDir path) ≡ Some no.DirFull
+        → refusal kind.Inode v.world.geometry (tree_under c v) (free_count v.world) (length v.world.pairs) n (ask.MakeDir path) ≡ Some no.DirFull
     full_asks full = dir_is_full g t (free_count v.world) (length v.world.pairs) n x.there path x.way absent
         (ap (nat_le (entries_room (block_len g))) (names_are ∙ sym blocks_are) ∙ (ap (λ k. nat_le (entries_room k) (length (blocks_said (inode_of lookup.directory.inode)))) (sym x.found.above.stands.whole) ∙ full))
 
     pub roomy_asks : DirectoryHasRoom lookup.directory.inode lookup.name.now
-        → refusal kind.Inode v.world.geometry (tree_of c v) (free_count v.world) (length v.world.pairs) n (ask.MakeDir path) ≡ first_of (no_room v.world.geometry (free_count v.world) (length v.world.pairs) n)
+        → refusal kind.Inode v.world.geometry (tree_under c v) (free_count v.world) (length v.world.pairs) n (ask.MakeDir path) ≡ first_of (no_room v.world.geometry (free_count v.world) (length v.world.pairs) n)
     roomy_asks room = dir_room g t (free_count v.world) (length v.world.pairs) n x.there path x.way absent
         (ap (nat_le (entries_room (block_len g))) names_are ∙ below (entries_room (block_len g)) (subst (λ k. length es < entries_room k) x.found.above.stands.whole (room (sym x.found.old ∙ x.vacant))))
       where
@@ -119,8 +119,8 @@ module _ (c : Client) (v : DiskView) (path : Path) (lookup : Lookup) (x : IsVaca
   room_refuses = roomy_asks (need 1 1)
 
 -- nothing is changed yet
-pub vacant_now : (c : Client) (first mid : DiskView) (path : Path) (lookup : Lookup) → c.root < first.world.geometry.primaries → is_there (tree_of c first) ≡ true → is_path path ≡ true
-    → ◌≡◌ {A = Option FsRefusal} (lookup_refusal (tree_of c first) path no.Exists) None → Looked first mid → IsLookup c mid path lookup → lookup.old ≡ None → IsVacant c mid path lookup
+pub vacant_now : (c : Client) (first mid : DiskView) (path : Path) (lookup : Lookup) → c.root < first.world.geometry.primaries → is_there (tree_under c first) ≡ true → is_path path ≡ true
+    → ◌≡◌ {A = Option FsRefusal} (lookup_refusal (tree_under c first) path no.Exists) None → Looked first mid → IsLookup c mid path lookup → lookup.old ≡ None → IsVacant c mid path lookup
 vacant_now c first mid path lookup primary there path_is way seen found vacant = record {
   primary = subst (λ w. c.root < w.geometry.primaries) (sym seen.world) primary;
   there = ap (λ w. is_there (inode_tree w c.root)) seen.world ∙ there;

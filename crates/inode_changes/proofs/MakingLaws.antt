@@ -3,15 +3,14 @@ use Rattle.std.proofs.Common.{◌≡◌, ℕ, ◌<◌, Bool, true, false, not, �
 use Rattle.std.proofs.lemmas.Bool.{and_parts, and_from, or_cases, or_left, or_right, eq-eqb, eqb-true, false_from_ne_true}
 use Rattle.std.specs.Prelude.{is_some, is_none, map}
 use Rattle.tsd_model.specs.Geometry.{block_len}
-use Rattle.tsd_model.specs.World.{World, contents, is_live, is_free, has_number}
+use Rattle.tsd_model.specs.World.{World, contents, is_live, is_free, has_number, are_apart}
 use Rattle.tsd_model.specs.Pairs.{holds, is_pair}
 use Rattle.tsd_model.specs.Valid.{IsValid}
-use Rattle.tsd_model.specs.Step.{filled, with_new_blocks}
+use Rattle.tsd_model.specs.Step.{filled, with_new_blocks, written}
 use Rattle.tsd_model.proofs.PairLaws.{holds-with_pair}
 use Rattle.disk_laws.proofs.ChangeLaws.{contents-other, live-with_contents, free_may}
 use Rattle.disk_laws.proofs.StayLaws.{live-new_blocks}
 use Rattle.fs_trees.specs.Tree.{is_there}
-use Rattle.fs_trees.specs.Inode.{are_apart}
 use Rattle.fs_trees.specs.InodeTree.{inode_tree}
 use Rattle.fs_trees.specs.Layouts.{Named, named_at}
 use Rattle.fs_trees.specs.Outside.{is_under}
@@ -26,7 +25,7 @@ use Rattle.fs_laws.proofs.UnderLaws.{each_under, root_under, target_under}
 use Rattle.fs_laws.proofs.ListLaws.{number_right}
 use Rattle.fs_client.specs.declared.client.Client.{Client}
 use Rattle.fs_client.specs.Client.{write_by, alloc_by, link_by}
-use Rattle.fs_client.specs.Steps.{Leads, written, pointed}
+use Rattle.fs_client.specs.Steps.{Leads, pointed}
 use Rattle.fs_client.proofs.RunLaws.{clash_free_live}
 use Rattle.fs_client.proofs.NewLaws.{contents_off, lives_new, holds_new, version_new, records_new}
 use Rattle.fs_client.proofs.TrimLaws.{named_live, keeps_both}

@@ -15,7 +15,7 @@ use Rattle.fs_client.specs.declared.client.Client.{Client}
 use Rattle.inode_layout.specs.Block.{inode_of}
 use Rattle.inode_layout.specs.Said.{is_directory, blocks_said, entries_said}
 use Rattle.inode_walks.specs.declared.finding.Lookup.{Lookup}
-use Rattle.inode_walks.specs.Asking.{tree_of}
+use Rattle.inode_walks.specs.Asking.{tree_under}
 use Rattle.inode_walks.specs.Finding.{IsLookup, named_block, block_said}
 use Rattle.inode_walks.proofs.WalkLaws.{file_node, dir_node, child_node}
 use Rattle.inode_walks.proofs.FurtherLaws.{a_level}
@@ -32,23 +32,23 @@ module _ (c : Client) (v : DiskView) (path : Path) (lookup : Lookup) (is_dir : i
   pub says : inode_at v.world lookup.directory.block ≡ Some (directory (entries_said (inode_of lookup.directory.inode)))
   says = i.above.stands.says ∙ ap (λ x. Some x) (dir_said (inode_of lookup.directory.inode) is_dir)
 
-  pub place_at : at (tree_of c v) path ≡ inodes.tree_of v.world (read_named (λ k. node_at v.world i.above.more k) lookup.old)
+  pub place_at : at (tree_under c v) path ≡ inodes.tree_of v.world (read_named (λ k. node_at v.world i.above.more k) lookup.old)
   place_at =
       sym (tree-at v.world path (inodes_under v.world c.root))
       ∙ ap (inodes.tree_of v.world) (ap (at (inodes_under v.world c.root)) i.name ∙ (at_last (directory_of path) lookup.name.now (inodes_under v.world c.root)
       ∙ (ap (child lookup.name.now) i.above.node ∙ (child_node v.world i.above.more lookup.directory.block i.above.stands.there lookup.name.now es says ∙ ap (read_named (λ k. node_at v.world i.above.more k)) (sym i.old)))))
 
-  pub none_at : lookup.old ≡ None → is_there (at (tree_of c v) path) ≡ false
+  pub none_at : lookup.old ≡ None → is_there (at (tree_under c v) path) ≡ false
   none_at none_old = ap is_there (place_at ∙ ap (λ o. inodes.tree_of v.world (read_named (λ k. node_at v.world i.above.more k) o)) none_old)
 
   module _ (b : ℕ) (some : lookup.old ≡ Some b) where
     pub said_place : block_said lookup.name.now (inode_of lookup.directory.inode) ≡ Ok b
     said_place = ap (block_said lookup.name.now) (dir_said (inode_of lookup.directory.inode) is_dir) ∙ ap named_block (sym i.old ∙ some)
 
-    pub old_at : at (tree_of c v) path ≡ inodes.tree_of v.world (node_at v.world i.above.more b)
+    pub old_at : at (tree_under c v) path ≡ inodes.tree_of v.world (node_at v.world i.above.more b)
     old_at = place_at ∙ ap (λ o. inodes.tree_of v.world (read_named (λ k. node_at v.world i.above.more k) o)) some
 
-    pub there_at : is_there (node_at v.world i.above.more b) ≡ true → is_there (at (tree_of c v) path) ≡ true
+    pub there_at : is_there (node_at v.world i.above.more b) ≡ true → is_there (at (tree_under c v) path) ≡ true
     there_at there = ap is_there old_at ∙ tree_there (node_at v.world i.above.more b) there
       where
         tree_there : (x : InodeNode) → is_there x ≡ true → is_there (inodes.tree_of v.world x) ≡ true
@@ -57,10 +57,10 @@ module _ (c : Client) (v : DiskView) (path : Path) (lookup : Lookup) (is_dir : i
         tree_there (a_dir b es) h = refl
 
     module _ (there : is_there (node_at v.world i.above.more b) ≡ true) (k : Inode) (is : inode_at v.world b ≡ Some k) where
-      pub old_there : is_there (at (tree_of c v) path) ≡ true
+      pub old_there : is_there (at (tree_under c v) path) ≡ true
       old_there = there_at there
 
-      pub entries_at : nat_lt 0 (length (names_in (at (tree_of c v) path))) ≡ (is_directory k && nat_lt 0 (length (blocks_said k)))
+      pub entries_at : nat_lt 0 (length (names_in (at (tree_under c v) path))) ≡ (is_directory k && nat_lt 0 (length (blocks_said k)))
       entries_at =
           let level = a_level v.world i.above.more b there in
           ap (λ x. nat_lt 0 (length (names_in x))) (old_at ∙ ap (λ m. inodes.tree_of v.world (node_at v.world m b)) level.1)

@@ -21,7 +21,7 @@ use Rattle.inode_layout.specs.Block.{inode_of, block_len_of}
 use Rattle.inode_layout.specs.Said.{is_directory, entries_said, entry_said}
 use Rattle.inode_walks.specs.declared.finding.Found.{Found}
 use Rattle.inode_walks.specs.declared.finding.Lookup.{Lookup}
-use Rattle.inode_walks.specs.Asking.{tree_of}
+use Rattle.inode_walks.specs.Asking.{tree_under}
 use Rattle.inode_walks.specs.Finding.{StandsAtPath, IsLookup, IsFurther}
 use Rattle.fs_client.specs.Changing.{lookup_refusal}
 use Rattle.inode_walks.proofs.FurtherLaws.{may_read, further}
@@ -71,7 +71,7 @@ module _ (c : Client) (mid : DiskView) (path : Path) (lookup : Lookup) (is_dir :
     }
 
     -- what is known where bytes are to be added
-    pub grows_so : (first : DiskView) → Looked first mid → c.root < first.world.geometry.primaries → is_there (tree_of c first) ≡ true → is_path path ≡ true → ◌≡◌ {A = Option FsRefusal} (lookup_refusal (tree_of c first) path no.IsDir) None
+    pub grows_so : (first : DiskView) → Looked first mid → c.root < first.world.geometry.primaries → is_there (tree_under c first) ≡ true → is_path path ≡ true → ◌≡◌ {A = Option FsRefusal} (lookup_refusal (tree_under c first) path no.IsDir) None
         → DirectoryHasRoom lookup.directory.inode lookup.name.now → Grows c rd path lookup file
     grows_so first looked primary there named way room =
         let same : rd.world ≡ first.world = seen.world ∙ looked.world in

@@ -5,16 +5,16 @@ use Rattle.std.proofs.lemmas.List.{take_all}
 use Rattle.std.specs.Prelude.{map, take}
 use Rattle.std.specs.Int.{div_ceil}
 use Rattle.tsd_model.specs.Geometry.{block_len}
-use Rattle.tsd_model.specs.World.{World, free_count, has_number}
+use Rattle.tsd_model.specs.World.{World, free_count, has_number, are_apart}
 use Rattle.tsd_model.specs.declared.geometry.Geometry.{Geometry}
 use Rattle.fs_trees.specs.Names.{Path, is_path}
 use Rattle.fs_trees.specs.Tree.{Tree, nothing, a_file, a_dir, at, is_there, is_dir, names_in}
 use Rattle.fs_trees.specs.Fields.{Entry, entry_names, numbers}
-use Rattle.fs_trees.specs.Inode.{Inode, directory, regular, entries_room, data_room, are_apart}
+use Rattle.fs_trees.specs.Inode.{Inode, directory, regular, entries_room, data_room}
 use Rattle.fs_trees.specs.InodeTree as inodes
 use Rattle.fs_trees.specs.InodeTree.{inode_at, node_at, inodes_under, inode_tree}
 use Rattle.fs_trees.specs.Needs.{need}
-use Rattle.fs_trees.specs.Refusals.{Need, when, first_of, directory_of, lost_on_the_way, no_file, dir_full, too_big, no_room, refusal}
+use Rattle.fs_trees.specs.Refusals.{RoomNeed, when, first_of, directory_of, lost_on_the_way, no_file, dir_full, too_big, no_room, refusal}
 use Rattle.fs_trees.specs.declared.ask.ShellAsk.TheVariants as ask
 use Rattle.fs_trees.specs.declared.ask.ShellKind.TheVariants as kind
 use Rattle.fs_trees.specs.declared.refusal.FsRefusal.{FsRefusal}
@@ -30,7 +30,7 @@ use Rattle.inode_changes.proofs.PlaceLaws.{none_at, old_at, there_at, said_place
 use Rattle.inode_layout.specs.Block.{inode_of, block_len_of}
 use Rattle.inode_layout.specs.Said.{is_directory, entries_said, blocks_said, entry_said}
 use Rattle.inode_walks.specs.declared.finding.Lookup.{Lookup}
-use Rattle.inode_walks.specs.Asking.{tree_of, mounted_by}
+use Rattle.inode_walks.specs.Asking.{tree_under, mounted_by}
 use Rattle.inode_walks.specs.Finding.{IsLookup}
 use Rattle.inode_walks.proofs.FoundLaws.{dir_said, names_there, entry_by}
 use Rattle.inode_walks.proofs.FileLaws.{stands_still}
@@ -49,7 +49,7 @@ use Rattle.inode_changes.proofs.GrowLaws.{root_is_dir}
 
 -- ---- the refusals in their order
 
-module _ (g : Geometry) (t : Tree) (free held : ℕ) (n : Need) (root : is_dir t ≡ true) (x : List ℕ) where
+module _ (g : Geometry) (t : Tree) (free held : ℕ) (n : RoomNeed) (root : is_dir t ≡ true) (x : List ℕ) where
   -- what is left behind the way
   abbrev behind : Path → List (Option FsRefusal)
   behind p = no_file t p ∷ dir_full kind.Inode g t p ∷ too_big kind.Inode g (length x) ∷ no_room g free held n
@@ -96,12 +96,12 @@ entry_count (e ∷ es) = let rest = entry_count es in omega (arith, rest)
 
 module _ (c : Client) (v : DiskView) (path : Path) (lookup : Lookup) (dir : is_directory (inode_of lookup.directory.inode) ≡ true) (now : IsValidNow v) (s : PutsFile c v path lookup) (x : List ℕ) where
   abbrev t : Tree
-  t = tree_of c v
+  t = tree_under c v
 
   abbrev g : Geometry
   g = v.world.geometry
 
-  root : is_dir (tree_of c v) ≡ true
+  root : is_dir (tree_under c v) ≡ true
   root = root_is_dir v.world c.root s.there
 
   pub grounds : entering.DirectoryHasRoom lookup.directory.inode lookup.name.now → Grounds c.root v.world path lookup
@@ -224,7 +224,7 @@ module _ (c : Client) (v : DiskView) (path : Path) (lookup : Lookup) (dir : is_d
   old_is_there = child_there c v i.above.more lookup.directory i.above.stands lookup.name.now b (said_place c v path lookup dir i b some)
 
   -- its inode tells whether it is a directory
-  pub kind_at : (k : Inode) → inode_at v.world b ≡ Some k → is_dir (at (tree_of c v) path) ≡ is_directory k
+  pub kind_at : (k : Inode) → inode_at v.world b ≡ Some k → is_dir (at (tree_under c v) path) ≡ is_directory k
   kind_at k is =
       let level = a_level v.world i.above.more b old_is_there in
       ap is_dir (old_at c v path lookup dir i b some ∙ ap (λ m. inodes.tree_of v.world (node_at v.world m b)) level.1)
@@ -249,8 +249,8 @@ place_still c old new path lookup seen stays now i = record {
 }
 
 -- nothing is changed yet, and no directory stands there
-pub puts_now : (c : Client) (first mid now : DiskView) (path : Path) (lookup : Lookup) → c.root < first.world.geometry.primaries → is_there (tree_of c first) ≡ true → is_path path ≡ true
-    → ◌≡◌ {A = Option FsRefusal} (lookup_refusal (tree_of c first) path no.IsDir) None → Looked first mid → IsLookup c mid path lookup → Looked mid now → Stays mid now → is_dir (at (tree_of c mid) path) ≡ false → PutsFile c now path lookup
+pub puts_now : (c : Client) (first mid now : DiskView) (path : Path) (lookup : Lookup) → c.root < first.world.geometry.primaries → is_there (tree_under c first) ≡ true → is_path path ≡ true
+    → ◌≡◌ {A = Option FsRefusal} (lookup_refusal (tree_under c first) path no.IsDir) None → Looked first mid → IsLookup c mid path lookup → Looked mid now → Stays mid now → is_dir (at (tree_under c mid) path) ≡ false → PutsFile c now path lookup
 puts_now c first mid now path lookup primary there path_is way one found two stays no_dir =
     let same : now.world ≡ first.world = two.world ∙ one.world in
     record {

@@ -4,14 +4,14 @@ use Rattle.std.proofs.lemmas.Bool.{and_parts, and_from, or_left, eq-eqb}
 use Rattle.std.specs.List.{list_all}
 use Rattle.std.specs.Option.{option_and_then}
 use Rattle.tsd_model.specs.Geometry.{block_len}
-use Rattle.tsd_model.specs.World.{World, contents, is_live, is_free, has_number}
+use Rattle.tsd_model.specs.World.{World, contents, is_live, is_free, has_number, are_apart}
 use Rattle.tsd_model.specs.Pairs.{holds, is_pair}
 use Rattle.tsd_model.specs.Valid.{IsValid}
-use Rattle.tsd_model.specs.Step.{filled}
+use Rattle.tsd_model.specs.Step.{filled, written}
 use Rattle.fs_trees.specs.Names.{Name, Path, path_max}
 use Rattle.fs_trees.specs.Tree.{Tree, nothing, a_file, a_dir, entry, is_there, with_entry, with_child, with_at}
 use Rattle.fs_trees.specs.Fields.{Entry}
-use Rattle.fs_trees.specs.Inode.{directory, are_apart, block_named, inode_in, inode_bytes, without_listed}
+use Rattle.fs_trees.specs.Inode.{directory, block_named, inode_in, inode_bytes, without_listed}
 use Rattle.fs_trees.specs.InodeTree.{InodeNode, InodeEntries, tree_of, inode_at, node_at, inode_blocks, data_blocks, named_pairs, inode_tree}
 use Rattle.fs_trees.specs.Layouts.{named_at, IsTidy}
 use Rattle.fs_trees.specs.Outside.{is_under}
@@ -25,7 +25,7 @@ use Rattle.fs_laws.proofs.DirectoryLaws.{read_named, entry_is_read, entry_is_dro
 use Rattle.fs_laws.proofs.CountLaws.{apart_times}
 use Rattle.fs_laws.proofs.EntryLaws as deciding
 use Rattle.fs_laws.proofs.UnderLaws.{each_under, root_under, target_under}
-use Rattle.fs_client.specs.Steps.{written, dropped}
+use Rattle.fs_client.specs.Steps.{dropped}
 use Rattle.fs_client.proofs.DropLaws.{fewer_pairs, fewer_live, other_pair}
 use Rattle.fs_client.proofs.WriteLaws.{written_elsewhere, written_here, written_free}
 use Rattle.inode_walks.proofs.WalkLaws.{block_is, node_block, named_is_there, entry_pair}

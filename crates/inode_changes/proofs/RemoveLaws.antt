@@ -33,12 +33,13 @@ use Rattle.fs_client.specs.declared.client.Client.{Client}
 use Rattle.fs_client.specs.Client.{write_by, unlink_by}
 use Rattle.fs_client.specs.May.{MayWrite, Looked}
 use Rattle.fs_client.proofs.LookLaws.{may_again}
-use Rattle.fs_client.specs.Steps.{Leads, Went, written, dropped}
+use Rattle.tsd_model.specs.Step.{written}
+use Rattle.fs_client.specs.Steps.{Leads, Went, dropped}
 use Rattle.inode_layout.specs.Block.{inode_of}
 use Rattle.inode_layout.specs.Said.{is_directory, entries_said, blocks_said}
 use Rattle.inode_layout.proofs.ListedLaws.{entry_length}
 use Rattle.inode_walks.specs.declared.finding.Lookup.{Lookup}
-use Rattle.inode_walks.specs.Asking.{tree_of, mounted_by}
+use Rattle.inode_walks.specs.Asking.{tree_under, mounted_by}
 use Rattle.inode_walks.specs.Finding.{IsLookup}
 use Rattle.fs_client.specs.Changing.{lookup_refusal, refused_on}
 use Rattle.inode_changes.proofs.SpotLaws.{Spot, spot_of, live, order}
@@ -77,13 +78,13 @@ directory_length es h = let list = listed_length es h in omega (arith, list)
 -- it was found, and what it names was read
 pub record Taking (c : Client) (first mid rd : DiskView) (path : Path) (lookup : Lookup) (b : ℕ) : Type 0 where
   pub valid : IsValid first.world
-  pub tree : is_there (tree_of c first) ≡ true
+  pub tree : is_there (tree_under c first) ≡ true
   pub primary : c.root < first.world.geometry.primaries
   pub seen : Looked first mid
   pub is_dir : is_directory (inode_of lookup.directory.inode) ≡ true
   pub place_is : IsLookup c mid path lookup
   pub some : lookup.old ≡ Some b
-  pub found : ◌≡◌ {A = Option FsRefusal} (lookup_refusal (tree_of c first) path no.IsDir) None
+  pub found : ◌≡◌ {A = Option FsRefusal} (lookup_refusal (tree_under c first) path no.IsDir) None
   pub read : Looked mid rd
   pub stays : Stays mid rd
 
@@ -137,18 +138,18 @@ module _ (c : Client) (first mid rd : DiskView) (path : Path) (lookup : Lookup) 
   inside = and_from (is_under rd.world c.root d) true (removal.dir_under rd.world c.root p d es spot valid_rd primary_rd n) refl
 
   -- the tree with it
-  tree_next : inode_tree next c.root ≡ with_at path nothing (tree_of c first)
+  tree_next : inode_tree next c.root ≡ with_at path nothing (tree_under c first)
   tree_next = removal.tree_next rd.world c.root p d es spot valid_rd primary_rd n
       ∙ (ap (λ q. with_at q nothing (inode_tree rd.world c.root)) (sym x.place_is.name) ∙ ap (λ w. with_at path nothing (inode_tree w c.root)) same)
 
   module _ (there : is_there (node_at mid.world x.place_is.above.more b) ≡ true) (k : Inode) (is : inode_at mid.world b ≡ Some k) (empty : (is_directory k && nat_lt 0 (length (blocks_said k))) ≡ false) where
     -- nothing refuses it
     pub none_refuses : ◌≡◌ {A = Option FsRefusal} (refused_on (mounted_by c) first (ask.Rm path)) None
-    none_refuses = rm_none kind.Inode first.world.geometry (tree_of c first) (free_count first.world) (length first.world.pairs) (need_of kind.Inode first.world c.root (tree_of c first) (ask.Rm path)) x.tree path x.found
+    none_refuses = rm_none kind.Inode first.world.geometry (tree_under c first) (free_count first.world) (length first.world.pairs) (need_of kind.Inode first.world c.root (tree_under c first) (ask.Rm path)) x.tree path x.found
         (ap (λ w. is_there (at (inode_tree w c.root) path)) (sym x.seen.world) ∙ old_there c mid path lookup x.is_dir x.place_is b x.some there k is)
         (ap (λ w. nat_lt 0 (length (names_in (at (inode_tree w c.root) path)))) (sym x.seen.world) ∙ (entries_at c mid path lookup x.is_dir x.place_is b x.some there k is ∙ empty))
 
-    after : (w : World) → inode_tree w c.root ≡ with_at path nothing (tree_of c first) → IsValid w → w.geometry ≡ rd.world.geometry → OthersStay c.root rd.world w → IsEitherTree (mounted_by c) first (ask.Rm path) w
+    after : (w : World) → inode_tree w c.root ≡ with_at path nothing (tree_under c first) → IsValid w → w.geometry ≡ rd.world.geometry → OthersStay c.root rd.world w → IsEitherTree (mounted_by c) first (ask.Rm path) w
     after w tree valid size others = (
       inr (tree ∙ sym (after_is (mounted_by c) first (ask.Rm path) none_refuses refl)),
       record {
@@ -189,7 +190,7 @@ module _ (c : Client) (first mid rd : DiskView) (path : Path) (lookup : Lookup) 
         keeps = leads.keeps c.root (named_at kind.Inode next c.root) (inodes_under_root next c.root primary_rd (removal.there_next rd.world c.root p d es spot valid_rd primary_rd n))
             (ap not (removal.old_spared rd.world c.root p d es spot valid_rd primary_rd n went.leads.valid b listed))
 
-        tree_last : inode_tree last c.root ≡ with_at path nothing (tree_of c first)
+        tree_last : inode_tree last c.root ≡ with_at path nothing (tree_under c first)
         tree_last = (removal.same_last rd.world c.root p d es spot valid_rd primary_rd n went.leads.valid b listed keeps leads.valid).tree ∙ tree_next
 
         others_last : OthersStay c.root rd.world last
@@ -216,7 +217,7 @@ module _ (c : Client) (first mid rd : DiskView) (path : Path) (lookup : Lookup) 
         fin_is : fin.world ≡ last
         fin_is = gone.world ∙ to_last
 
-        pub tree_fin : tree_of c fin ≡ with_at path nothing (tree_of c first)
+        pub tree_fin : tree_under c fin ≡ with_at path nothing (tree_under c first)
         tree_fin = ap (λ w. inode_tree w c.root) fin_is ∙ tree_last leads_last
 
         pub left_fin : LeavesTidyWorld (mounted_by c) first fin

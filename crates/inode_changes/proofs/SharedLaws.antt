@@ -3,9 +3,8 @@ use Rattle.std.proofs.Common.{◌≡◌, ℕ, zero, suc, ◌*◌, ◌≤◌, Boo
 use Rattle.std.proofs.lemmas.Bool.{and_parts, and_from, not-true}
 use Rattle.std.specs.Prelude.{take}
 use Rattle.byteorder.specs.Endian.{little_number}
-use Rattle.tsd_model.specs.World.{has_number}
+use Rattle.tsd_model.specs.World.{has_number, are_apart}
 use Rattle.fs_trees.specs.Fields.{numbers}
-use Rattle.fs_trees.specs.Inode.{are_apart}
 use Rattle.inode_changes.proofs.GrownLaws.{in_take}
 
 clash : (t : Bool) → t ≡ true → t ≡ false → ⊥

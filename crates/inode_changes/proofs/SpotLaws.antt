@@ -6,7 +6,7 @@ use Rattle.std.specs.Prelude.{is_some, map, drop, replicate}
 use Rattle.std.specs.Option.{option_and_then}
 use Rattle.std.specs.List.{list_all}
 use Rattle.tsd_model.specs.Geometry.{block_len}
-use Rattle.tsd_model.specs.World.{World, contents, is_live}
+use Rattle.tsd_model.specs.World.{World, contents, is_live, are_apart}
 use Rattle.tsd_model.specs.Pairs.{holds}
 use Rattle.tsd_model.specs.Valid.{IsValid}
 use Rattle.tsd_model.specs.Step.{filled}
@@ -15,7 +15,7 @@ use Rattle.disk_laws.proofs.DoomLaws.{live_below}
 use Rattle.fs_trees.specs.Names.{Path, path_max, are_ascending}
 use Rattle.fs_trees.specs.Tree.{nothing, a_file, a_dir, entry, at, is_there}
 use Rattle.fs_trees.specs.Fields.{only_if, Entry, entries, entry_names, all_named}
-use Rattle.fs_trees.specs.Inode.{Inode, directory, entries_room, are_apart, inode_in, inode_bytes}
+use Rattle.fs_trees.specs.Inode.{Inode, directory, entries_room, inode_in, inode_bytes}
 use Rattle.fs_trees.specs.InodeTree.{InodeNode, InodeEntries, inode_at, entries_by, node_at, inode_blocks, named_pairs}
 use Rattle.fs_trees.specs.Refusals.{directory_of}
 use Rattle.fs_laws.proofs.InodeLaws.{HasRoot, found, under_is}
@@ -31,7 +31,7 @@ use Rattle.inode_layout.specs.Said.{said_in, is_directory, is_in_order, in_order
 use Rattle.inode_layout.proofs.SaidLaws.{in_two_steps}
 use Rattle.inode_layout.proofs.BackLaws.{reads_back}
 use Rattle.inode_walks.specs.declared.finding.Lookup.{Lookup}
-use Rattle.inode_walks.specs.Asking.{tree_of}
+use Rattle.inode_walks.specs.Asking.{tree_under}
 use Rattle.inode_walks.specs.Finding.{IsLookup, node_pairs}
 use Rattle.inode_walks.proofs.WalkLaws.{entry_pairs, node_block, dir_node}
 use Rattle.inode_walks.proofs.FoundLaws.{dir_said}
@@ -104,7 +104,7 @@ below_named p root old d xs e a b h = below p (a_dir root old) d xs e a b h
     below (n ∷ ns) (a_file f) d xs e a b h = absurd (nowhere ns d xs e)
     below (n ∷ ns) (a_dir c es) d xs e a b h = entry_pairs c n es a b (below ns (entry n es) d xs e a b h)
 
-pub spot_of : (c : Client) (v : DiskView) (path : Path) (lookup : Lookup) → is_there (tree_of c v) ≡ true → is_directory (inode_of lookup.directory.inode) ≡ true → IsLookup c v path lookup
+pub spot_of : (c : Client) (v : DiskView) (path : Path) (lookup : Lookup) → is_there (tree_under c v) ≡ true → is_directory (inode_of lookup.directory.inode) ≡ true → IsLookup c v path lookup
     → Spot v.world c.root (directory_of path) lookup.directory.block (entries_said (inode_of lookup.directory.inode))
 spot_of c v path lookup there is_dir i =
     let es = entries_said (inode_of lookup.directory.inode) in

@@ -16,10 +16,10 @@ use Rattle.inode_changes.specs.declared.content.Content.{Content}
 use Rattle.inode_changes.specs.Making.{Making, new_pairs}
 use Rattle.inode_changes.specs.Content.{shared_of, shared_count, new_bytes, new_count, all_count, IsFor, RootReaches}
 use Rattle.inode_changes.specs.Filling.{Stage, Filled}
-use Rattle.inode_changes.specs.Beginning.{Began}
+use Rattle.inode_changes.specs.Beginning.{HasNewInode}
 
 -- the block of a new inode, and the pair to it
-pub begun_takes : (c : Client) (old new : DiskView) (d i : ℕ) → Began c old new d i → KeepsRoom (need 1 1) old.world new.world
+pub begun_takes : (c : Client) (old new : DiskView) (d i : ℕ) → HasNewInode c old new d i → KeepsRoom (need 1 1) old.world new.world
 begun_takes c old new d i b = record {
   blocks = let less = b.blocks in omega (arith, less);
   pairs = let more = b.pairs in omega (arith, more);

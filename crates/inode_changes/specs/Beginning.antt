@@ -10,7 +10,7 @@ use Rattle.inode_changes.specs.Making.{Making}
 use Rattle.inode_changes.specs.Filling.{Stage, IsAside}
 
 -- a block was taken for a new inode of the directory in block d
-pub record Began (c : Client) (old new : DiskView) (d i : ℕ) : Type 0 where
+pub record HasNewInode (c : Client) (old new : DiskView) (d i : ℕ) : Type 0 where
   pub making : Making c.root old.world d i [] [] new.world
   pub geometry : new.world.geometry ≡ old.world.geometry
   pub pairs : length new.world.pairs ≡ length old.world.pairs + 1

@@ -2,11 +2,11 @@
 use Rattle.std.specs.Prelude.{◌≡◌, ◌+◌, ◌<◌, ℕ, false, List, [], ◌∷◌, ◌++◌, length, take, drop, flat_map, Some, IsTrue}
 use Rattle.std.specs.Int.{div_ceil}
 use Rattle.tsd_model.specs.Geometry.{block_len}
-use Rattle.tsd_model.specs.World.{World, contents, has_number}
+use Rattle.tsd_model.specs.World.{World, contents, has_number, are_apart}
 use Rattle.tsd_model.specs.Valid.{IsValid}
 use Rattle.tsd_model.specs.Step.{filled}
 use Rattle.fs_trees.specs.Tree.{is_there}
-use Rattle.fs_trees.specs.Inode.{regular, are_apart}
+use Rattle.fs_trees.specs.Inode.{regular}
 use Rattle.fs_trees.specs.InodeTree.{inode_at, file_bytes, inode_tree}
 use Rattle.fs_trees.specs.Outside.{is_under, OthersStay}
 use Rattle.fs_port.specs.View.{DiskView}
@@ -111,7 +111,7 @@ joined w blocks bytes = flat_map (bytes_at w) blocks ++ bytes
 
 -- In block i the inode of a file of this size stands, which shares these blocks; its fresh blocks hold the bytes behind
 -- theirs. All are as many as its size takes.
-pub record IsFile (root : ℕ) (first : World) (d i size : ℕ) (shared bytes : List ℕ) (w : World) : Type 0 where
+pub record IsFilledFile (root : ℕ) (first : World) (d i size : ℕ) (shared bytes : List ℕ) (w : World) : Type 0 where
   pub fresh : List ℕ
   pub making : Making root first d i shared fresh w
   pub says : inode_at w i ≡ Some (regular size (shared ++ fresh))
@@ -122,5 +122,5 @@ pub record IsFile (root : ℕ) (first : World) (d i size : ℕ) (shared bytes : 
 pub record Filled (c : Client) (old new : DiskView) (i size : ℕ) (shared bytes : List ℕ) : Type 0 where
   pub geometry : new.world.geometry ≡ old.world.geometry
   pub file : (first : World) (d : ℕ) → Stage c.root first d → Making c.root first d i [] [] old.world
-      → RootReaches c.root first shared → IsFile c.root first d i size shared bytes new.world
+      → RootReaches c.root first shared → IsFilledFile c.root first d i size shared bytes new.world
   pub may : (b : ℕ) → MayWrite c old b → MayWrite c new b

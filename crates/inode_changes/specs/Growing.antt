@@ -11,7 +11,7 @@ use Rattle.inode_layout.specs.Block.{inode_of, block_len_of, body_of}
 use Rattle.inode_layout.specs.Said.{amount_said}
 use Rattle.inode_walks.specs.declared.finding.Found.{Found}
 use Rattle.inode_walks.specs.declared.finding.Lookup.{Lookup}
-use Rattle.inode_walks.specs.Asking.{tree_of}
+use Rattle.inode_walks.specs.Asking.{tree_under}
 use Rattle.inode_walks.specs.Finding.{StandsAtPath}
 use Rattle.fs_client.specs.Changing.{lookup_refusal}
 use Rattle.inode_changes.specs.declared.content.Content.{Content}
@@ -23,7 +23,7 @@ pub record Grows (c : Client) (v : DiskView) (path : Path) (lookup : Lookup) (fi
   pub may : MayWrite c v lookup.directory.block
   pub found : StandsAtPath c v path file
   pub old : lookup.old ≡ Some file.block
-  pub way : ◌≡◌ {A = Option FsRefusal} (lookup_refusal (tree_of c v) path no.IsDir) None
+  pub way : ◌≡◌ {A = Option FsRefusal} (lookup_refusal (tree_under c v) path no.IsDir) None
 
 -- The new file shares the blocks of the old one that are full: their numbers are the first of those behind the old
 -- one's head. The bytes of the old one that are behind them stand in front of those that are added.

@@ -1,9 +1,8 @@
 -- A file in the making: new blocks that a directory leads to and that no inode of the tree names.
 use Rattle.std.specs.Prelude.{◌≡◌, ℕ, false, ◌||◌, List, ◌∷◌, ◌++◌, map, IsTrue}
-use Rattle.tsd_model.specs.World.{World, contents, is_live, is_free, has_number}
+use Rattle.tsd_model.specs.World.{World, contents, is_live, is_free, has_number, are_apart}
 use Rattle.tsd_model.specs.Pairs.{holds}
 use Rattle.tsd_model.specs.Valid.{IsValid}
-use Rattle.fs_trees.specs.Inode.{are_apart}
 use Rattle.fs_trees.specs.Layouts.{named_at}
 use Rattle.fs_trees.specs.Outside.{OthersStay}
 use Rattle.fs_trees.specs.declared.ask.ShellKind.TheVariants.{Inode}

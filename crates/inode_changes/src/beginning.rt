@@ -11,7 +11,7 @@ ghost use Rattle.fs_client.specs.Steps.{no_room_in};
 ghost use Rattle.fs_port.specs.Runs.{Runs};
 ghost use Rattle.inode_changes.specs.Blocks.{the_block};
 ghost use Rattle.inode_changes.specs.Filling.{Stage, IsAside};
-ghost use Rattle.inode_changes.specs.Beginning.{Began, IsBack, AsideOr, IsRefusedSo};
+ghost use Rattle.inode_changes.specs.Beginning.{HasNewInode, IsBack, AsideOr, IsRefusedSo};
 
 use fs_client::{Client, drop_pointer, held_before, take_blocks};
 use fs_port::Blocks;
@@ -35,7 +35,7 @@ pub fn new_inode<K: Blocks>(client: &Client, disk: &mut K, directory: u32) -> Re
     requires valid { K.told → IsValidNow (K.view disk.old) }
     requires stage { K.told → Stage client.now.root (K.view disk.old).world directory }
     requires may { K.told → MayWrite client.now (K.view disk.old) directory }
-    ensures began { K.told → IfOk result (Began client.now (K.view disk.old) (K.view disk.new) directory) }
+    ensures began { K.told → IfOk result (HasNewInode client.now (K.view disk.old) (K.view disk.new) directory) }
     ensures room { K.told → OnOk result (no_room_in (K.view disk.old).world 1 1 ≡ None) }
     ensures full { K.told → IfErr result (λ e. e ≢ no.Device → no_room_in (K.view disk.old).world 1 1 ≡ Some e) }
     ensures same { K.told → IfErr result (λ e. e ≢ no.Device → state_of (K.view disk.new)

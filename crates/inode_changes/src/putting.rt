@@ -12,7 +12,7 @@ ghost use Rattle.fs_client.specs.May.{OnlyLooks};
 ghost use Rattle.fs_port.specs.Runs.{Changes};
 ghost use Rattle.inode_layout.specs.Block.{inode_of};
 ghost use Rattle.inode_layout.specs.Said.{is_directory};
-ghost use Rattle.inode_walks.specs.Asking.{MayAsk, mounted_by, tree_of};
+ghost use Rattle.inode_walks.specs.Asking.{MayAsk, mounted_by, tree_under};
 ghost use Rattle.inode_walks.specs.Finding.{IsLookup};
 ghost use Rattle.inode_changes.specs.Putting.{PutsFile, IsOf};
 
@@ -34,11 +34,11 @@ fn check_old<K: Blocks>(client: &Client, disk: &mut K, lookup: &Lookup<'_>) -> R
     requires dir { IsTrue (is_directory (inode_of lookup.now.directory.inode)) }
     requires found { K.told → (path : Path) × IsLookup client.now (K.view disk.old) path lookup.now }
     ensures no_dir { K.told → OnOk result ((path : Path) → IsLookup client.now (K.view disk.old) path lookup.now
-        → is_dir (at (tree_of client.now (K.view disk.old)) path) ≡ false) }
+        → is_dir (at (tree_under client.now (K.view disk.old)) path) ≡ false) }
     ensures only { K.told → IfErr result (λ e. e ≢ no.Device → e ≡ no.IsDir) }
     ensures is_dir { K.told → IfErr result (λ e. e ≢ no.Device → (path : Path)
         → IsLookup client.now (K.view disk.old) path lookup.now
-        → IsTrue (is_dir (at (tree_of client.now (K.view disk.old)) path))) }
+        → IsTrue (is_dir (at (tree_under client.now (K.view disk.old)) path))) }
     ensures looks { OnlyLooks K.told (K.view disk.old) (K.view disk.new) result }
 {
     let block = match lookup.old {

@@ -5,12 +5,12 @@ use Rattle.std.specs.Prelude.{map}
 use Rattle.std.specs.List.{list_all}
 use Rattle.std.specs.Option.{option_and_then}
 use Rattle.tsd_model.specs.Geometry.{block_len}
-use Rattle.tsd_model.specs.World.{World, contents, has_number}
+use Rattle.tsd_model.specs.World.{World, contents, has_number, are_apart}
 use Rattle.tsd_model.specs.Pairs.{holds, is_pair}
 use Rattle.fs_trees.specs.Names.{Name}
 use Rattle.fs_trees.specs.Tree.{none, file, dir, nothing, a_file, a_dir, is_there}
 use Rattle.fs_trees.specs.Fields.{Entry, only_if}
-use Rattle.fs_trees.specs.Inode.{Inode, directory, regular, inode_in, are_apart}
+use Rattle.fs_trees.specs.Inode.{Inode, directory, regular, inode_in}
 use Rattle.fs_trees.specs.InodeTree.{InodeNode, InodeEntries, inode_at, with_first, entries_by, as_dir, node_by, node_at, inode_blocks, data_blocks, named_pairs}
 use Rattle.inode_layout.specs.Said.{said_in, in_order, is_in_order, blocks_said}
 use Rattle.inode_layout.proofs.SaidLaws.{in_two_steps}

@@ -11,7 +11,7 @@ use Rattle.fs_trees.specs.Inode.{directory, inode_in, inode_bytes}
 use Rattle.fs_trees.specs.InodeTree.{inode_at, node_by, node_at, as_root, inodes_under, tree_of}
 use Rattle.fs_trees.specs.Layouts.{by_inodes}
 use Rattle.fs_trees.specs.declared.ask.ShellKind.TheVariants as kind
-use Rattle.fs_client.specs.Steps.{written}
+use Rattle.tsd_model.specs.Step.{written}
 use Rattle.fs_client.specs.Changing.{IsEmptied}
 use Rattle.fs_client.proofs.WriteLaws.{block_long, written_here}
 use Rattle.inode_layout.proofs.BackLaws.{reads_back}

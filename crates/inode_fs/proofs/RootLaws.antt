@@ -2,12 +2,12 @@
 use Rattle.std.proofs.Common.{◌≡◌, ℕ, suc, Bool, true, false, not, cond, ◌&&◌, ◌||◌, ◌==◌, ◌∷◌, refl, sym, ◌∙◌, ap, subst, Option, Some, None}
 use Rattle.std.proofs.lemmas.Bool.{and_parts, and_from}
 use Rattle.std.specs.List.{list_all}
-use Rattle.tsd_model.specs.World.{World, has_number}
+use Rattle.tsd_model.specs.World.{World, has_number, are_apart}
 use Rattle.tsd_model.specs.Pairs.{holds}
 use Rattle.tsd_model.proofs.PairLaws.{all_of_held}
 use Rattle.fs_trees.specs.Names.{path_max}
 use Rattle.fs_trees.specs.Tree.{nothing, a_file, a_dir, is_there}
-use Rattle.fs_trees.specs.Inode.{Inode, directory, regular, are_apart}
+use Rattle.fs_trees.specs.Inode.{Inode, directory, regular}
 use Rattle.fs_trees.specs.InodeTree.{InodeNode, InodeEntries, inode_at, entries_by, as_dir, node_by, node_at, inode_blocks, data_blocks, named_pairs, inodes_under, tree_of, inode_tree}
 use Rattle.fs_trees.specs.Layouts.{by_inodes}
 use Rattle.inode_walks.specs.Finding.{node_pairs}

@@ -2,10 +2,10 @@
 use Rattle.std.proofs.Common.{◌≡◌, ℕ, zero, suc, ◌<◌, Bool, true, false, cond, ◌&&◌, ◌||◌, ◌==◌, List, length, refl, sym, ◌∙◌, ap, subst, arith, inl, inr, Option, Some, None}
 use Rattle.std.proofs.lemmas.Bool.{and_parts, and_from, or_cases, or_left, eq-eqb, eqb-true}
 use Rattle.std.specs.Option.{option_and_then, option_map}
-use Rattle.tsd_model.specs.World.{World, has_number}
+use Rattle.tsd_model.specs.World.{World, has_number, are_apart}
 use Rattle.tsd_model.specs.Pairs.{holds}
 use Rattle.fs_trees.specs.Fields.{only_if}
-use Rattle.fs_trees.specs.Inode.{Inode, directory, regular, inode_in, are_apart}
+use Rattle.fs_trees.specs.Inode.{Inode, directory, regular, inode_in}
 use Rattle.fs_trees.specs.InodeTree.{inode_at}
 use Rattle.inode_layout.specs.declared.inode.Inode as block
 use Rattle.inode_layout.specs.Block.{inode_of}

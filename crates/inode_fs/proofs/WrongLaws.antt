@@ -3,12 +3,12 @@ use Rattle.std.proofs.Common.{◌≡◌, ℕ, zero, suc, Bool, true, false, cond
 use Rattle.std.proofs.lemmas.Bool.{and_from, or_cases, or_left, or_right, eq-eqb, eqb-true}
 use Rattle.std.specs.Prelude.{map}
 use Rattle.std.specs.Option.{option_and_then}
-use Rattle.tsd_model.specs.World.{World, has_number}
+use Rattle.tsd_model.specs.World.{World, has_number, are_apart}
 use Rattle.tsd_model.specs.Pairs.{holds, is_pair}
 use Rattle.fs_trees.specs.Names.{Name}
 use Rattle.fs_trees.specs.Tree.{file, dir, nothing, a_file, a_dir, is_there}
 use Rattle.fs_trees.specs.Fields.{Entry}
-use Rattle.fs_trees.specs.Inode.{Inode, directory, regular, are_apart}
+use Rattle.fs_trees.specs.Inode.{Inode, directory, regular}
 use Rattle.fs_trees.specs.InodeTree.{InodeNode, InodeEntries, inode_at, with_first, entries_by, as_dir, node_by, node_at, inode_blocks, data_blocks, named_pairs}
 use Rattle.inode_layout.specs.Said.{blocks_said}
 use Rattle.inode_walks.specs.Finding.{node_pairs}

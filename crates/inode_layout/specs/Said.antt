@@ -7,7 +7,8 @@ use Rattle.std.specs.Option.{option_or, option_and_then}
 use Rattle.byteorder.specs.Endian.{little_number, little_bytes}
 use Rattle.fs_trees.specs.Names.{Name, name_lt, are_ascending}
 use Rattle.fs_trees.specs.Fields.{only_if, begins_with, numbers, Entry, entries, entry_names, all_named}
-use Rattle.fs_trees.specs.Inode.{Inode, directory, regular, magic, entries_room, data_room, are_apart, block_named}
+use Rattle.tsd_model.specs.World.{are_apart}
+use Rattle.fs_trees.specs.Inode.{Inode, directory, regular, magic, entries_room, data_room, block_named}
 use Rattle.fs_trees.specs.Inode.{inode_in, inode_bytes}
 
 -- kind 1, with room for so many entries

@@ -29,7 +29,7 @@ use Rattle.inode_layout.specs.Kinds.{items_for}
 use Rattle.inode_layout.specs.Block.{said, inode_of, block_len_of, body_of}
 use Rattle.inode_layout.specs.Said.{blocks_said, is_directory, amount_said}
 use Rattle.inode_walks.specs.declared.finding.Found.{Found}
-use Rattle.inode_walks.specs.Asking.{tree_of}
+use Rattle.inode_walks.specs.Asking.{tree_under}
 use Rattle.inode_walks.specs.Finding.{StandsAsRead, IsStanding, IsOpenNow, StandsAtPath, node_pairs}
 use Rattle.inode_walks.specs.Reading.{part, bytes_at, bytes_said}
 use Rattle.inode_walks.proofs.WalkLaws.{file_node}
@@ -126,7 +126,7 @@ module _ (c : Client) (v : DiskView) (more : ℕ) (file : Found) (stands : Stand
   file_is = ap (inodes.tree_of v.world) node_is ∙ ap (λ xs. a_file (take size xs)) (sym said_is_row)
 
 -- what a path leads to
-pub tree_there : (c : Client) (v : DiskView) (p : Path) (found : Found) → (i : StandsAtPath c v p found) → at (tree_of c v) p ≡ inodes.tree_of v.world (node_at v.world (suc i.more) found.block)
+pub tree_there : (c : Client) (v : DiskView) (p : Path) (found : Found) → (i : StandsAtPath c v p found) → at (tree_under c v) p ≡ inodes.tree_of v.world (node_at v.world (suc i.more) found.block)
 tree_there c v p found i = sym (tree-at v.world p (inodes_under v.world c.root)) ∙ ap (inodes.tree_of v.world) i.node
 
 -- a block that was read has room for a head

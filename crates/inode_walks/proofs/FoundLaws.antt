@@ -17,7 +17,7 @@ use Rattle.inode_layout.specs.Block.{inode_of}
 use Rattle.inode_layout.specs.Said.{blocks_said, is_directory, amount_said, entries_said, entry_said}
 use Rattle.inode_walks.specs.declared.finding.Found.{Found}
 use Rattle.inode_walks.specs.declared.finding.Lookup.{Lookup}
-use Rattle.inode_walks.specs.Asking.{tree_of}
+use Rattle.inode_walks.specs.Asking.{tree_under}
 use Rattle.inode_walks.specs.Finding.{StandsAtPath, IsLookup, not_found, no_file_found, no_directory_found}
 use Rattle.fs_client.specs.Changing.{lookup_refusal}
 use Rattle.inode_walks.proofs.WalkLaws.{file_node, dir_node}
@@ -32,27 +32,27 @@ module _ (c : Client) (v : DiskView) (p : Path) (found : Found) (i : StandsAtPat
   pub dir_found : is_directory (inode_of found.inode) ≡ true → (xs : InodeEntries) × (entries_by (λ b. node_at v.world i.more b) (entries_said (inode_of found.inode)) ≡ Some xs) × (node_at v.world (suc i.more) found.block ≡ a_dir found.block xs)
   dir_found h = dir_node v.world i.more found.block i.stands.there (entries_said (inode_of found.inode)) (i.stands.says ∙ ap (λ x. Some x) (dir_said (inode_of found.inode) h))
 
-  dir_tree : is_directory (inode_of found.inode) ≡ true → (xs : InodeEntries) × (at (tree_of c v) p ≡ a_dir tt (tree_entries v.world xs))
+  dir_tree : is_directory (inode_of found.inode) ≡ true → (xs : InodeEntries) × (at (tree_under c v) p ≡ a_dir tt (tree_entries v.world xs))
   dir_tree h = let d = dir_found h in (d.0, tree_there c v p found i ∙ ap (inodes.tree_of v.world) d.2)
 
-  file_tree : is_directory (inode_of found.inode) ≡ false → (x : List ℕ) × (at (tree_of c v) p ≡ a_file x)
+  file_tree : is_directory (inode_of found.inode) ≡ false → (x : List ℕ) × (at (tree_under c v) p ≡ a_file x)
   file_tree h =
       let node = file_node v.world i.more found.block i.stands.there (amount_said (inode_of found.inode)) (blocks_said (inode_of found.inode)) (i.stands.says ∙ ap (λ x. Some x) (file_said (inode_of found.inode) h)) in
       (inodes.file_bytes v.world (record { block = found.block; size = amount_said (inode_of found.inode); blocks = blocks_said (inode_of found.inode) }), tree_there c v p found i ∙ ap (inodes.tree_of v.world) node)
 
-  pub a_dir_there : is_directory (inode_of found.inode) ≡ true → (is_dir (at (tree_of c v) p) ≡ true) × (is_file (at (tree_of c v) p) ≡ false)
+  pub a_dir_there : is_directory (inode_of found.inode) ≡ true → (is_dir (at (tree_under c v) p) ≡ true) × (is_file (at (tree_under c v) p) ≡ false)
   a_dir_there h = let d = dir_tree h in (ap is_dir d.1, ap is_file d.1)
 
-  pub a_file_there : is_directory (inode_of found.inode) ≡ false → (is_dir (at (tree_of c v) p) ≡ false) × (is_file (at (tree_of c v) p) ≡ true)
+  pub a_file_there : is_directory (inode_of found.inode) ≡ false → (is_dir (at (tree_under c v) p) ≡ false) × (is_file (at (tree_under c v) p) ≡ true)
   a_file_there h = let d = file_tree h in (ap is_dir d.1, ap is_file d.1)
 
 -- and so it was before
 module _ (c : Client) (old new : DiskView) (p : Path) (found : Found) (i : StandsAtPath c new p found) (same : new.world ≡ old.world) where
-  pub a_dir_was : is_directory (inode_of found.inode) ≡ true → (is_dir (at (tree_of c old) p) ≡ true) × (is_file (at (tree_of c old) p) ≡ false)
+  pub a_dir_was : is_directory (inode_of found.inode) ≡ true → (is_dir (at (tree_under c old) p) ≡ true) × (is_file (at (tree_under c old) p) ≡ false)
   a_dir_was h = let d = a_dir_there c new p found i h in
       (ap (λ w. is_dir (at (inode_tree w c.root) p)) (sym same) ∙ d.0, ap (λ w. is_file (at (inode_tree w c.root) p)) (sym same) ∙ d.1)
 
-  pub a_file_was : is_directory (inode_of found.inode) ≡ false → (is_dir (at (tree_of c old) p) ≡ false) × (is_file (at (tree_of c old) p) ≡ true)
+  pub a_file_was : is_directory (inode_of found.inode) ≡ false → (is_dir (at (tree_under c old) p) ≡ false) × (is_file (at (tree_under c old) p) ≡ true)
   a_file_was h = let d = a_file_there c new p found i h in
       (ap (λ w. is_dir (at (inode_tree w c.root) p)) (sym same) ∙ d.0, ap (λ w. is_file (at (inode_tree w c.root) p)) (sym same) ∙ d.1)
 
@@ -111,7 +111,7 @@ tree_names w none = refl
 tree_names w (file n f rest) = ap (λ ns. n ∷ ns) (tree_names w rest)
 tree_names w (dir n b inside rest) = ap (λ ns. n ∷ ns) (tree_names w rest)
 
-pub names_there : (c : Client) (v : DiskView) (p : Path) (found : Found) → (i : StandsAtPath c v p found) → is_directory (inode_of found.inode) ≡ true → names_in (at (tree_of c v) p) ≡ entry_names (entries_said (inode_of found.inode))
+pub names_there : (c : Client) (v : DiskView) (p : Path) (found : Found) → (i : StandsAtPath c v p found) → is_directory (inode_of found.inode) ≡ true → names_in (at (tree_under c v) p) ≡ entry_names (entries_said (inode_of found.inode))
 names_there c v p found i h =
     let d = dir_found c v p found i h in
     ap names_in (tree_there c v p found i ∙ ap (inodes.tree_of v.world) d.2)

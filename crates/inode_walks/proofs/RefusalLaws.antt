@@ -4,7 +4,7 @@ use Rattle.tsd_model.specs.declared.geometry.Geometry.{Geometry}
 use Rattle.fs_trees.specs.Names.{Path}
 use Rattle.fs_trees.specs.Tree.{Tree, nothing, a_file, a_dir, entry, at, is_there, bytes_in, names_in}
 use Rattle.fs_trees.specs.Answer.{bytes, listed, refused}
-use Rattle.fs_trees.specs.Refusals.{Need, first_of, not_mounted, lost_on_the_way, missing, no_file, no_dir, refusal}
+use Rattle.fs_trees.specs.Refusals.{RoomNeed, first_of, not_mounted, lost_on_the_way, missing, no_file, no_dir, refusal}
 use Rattle.fs_trees.specs.Step.{outcome, judged, tree_step}
 use Rattle.fs_trees.specs.declared.ask.ShellAsk.TheVariants as ask
 use Rattle.fs_trees.specs.declared.ask.ShellKind.TheVariants.{Inode}
@@ -41,7 +41,7 @@ is_mounted nothing rest h = absurd (cc)
 is_mounted (a_file x) rest h = refl
 is_mounted (a_dir d es) rest h = refl
 
-module _ (g : Geometry) (t : Tree) (free held : ℕ) (need : Need) (p : Path) (there : is_there t ≡ true) where
+module _ (g : Geometry) (t : Tree) (free held : ℕ) (need : RoomNeed) (p : Path) (there : is_there t ≡ true) where
   cat_refusal : refusal Inode g t free held need (ask.Cat p) ≡ no_file_found t p
   cat_refusal = is_mounted t (lost_on_the_way t p ∷ missing t p ∷ no_file t p ∷ []) there ∙ by_both t p (no_file t p)
 

@@ -3,13 +3,13 @@ use Rattle.std.proofs.Common.{◌≡◌, ℕ, zero, suc, true, false, cond, ◌=
 use Rattle.std.proofs.lemmas.Bool.{and_parts, and_from, or_left, or_right, eq-eqb}
 use Rattle.std.specs.Prelude.{map, ⊤}
 use Rattle.std.specs.List.{list_all}
-use Rattle.tsd_model.specs.World.{World}
+use Rattle.tsd_model.specs.World.{World, are_apart}
 use Rattle.tsd_model.specs.Pairs.{holds, is_pair}
 use Rattle.tsd_model.proofs.PairLaws.{all_of_held}
 use Rattle.fs_trees.specs.Names.{Name, Path, path_max, name_lt}
 use Rattle.fs_trees.specs.Tree.{Entries, none, file, dir, nothing, a_file, a_dir, entry, child, is_there}
 use Rattle.fs_trees.specs.Fields.{Entry}
-use Rattle.fs_trees.specs.Inode.{Inode, directory, regular, are_apart, block_named}
+use Rattle.fs_trees.specs.Inode.{Inode, directory, regular, block_named}
 use Rattle.fs_trees.specs.InodeTree.{InodeNode, InodeEntries, FileInode, inode_at, with_first, entries_by, as_dir, node_by, node_at, inode_blocks, named_pairs, inodes_under, tree_of, inode_tree}
 use Rattle.fs_trees.specs.declared.refusal.FsRefusal.{FsRefusal}
 use Rattle.fs_trees.specs.declared.refusal.FsRefusal.TheVariants as no

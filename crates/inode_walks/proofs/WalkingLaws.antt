@@ -24,7 +24,7 @@ use Rattle.fs_port.specs.Calls.{Stays}
 use Rattle.fs_client.specs.declared.client.Client.{Client}
 use Rattle.fs_client.specs.May.{MayWrite, Looked, OnlyLooks}
 use Rattle.inode_walks.specs.declared.finding.Found.{Found}
-use Rattle.inode_walks.specs.Asking.{MayAsk, tree_of}
+use Rattle.inode_walks.specs.Asking.{MayAsk, tree_under}
 use Rattle.inode_walks.specs.Finding.{StandsAsRead, IsFurther, IsOpenNow, StandsAtPath, node_pairs, node_tree, not_found}
 use Rattle.inode_walks.proofs.WalkLaws.{tree_child, is_found, root_stands}
 use Rattle.inode_walks.proofs.FurtherLaws.{there_is_inode}
@@ -75,7 +75,7 @@ pub record IsWalking (c : Client) (first now : DiskView) (names : Path) (i : ℕ
   pub levels : more + i ≡ path_max
   pub stands : StandsAsRead c now more found
   pub node : at (inodes_under now.world c.root) (take i names) ≡ node_at now.world (suc more) found.block
-  pub rest : not_found (tree_of c first) names ≡ not_found (node_tree now more found) (drop i names)
+  pub rest : not_found (tree_under c first) names ≡ not_found (node_tree now more found) (drop i names)
 
 pub record Walking (told : Type 0) (c : Client) (first now : DiskView) (names : Path) (i : ℕ) (found : Found) : Type 0 where
   pub looks : OnlyLooks {X = Unit {0}} told first now (Ok tt)
@@ -102,7 +102,7 @@ walks_on c first now new names i found next n h is seen w further = record {
 
 -- a name that leads nowhere
 pub walk_ends : (c : Client) (first now : DiskView) (names : Path) (i : ℕ) (found : Found) (n : Name) (e : FsRefusal) → i < length names → n ≡ slice_index_or names i n
-    → (w : IsWalking c first now names i found) → ((ns : Path) → not_found (node_tree now w.more found) (n ∷ ns) ≡ Some e) → not_found (tree_of c first) names ≡ Some e
+    → (w : IsWalking c first now names i found) → ((ns : Path) → not_found (node_tree now w.more found) (n ∷ ns) ≡ Some e) → not_found (tree_under c first) names ≡ Some e
 walk_ends c first now names i found n e h is w lost = w.rest ∙ (ap (not_found (node_tree now w.more found)) (drop_first names i n h is) ∙ lost (drop (i + 1) names))
 
 -- all names were found
@@ -114,7 +114,7 @@ walk_arrives c first now names i found h k w = record {
   node = ap (at (inodes_under now.world c.root)) (sym (take_all names i h)) ∙ w.node;
 }
 
-pub nothing_missing : (c : Client) (first now : DiskView) (names : Path) (i : ℕ) (found : Found) → length names ≤ i → (w : IsWalking c first now names i found) → ◌≡◌ {A = Option FsRefusal} (not_found (tree_of c first) names) None
+pub nothing_missing : (c : Client) (first now : DiskView) (names : Path) (i : ℕ) (found : Found) → length names ≤ i → (w : IsWalking c first now names i found) → ◌≡◌ {A = Option FsRefusal} (not_found (tree_under c first) names) None
 nothing_missing c first now names i found h w =
     w.rest ∙ (ap (not_found (node_tree now w.more found)) (drop_all names i h) ∙ is_found now.world (node_at now.world (suc w.more) found.block) w.stands.there)
 
@@ -144,7 +144,7 @@ root_may told c v t may sound = record {
         ∙ (ap (λ n. record_level (slice_get v.records c.root) (kept_of n c.cap)) sound.version ∙ may.ready.attains))
 
 -- and it was read as what stands at no names
-pub walk_begins : (c : Client) (first now : DiskView) (names : Path) (found : Found) → is_there (tree_of c first) ≡ true → Looked first now → found.block ≡ c.root → inode_at first.world c.root ≡ Some (inode_of found.inode)
+pub walk_begins : (c : Client) (first now : DiskView) (names : Path) (found : Found) → is_there (tree_under c first) ≡ true → Looked first now → found.block ≡ c.root → inode_at first.world c.root ≡ Some (inode_of found.inode)
     → block_len_of found.inode ≡ block_len first.world.geometry → HoldsWrite (state_of now) c.session c.root → MayWrite c now c.root → IsWalking c first now names 0 found
 walk_begins c first now names found there seen block says whole held may =
     let root = root_stands first.world c.root there in

@@ -13,12 +13,12 @@ abbrev pub mounted_by : Client → FilesView
 mounted_by c = record { kind = Inode; root = c.root; cap = c.cap; session = c.session; mounted = true }
 
 -- the tree under its root
-abbrev pub tree_of : Client → DiskView → Tree
-tree_of c v = inode_tree v.world c.root
+abbrev pub tree_under : Client → DiskView → Tree
+tree_under c v = inode_tree v.world c.root
 
 -- before each call: the disk isn't spent and the client may write its root; where the disk tells, its world is valid,
 -- and a tree is under the root
 pub record MayAsk (told : Type 0) (c : Client) (v : DiskView) : Type 0 where
   pub ready : IsClientReady (mounted_by c) v
   pub valid : told → IsValidNow v
-  pub tree : told → IsTrue (is_there (tree_of c v))
+  pub tree : told → IsTrue (is_there (tree_under c v))

@@ -12,7 +12,7 @@ ghost use Rattle.fs_port.specs.Calls.{IsValidNow};
 ghost use Rattle.fs_client.specs.May.{MayWrite, OnlyLooks};
 ghost use Rattle.inode_layout.specs.Block.{inode_of, block_len_of};
 ghost use Rattle.inode_layout.specs.Said.{blocks_said, is_directory, said_in};
-ghost use Rattle.inode_walks.specs.Asking.{MayAsk, tree_of};
+ghost use Rattle.inode_walks.specs.Asking.{MayAsk, tree_under};
 ghost use Rattle.inode_walks.specs.Finding.{StandsAsRead, IsStanding, IsFurther, IsOpenNow, StandsAtPath, IsLookup};
 ghost use Rattle.inode_walks.specs.Finding.{block_said, node_tree, not_found, no_file_found, no_directory_found};
 ghost use Rattle.fs_client.specs.Changing.{lookup_refusal};
@@ -132,9 +132,9 @@ fn child<K: Blocks>(
 pub fn walk<K: Blocks>(client: &Client, disk: &mut K, names: &[Name]) -> Result<Found, FsRefusal>
     requires may { MayAsk K.told client.now (K.view disk.old) }
     ensures found { K.told → IfOk result (λ found. StandsAtPath client.now (K.view disk.new) names.now found) }
-    ensures none { K.told → OnOk result (not_found (tree_of client.now (K.view disk.old)) names.now ≡ None) }
+    ensures none { K.told → OnOk result (not_found (tree_under client.now (K.view disk.old)) names.now ≡ None) }
     ensures refused { K.told → IfErr result (λ e. e ≢ no.Device
-        → not_found (tree_of client.now (K.view disk.old)) names.now ≡ Some e) }
+        → not_found (tree_under client.now (K.view disk.old)) names.now ≡ Some e) }
     ensures looks { OnlyLooks K.told (K.view disk.old) (K.view disk.new) result }
 {
     let mut found = match read_inode(client, disk, client.root) {
@@ -156,9 +156,9 @@ pub fn find_file<K: Blocks>(client: &Client, disk: &mut K, path: &Path) -> Resul
     requires may { MayAsk K.told client.now (K.view disk.old) }
     ensures found { K.told → IfOk result (StandsAtPath client.now (K.view disk.new) path.now) }
     ensures file { IfOk result (λ found. is_directory (inode_of found.inode) ≡ false) }
-    ensures none { K.told → OnOk result (no_file_found (tree_of client.now (K.view disk.old)) path.now ≡ None) }
+    ensures none { K.told → OnOk result (no_file_found (tree_under client.now (K.view disk.old)) path.now ≡ None) }
     ensures refused { K.told → IfErr result (λ e. e ≢ no.Device
-        → no_file_found (tree_of client.now (K.view disk.old)) path.now ≡ Some e) }
+        → no_file_found (tree_under client.now (K.view disk.old)) path.now ≡ Some e) }
     ensures looks { OnlyLooks K.told (K.view disk.old) (K.view disk.new) result }
 {
     match walk(client, disk, path.as_slice()) {
@@ -183,9 +183,10 @@ pub fn find_directory<K: Blocks>(
     requires may { MayAsk K.told client.now (K.view disk.old) }
     ensures found { K.told → IfOk result (StandsAtPath client.now (K.view disk.new) names.now) }
     ensures dir { IfOk result (λ found. IsTrue (is_directory (inode_of found.inode))) }
-    ensures none { K.told → OnOk result (no_directory_found (tree_of client.now (K.view disk.old)) names.now ≡ None) }
+    ensures none { K.told → OnOk result (no_directory_found (tree_under client.now (K.view disk.old)) names.now
+        ≡ None) }
     ensures refused { K.told → IfErr result (λ e. e ≢ no.Device
-        → no_directory_found (tree_of client.now (K.view disk.old)) names.now ≡ Some e) }
+        → no_directory_found (tree_under client.now (K.view disk.old)) names.now ≡ Some e) }
     ensures looks { OnlyLooks K.told (K.view disk.old) (K.view disk.new) result }
 {
     match walk(client, disk, names) {
@@ -212,10 +213,10 @@ pub fn look_up<'a, K: Blocks>(
     ensures dir { IfOk result (λ lookup. IsTrue (is_directory (inode_of lookup.directory.inode))) }
     ensures short { IfOk result (λ lookup. length lookup.name.now ≤ name_max) }
     ensures found { K.told → IfOk result (λ lookup. IsLookup client.now (K.view disk.new) path.now lookup) }
-    ensures none { K.told → OnOk result (lookup_refusal (tree_of client.now (K.view disk.old)) path.now at_root
+    ensures none { K.told → OnOk result (lookup_refusal (tree_under client.now (K.view disk.old)) path.now at_root
         ≡ None) }
     ensures refused { K.told → IfErr result (λ e. e ≢ no.Device
-        → lookup_refusal (tree_of client.now (K.view disk.old)) path.now at_root ≡ Some e) }
+        → lookup_refusal (tree_under client.now (K.view disk.old)) path.now at_root ≡ Some e) }
     ensures looks { OnlyLooks K.told (K.view disk.old) (K.view disk.new) result }
 {
     match path.as_slice() {

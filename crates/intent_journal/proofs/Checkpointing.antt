@@ -11,7 +11,7 @@ use Rattle.image_device.specs.Runs.{IsConfined, IsFirm, LeavesOnly}
 use Rattle.image_device.specs.View.{View, IsLeftWithin}
 use Rattle.image_device.proofs.Moments.{joined, weakened}
 use Rattle.image_device.proofs.Sets.{or_false, or_false_left, or_false_right}
-use Rattle.image_layout.specs.Image.{is_open, gate_bytes}
+use Rattle.image_layout.specs.Image.{says_open, gate_bytes}
 use Rattle.image_layout.specs.Ring.{records, gate_sector, descriptor_sector, body_sector}
 use Rattle.image_layout.specs.declared.offset.Patch.{Patch}
 use Rattle.intent_journal.specs.Batch.{has_home, homes_of}
@@ -19,7 +19,7 @@ use Rattle.intent_journal.specs.Closing.{IsListed, is_listed_open}
 use Rattle.intent_journal.specs.Crash.{IsBefore}
 use Rattle.intent_journal.specs.Home.{home, overlaid, is_journal, AgreeBut}
 use Rattle.intent_journal.specs.Homes.{is_lawful_home}
-use Rattle.intent_journal.specs.Records.{Record, patches_of, is_open_gate}
+use Rattle.intent_journal.specs.Records.{JournalRecord, patches_of, is_gate_open}
 use Rattle.intent_journal.specs.Ring.{IsRingAt}
 use Rattle.intent_journal.specs.Written.{ClosesGates}
 use Rattle.intent_journal.proofs.Gates.{IsAlike, opened_same, valid_same}
@@ -37,11 +37,11 @@ later_in_journal n out = false_from_ne_true (is_later n) (λ t.
     both_ways (is_journal n) out (in_journal n (omega (arith, leb-true 117 n p.0)) (omega (arith, leb-true n 129 p.1))))
 
 -- all of the journal is the same but the sector of gate 0, and that gate is as open
-alike_but_first : (x y : Image) → is_open_gate y 0 ≡ is_open_gate x 0 → ((n : ℕ) → is_journal n ≡ true → n ≢ 2 → y n ≡ x n) → IsAlike x y
+alike_but_first : (x y : Image) → is_gate_open y 0 ≡ is_gate_open x 0 → ((n : ℕ) → is_journal n ≡ true → n ≢ 2 → y n ≡ x n) → IsAlike x y
 alike_but_first x y first same = record {
   gates = λ i less. elim (cases_eq i 0) [
-    | inl e ↦ ap (is_open_gate y) e ∙ first ∙ sym (ap (is_open_gate x) e)
-    | inr other ↦ ap is_open (same (gate_sector i) (gate_in i less) (gates_apart i 0 other))
+    | inl e ↦ ap (is_gate_open y) e ∙ first ∙ sym (ap (is_gate_open x) e)
+    | inr other ↦ ap says_open (same (gate_sector i) (gate_in i less) (gates_apart i 0 other))
   ];
   descriptors = λ i less. same (descriptor_sector i) (descriptor_in i less) (λ e. gate_descriptor_apart 0 i (sym e));
   each_body = λ k less. same (body_sector k) (body_in k less) (λ e. gate_no_body 0 k less (sym e));
@@ -62,7 +62,7 @@ module _ (ps : List Patch) (gates : List Bool) (v : View) (listed : IsListed ps 
 
   -- an image with the same records
   home_alike_is : (x : Image) → IsAlike v.reads x → (n : ℕ) → home x n ≡ overlaid ps x n
-  home_alike_is x alike n = ap (λ (rs : List Record). overlaid (patches_of rs) x n) (opened_same v.reads x alike) ∙ ap (λ (qs : List Patch). overlaid qs x n) listed.patches
+  home_alike_is x alike n = ap (λ (rs : List JournalRecord). overlaid (patches_of rs) x n) (opened_same v.reads x alike) ∙ ap (λ (qs : List Patch). overlaid qs x n) listed.patches
 
   -- while the homes are written
   in_homes : (x : Image) (f : List ℕ) → IsLeftWithin (has_home ps) v x f → P x f
@@ -88,11 +88,11 @@ module _ (ps : List Patch) (gates : List Bool) (v : View) (listed : IsListed ps 
       journal_kept : (n : ℕ) → is_journal n ≡ true → v1.reads n ≡ v.reads n
       journal_kept n inside = run1.reads n (journal_away n inside)
 
-      pub gate_kept : (i : ℕ) → i < records → is_listed_open gates i ≡ is_open_gate v1.reads i
-      gate_kept i less = listed.gates i less ∙ sym (ap is_open (journal_kept (gate_sector i) (gate_in i less)))
+      pub gate_kept : (i : ℕ) → i < records → is_listed_open gates i ≡ is_gate_open v1.reads i
+      gate_kept i less = listed.gates i less ∙ sym (ap says_open (journal_kept (gate_sector i) (gate_in i less)))
 
       -- an image whose homes hold the bodies
-      stands_for : (x : Image) → ((n : ℕ) → is_journal n ≡ false → x n ≡ overlaid ps v.reads n) → IsAlike v.reads x ⊎ (is_open_gate x 0 ≡ false) → IsBefore v x
+      stands_for : (x : Image) → ((n : ℕ) → is_journal n ≡ false → x n ≡ overlaid ps v.reads n) → IsAlike v.reads x ⊎ (is_gate_open x 0 ≡ false) → IsBefore v x
       stands_for x homes either = elim either [
         | inl alike ↦ record {
           valid = valid_same v.reads x alike ∙ listed.valid;
@@ -113,7 +113,7 @@ module _ (ps : List Patch) (gates : List Bool) (v : View) (listed : IsListed ps 
       -- while gate 0 is written
       in_first : (x : Image) (f : List ℕ) → IsLeftWithin (λ n. is_listed_open gates 0 && (n == gate_sector 0)) v1 x f → P x f
       in_first x f left = (
-        stands_for x (λ n away. same n (λ e. both_ways (is_journal n) away (ap is_journal e)) ∙ placed n) (elim (cases_Bool (is_open_gate x 0)) [
+        stands_for x (λ n away. same n (λ e. both_ways (is_journal n) away (ap is_journal e)) ∙ placed n) (elim (cases_Bool (is_gate_open x 0)) [
           | inl open_gate ↦ inl (alike_but_first v.reads x (first open_gate) (λ n inside other. same n other ∙ journal_kept n inside))
           | inr shut ↦ inr shut
         ]),
@@ -126,10 +126,10 @@ module _ (ps : List Patch) (gates : List Bool) (v : View) (listed : IsListed ps 
           same : (n : ℕ) → n ≢ 2 → x n ≡ v1.reads n
           same n other = within n (and_right (is_listed_open gates 0) (n == gate_sector 0) (ne_eqb n 2 other))
 
-          first : is_open_gate x 0 ≡ true → is_open_gate x 0 ≡ is_open_gate v.reads 0
+          first : is_gate_open x 0 ≡ true → is_gate_open x 0 ≡ is_gate_open v.reads 0
           first open_gate = elim (cases_Bool (is_listed_open gates 0)) [
             | inl inside ↦ open_gate ∙ sym (sym (listed.gates 0 (omega arith)) ∙ inside)
-            | inr not_it ↦ ap is_open (within 2 (and_left (is_listed_open gates 0) (2 == gate_sector 0) not_it) ∙ journal_kept 2 refl)
+            | inr not_it ↦ ap says_open (within 2 (and_left (is_listed_open gates 0) (2 == gate_sector 0) not_it) ∙ journal_kept 2 refl)
           ]
 
       module _ (v2 : View) (run2 : IsConfined (λ n. is_listed_open gates 0 && (n == gate_sector 0)) v1 v2) where
@@ -139,14 +139,14 @@ module _ (ps : List Patch) (gates : List Bool) (v : View) (listed : IsListed ps 
         others_kept : (n : ℕ) → n ≢ 2 → v2.reads n ≡ v1.reads n
         others_kept n other = run2.reads n (and_right (is_listed_open gates 0) (n == gate_sector 0) (ne_eqb n 2 other))
 
-        pub later_kept : (i : ℕ) → 0 < i → i < records → is_listed_open gates i ≡ is_open_gate v2.reads i
-        later_kept i more less = gate_kept i less ∙ sym (ap is_open (others_kept (gate_sector i) (gates_apart i 0 (λ e. absurd (omega arith)))))
+        pub later_kept : (i : ℕ) → 0 < i → i < records → is_listed_open gates i ≡ is_gate_open v2.reads i
+        later_kept i more less = gate_kept i less ∙ sym (ap says_open (others_kept (gate_sector i) (gates_apart i 0 (λ e. absurd (omega arith)))))
 
-        module _ (shut : is_open_gate v2.reads 0 ≡ false) (firm2 : IsFirm v2) where
+        module _ (shut : is_gate_open v2.reads 0 ≡ false) (firm2 : IsFirm v2) where
           -- while the later gates are written
           in_later : (x : Image) (f : List ℕ) → IsLeftWithin is_later v2 x f → P x f
           in_later x f left = (
-            stands_for x (λ n away. same n (later_in_journal n away) ∙ others_kept n (λ e. both_ways (is_journal n) away (ap is_journal e)) ∙ placed n) (inr (ap is_open (same 2 refl) ∙ shut)),
+            stands_for x (λ n away. same n (later_in_journal n away) ∙ others_kept n (λ e. both_ways (is_journal n) away (ap is_journal e)) ∙ placed n) (inr (ap says_open (same 2 refl) ∙ shut)),
             left.1 ∙ run2.sent ∙ run1.sent,
           )
             where
@@ -164,10 +164,10 @@ module _ (ps : List Patch) (gates : List Bool) (v : View) (listed : IsListed ps 
             pub put_done : AgreeBut is_journal (home v.reads) v3.reads
             put_done n away = run3.reads n (later_in_journal n away) ∙ others_kept n (λ e. both_ways (is_journal n) away (ap is_journal e)) ∙ placed n ∙ sym (home_old n)
 
-            pub put_at_end : ((i : ℕ) → 0 < i → i < records → is_open_gate v3.reads i ≡ false) → IsFirm v3 → IsRingAt [] v3
+            pub put_at_end : ((i : ℕ) → 0 < i → i < records → is_gate_open v3.reads i ≡ false) → IsFirm v3 → IsRingAt [] v3
             put_at_end closed firm3 = at_closed v3
                 (λ i less. elim (cases_eq i 0) [
-                  | inl e ↦ ap (is_open_gate v3.reads) e ∙ ap is_open (run3.reads 2 refl) ∙ shut
+                  | inl e ↦ ap (is_gate_open v3.reads) e ∙ ap says_open (run3.reads 2 refl) ∙ shut
                   | inr other ↦ closed i (omega arith) less
                 ])
                 (λ n _. firm3 n)
@@ -176,11 +176,11 @@ module _ (ps : List Patch) (gates : List Bool) (v : View) (listed : IsListed ps 
                 → ((i : ℕ) → 0 < i → i < records → v3.reads (gate_sector i) ≡ cond (is_listed_open gates i) (gate_bytes false) (v2.reads (gate_sector i))) → ClosesGates v.reads v3.reads
             put_gates first later i less = elim (cases_eq i 0) [
               | inl e ↦
-                  let P : ℕ → Type 0 = λ k. v3.reads (gate_sector k) ≡ cond (is_open_gate v.reads k) (gate_bytes false) (v.reads (gate_sector k)) in
-                  let is : v3.reads 2 ≡ cond (is_open_gate v.reads 0) (gate_bytes false) (v.reads 2) =
-                  run3.reads 2 refl ∙ first ∙ ap (λ b. cond b (gate_bytes false) (v1.reads 2)) (listed.gates 0 (omega arith)) ∙ ap (λ (l : List ℕ). cond (is_open_gate v.reads 0) (gate_bytes false) l) (journal_kept 2 refl) in
+                  let P : ℕ → Type 0 = λ k. v3.reads (gate_sector k) ≡ cond (is_gate_open v.reads k) (gate_bytes false) (v.reads (gate_sector k)) in
+                  let is : v3.reads 2 ≡ cond (is_gate_open v.reads 0) (gate_bytes false) (v.reads 2) =
+                  run3.reads 2 refl ∙ first ∙ ap (λ b. cond b (gate_bytes false) (v1.reads 2)) (listed.gates 0 (omega arith)) ∙ ap (λ (l : List ℕ). cond (is_gate_open v.reads 0) (gate_bytes false) l) (journal_kept 2 refl) in
                   subst P (sym e) is
               | inr other ↦
                   later i (omega arith) less ∙ ap (λ b. cond b (gate_bytes false) (v2.reads (gate_sector i))) (listed.gates i less)
-                  ∙ ap (λ (l : List ℕ). cond (is_open_gate v.reads i) (gate_bytes false) l) (others_kept (gate_sector i) (gates_apart i 0 other) ∙ journal_kept (gate_sector i) (gate_in i less))
+                  ∙ ap (λ (l : List ℕ). cond (is_gate_open v.reads i) (gate_bytes false) l) (others_kept (gate_sector i) (gates_apart i 0 other) ∙ journal_kept (gate_sector i) (gate_in i less))
             ]

@@ -6,7 +6,7 @@ use Rattle.std.proofs.lemmas.List.{get_or-set_same, get_or-set_other}
 use Rattle.image_device.specs.Image.{Image}
 use Rattle.image_layout.specs.Ring.{records, gate_sector}
 use Rattle.intent_journal.specs.Closing.{is_listed_open, later_open, one_if}
-use Rattle.intent_journal.specs.Records.{is_open_gate}
+use Rattle.intent_journal.specs.Records.{is_gate_open}
 
 pub later_open_more : (gates : List Bool) (i : ℕ) → 1 ≤ i → later_open gates (i + 1) ≡ later_open gates i + one_if (is_listed_open gates i)
 later_open_more gates zero h = absurd (omega arith)
@@ -39,9 +39,9 @@ one_gate b i more less n out = and_right b (n == gate_sector i) (apart n (gate_s
     ]
 
 -- one gate more is read
-pub listed_more : (gates : List Bool) (i : ℕ) (b : Bool) (image : Image) → i < length gates → ((j : ℕ) → j < i → is_listed_open gates j ≡ is_open_gate image j) → b ≡ is_open_gate image i
-    → (j : ℕ) → j < i + 1 → is_listed_open (set gates i b) j ≡ is_open_gate image j
+pub listed_more : (gates : List Bool) (i : ℕ) (b : Bool) (image : Image) → i < length gates → ((j : ℕ) → j < i → is_listed_open gates j ≡ is_gate_open image j) → b ≡ is_gate_open image i
+    → (j : ℕ) → j < i + 1 → is_listed_open (set gates i b) j ≡ is_gate_open image j
 listed_more gates i b image within so_far is j less = elim (cases_eq j i) [
-  | inl here ↦ ap (λ (k : ℕ). is_listed_open (set gates i b) k) here ∙ get_or-set_same gates i b false within ∙ is ∙ sym (ap (λ (k : ℕ). is_open_gate image k) here)
+  | inl here ↦ ap (λ (k : ℕ). is_listed_open (set gates i b) k) here ∙ get_or-set_same gates i b false within ∙ is ∙ sym (ap (λ (k : ℕ). is_gate_open image k) here)
   | inr other ↦ get_or-set_other gates i j b false other ∙ so_far j (omega arith)
 ]

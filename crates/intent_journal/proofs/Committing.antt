@@ -11,7 +11,7 @@ use Rattle.image_device.specs.Runs.{IsConfined, IsFirm, LeavesOnly}
 use Rattle.image_device.specs.View.{View, IsLeftNow, IsLeftWithin}
 use Rattle.image_device.proofs.Moments.{joined, weakened}
 use Rattle.image_device.proofs.Sets.{or_false, or_false_left, or_false_right}
-use Rattle.image_layout.specs.Image.{is_open, gate_bytes}
+use Rattle.image_layout.specs.Image.{says_open, gate_bytes}
 use Rattle.image_layout.specs.Ring.{records, bodies, gate_sector, descriptor_sector, body_sector}
 use Rattle.image_layout.specs.declared.offset.Patch.{Patch}
 use Rattle.intent_journal.specs.Batch.{IsBatch, homes_of}
@@ -19,7 +19,7 @@ use Rattle.intent_journal.specs.Closing.{is_in_record}
 use Rattle.intent_journal.specs.Crash.{IsBefore, IsAfter, IsBeforeOrAfter}
 use Rattle.intent_journal.specs.Descriptor.{descriptor_bytes}
 use Rattle.intent_journal.specs.Home.{home, overlaid, is_journal, AgreeBut}
-use Rattle.intent_journal.specs.Records.{Record, patches_of, open_records, is_open_gate, has_valid_records}
+use Rattle.intent_journal.specs.Records.{JournalRecord, patches_of, open_records, is_gate_open, has_valid_records}
 use Rattle.intent_journal.specs.Ring.{IsRing, IsRingAt, is_full_for}
 use Rattle.intent_journal.specs.Written.{IsRecordWritten}
 use Rattle.intent_journal.proofs.Bodies.{got_within}
@@ -31,41 +31,41 @@ use Rattle.intent_journal.proofs.Places.{gate_in, descriptor_in, body_in, gates_
 use Rattle.intent_journal.proofs.Uses.{journal_alike, at_valid}
 
 -- what the ring's disk stands for now
-pub before_now : (rs : List Record) (v : View) → IsRingAt rs v → (x : Image) (f : List ℕ) → IsLeftNow v x f → IsBefore v x
+pub before_now : (rs : List JournalRecord) (v : View) → IsRingAt rs v → (x : Image) (f : List ℕ) → IsLeftNow v x f → IsBefore v x
 before_now rs v at x f left =
     let alike = journal_alike v.reads x (λ n inside. left.0.agrees n (at.journal_firm n inside)) in
     record {
       valid = valid_same v.reads x alike ∙ at_valid at;
       stands = λ n out.
-          ap (λ (qs : List Record). overlaid (patches_of qs) x n) (opened_same v.reads x alike)
+          ap (λ (qs : List JournalRecord). overlaid (patches_of qs) x n) (opened_same v.reads x alike)
           ∙ overlaid_alike (patches_of (open_records v.reads)) v.reads x n (λ _. left.0.agrees n (or_false_right (is_journal n) (v.loose n) out));
     }
 
 -- what the writes say, in the ring's own numbers
-module _ (rs : List Record) (batch : List Patch) (old new : View) where
+module _ (rs : List JournalRecord) (batch : List Patch) (old new : View) where
   pub record_run : (index start : ℕ) → index ≡ length rs → start ≡ length (patches_of rs) → IsConfined (is_in_record index start (length batch)) old new
       → IsConfined (λ n. is_in_record (length rs) (length (patches_of rs)) (length batch) n) old new
   record_run index start index_is start_is run =
       subst (λ (k : ℕ). IsConfined (is_in_record (length rs) k (length batch)) old new) start_is (subst (λ (k : ℕ). IsConfined (is_in_record k start (length batch)) old new) index_is run)
 
-pub record_named : (rs : List Record) (batch : List Patch) (new : View) (index : ℕ) → index ≡ length rs → new.reads (descriptor_sector index) ≡ descriptor_bytes (homes_of batch)
+pub record_named : (rs : List JournalRecord) (batch : List Patch) (new : View) (index : ℕ) → index ≡ length rs → new.reads (descriptor_sector index) ≡ descriptor_bytes (homes_of batch)
     → new.reads (descriptor_sector (length rs)) ≡ descriptor_bytes (homes_of batch)
 record_named rs batch new index is named = ap (λ (k : ℕ). new.reads (descriptor_sector k)) (sym is) ∙ named
 
-pub record_filled : (rs : List Record) (batch : List Patch) (new : View) (start : ℕ) → start ≡ length (patches_of rs)
+pub record_filled : (rs : List JournalRecord) (batch : List Patch) (new : View) (start : ℕ) → start ≡ length (patches_of rs)
     → ((k : ℕ) (p : Patch) → slice_get batch k ≡ Some p → new.reads (body_sector (start + k)) ≡ p.bytes)
     → (k : ℕ) (p : Patch) → slice_get batch k ≡ Some p → new.reads (body_sector (length (patches_of rs) + k)) ≡ p.bytes
 record_filled rs batch new start is filled k p found = ap (λ (s : ℕ). new.reads (body_sector (s + k))) (sym is) ∙ filled k p found
 
 -- what a batch behind these records leaves, once its gate is open
-pub record IsAdded (rs : List Record) (batch : List Patch) (v v2 : View) : Type 0 where
+pub record IsAdded (rs : List JournalRecord) (batch : List Patch) (v v2 : View) : Type 0 where
   pub sent : v2.sent ≡ v.sent
   pub any_moment : LeavesOnly v v2 (λ x f. IsBeforeOrAfter batch v x × (f ≡ v.sent))
   pub done : AgreeBut is_journal (overlaid batch (home v.reads)) (home v2.reads)
   pub at : IsRingAt (rs ++ batch ∷ []) v2
   pub written : IsRecordWritten (length rs) batch v2.reads
 
-module _ (rs : List Record) (batch : List Patch) (v : View) (at : IsRingAt rs v) (ring : IsRing rs) (whole : IsBatch batch) (some : batch ≢ []) (room : is_full_for rs (length batch) ≡ false) where
+module _ (rs : List JournalRecord) (batch : List Patch) (v : View) (at : IsRingAt rs v) (ring : IsRing rs) (whole : IsBatch batch) (some : batch ≢ []) (room : is_full_for rs (length batch) ≡ false) where
   abbrev P : Image → List ℕ → Type 0
   P x f = IsBeforeOrAfter batch v x × (f ≡ v.sent)
 
@@ -85,7 +85,7 @@ module _ (rs : List Record) (batch : List Patch) (v : View) (at : IsRingAt rs v)
   IsNext x = (n : ℕ) → in_record n ≡ false → n ≢ gate_sector (length rs) → v.loose n ≡ false → x n ≡ v.reads n
 
   home_old : (n : ℕ) → home v.reads n ≡ overlaid (patches_of rs) v.reads n
-  home_old n = ap (λ (qs : List Record). overlaid (patches_of qs) v.reads n) at.shows
+  home_old n = ap (λ (qs : List JournalRecord). overlaid (patches_of qs) v.reads n) at.shows
 
   out_of_record : (n : ℕ) → is_journal n ≡ false → in_record n ≡ false
   out_of_record n out = home_not_in_record (length rs) (length (patches_of rs)) (length batch) n less fits out
@@ -95,7 +95,7 @@ module _ (rs : List Record) (batch : List Patch) (v : View) (at : IsRingAt rs v)
 
   same_used : (x : Image) → IsNext x → SameUsed rs v.reads x
   same_used x next = record {
-    gates = λ i below. ap is_open (next (gate_sector i) (gate_not_in_record (length rs) (length (patches_of rs)) (length batch) i fits) (gates_apart i (length rs) (λ e. absurd (omega arith))) (at.journal_firm (gate_sector i) (gate_in i (omega (arith, less)))));
+    gates = λ i below. ap says_open (next (gate_sector i) (gate_not_in_record (length rs) (length (patches_of rs)) (length batch) i fits) (gates_apart i (length rs) (λ e. absurd (omega arith))) (at.journal_firm (gate_sector i) (gate_in i (omega (arith, less)))));
     descriptors = λ i below.
         next (descriptor_sector i) (descriptor_not_in_record (length rs) (length (patches_of rs)) (length batch) i fits (λ e. absurd (omega arith))) (λ e. gate_descriptor_apart (length rs) i (sym e))
         (at.journal_firm (descriptor_sector i) (descriptor_in i (omega (arith, less))));
@@ -105,14 +105,14 @@ module _ (rs : List Record) (batch : List Patch) (v : View) (at : IsRingAt rs v)
   }
 
   -- behind a closed gate the disk before
-  closed_before : (x : Image) → IsNext x → is_open_gate x (length rs) ≡ false → IsBefore v x
+  closed_before : (x : Image) → IsNext x → is_gate_open x (length rs) ≡ false → IsBefore v x
   closed_before x next shut =
       let opened = opened_kept rs v.reads x at.shows (same_used x next) (λ _. shut) in
       record {
         valid = opened.1;
         stands = λ n out.
             let away = or_false_left (is_journal n) (v.loose n) out in
-            ap (λ (qs : List Record). overlaid (patches_of qs) x n) opened.0
+            ap (λ (qs : List JournalRecord). overlaid (patches_of qs) x n) opened.0
             ∙ overlaid_alike (patches_of rs) v.reads x n (λ _. next n (out_of_record n away) (no_gate n away) (or_false_right (is_journal n) (v.loose n) out)) ∙ sym (home_old n);
       }
 
@@ -126,11 +126,11 @@ module _ (rs : List Record) (batch : List Patch) (v : View) (at : IsRingAt rs v)
       gate : ℕ
       gate = gate_sector (length rs)
 
-      shut : is_open_gate x (length rs) ≡ false
+      shut : is_gate_open x (length rs) ≡ false
       shut =
           let kept : x (gate_sector (length rs)) ≡ v.reads (gate_sector (length rs)) =
           same (gate_sector (length rs)) (gate_not_in_record (length rs) (length (patches_of rs)) (length batch) (length rs) fits) (at.journal_firm (gate_sector (length rs)) (gate_in (length rs) less)) in
-          ap is_open kept ∙ at.others_closed (length rs) (omega arith) less
+          ap says_open kept ∙ at.others_closed (length rs) (omega arith) less
 
   module _ (v1 : View) (run1 : IsConfined in_record v v1) where
     pub writing : LeavesOnly v v1 (λ x f. IsBeforeOrAfter batch v x × (f ≡ v.sent))
@@ -148,12 +148,12 @@ module _ (rs : List Record) (batch : List Patch) (v : View) (at : IsRingAt rs v)
         all_else : (x : Image) → HasRecord x → (n : ℕ) → in_record n ≡ false → n ≢ gate_sector (length rs) → x n ≡ v.reads n
         all_else x has n out other = has n other ∙ run1.reads n out
 
-        next_shut : (x : Image) → HasRecord x → (i : ℕ) → length rs + 1 ≤ i → i < records → is_open_gate x i ≡ false
+        next_shut : (x : Image) → HasRecord x → (i : ℕ) → length rs + 1 ≤ i → i < records → is_gate_open x i ≡ false
         next_shut x has i more below =
-            ap is_open (all_else x has (gate_sector i) (gate_not_in_record (length rs) (length (patches_of rs)) (length batch) i fits) (gates_apart i (length rs) (λ e. absurd (omega arith))))
+            ap says_open (all_else x has (gate_sector i) (gate_not_in_record (length rs) (length (patches_of rs)) (length batch) i fits) (gates_apart i (length rs) (λ e. absurd (omega arith))))
             ∙ at.others_closed i (omega arith) below
 
-        opened_after : (x : Image) → HasRecord x → is_open_gate x (length rs) ≡ true → (open_records x ≡ rs ++ batch ∷ []) × (has_valid_records x ≡ true)
+        opened_after : (x : Image) → HasRecord x → is_gate_open x (length rs) ≡ true → (open_records x ≡ rs ++ batch ∷ []) × (has_valid_records x ≡ true)
         opened_after x has open_gate = opened_more rs batch v.reads x at.shows (same_used x (λ n out other firm. all_else x has n out other)) less some whole fits open_gate
             (has (descriptor_sector (length rs)) (λ e. gate_descriptor_apart (length rs) (length rs) (sym e)) ∙ named)
             (λ k p found.
@@ -161,11 +161,11 @@ module _ (rs : List Record) (batch : List Patch) (v : View) (at : IsRingAt rs v)
             (λ below. next_shut x has (length rs + 1) (omega arith) below)
 
         -- behind an open gate the disk with the whole batch
-        open_after : (x : Image) → HasRecord x → is_open_gate x (length rs) ≡ true → IsAfter batch v x
+        open_after : (x : Image) → HasRecord x → is_gate_open x (length rs) ≡ true → IsAfter batch v x
         open_after x has open_gate = record {
           valid = (opened_after x has open_gate).1;
           stands = λ n out.
-              ap (λ (qs : List Record). overlaid (patches_of qs) x n) (opened_after x has open_gate).0 ∙ ap (λ (qs : List Patch). overlaid qs x n) (patches_push rs batch)
+              ap (λ (qs : List JournalRecord). overlaid (patches_of qs) x n) (opened_after x has open_gate).0 ∙ ap (λ (qs : List Patch). overlaid qs x n) (patches_push rs batch)
               ∙ (λ i. overlaid_append (patches_of rs) batch x i n)
               ∙ overlaid_alike batch (home v.reads) (overlaid (patches_of rs) x) n (λ _. overlaid_alike (patches_of rs) v.reads x n (λ _. all_else x has n (out_of_record n out) (no_gate n out)) ∙ sym (home_old n));
         }
@@ -173,7 +173,7 @@ module _ (rs : List Record) (batch : List Patch) (v : View) (at : IsRingAt rs v)
         -- while the gate is written
         in_gate : (x : Image) (f : List ℕ) → IsLeftWithin (λ n. n == gate_sector (length rs)) v1 x f → P x f
         in_gate x f left = (
-          elim (cases_Bool (is_open_gate x (length rs))) [
+          elim (cases_Bool (is_gate_open x (length rs))) [
             | inl open_gate ↦ inr (open_after x has open_gate)
             | inr shut ↦ inl (closed_before x (λ n out other firm. all_else x has n out other) shut)
           ],
@@ -197,9 +197,9 @@ module _ (rs : List Record) (batch : List Patch) (v : View) (at : IsRingAt rs v)
           added_sent = run2.sent ∙ run1.sent
 
           -- in the end
-          module _ (opened : is_open (v2.reads gate) ≡ true) where
-            open_now : is_open_gate v2.reads (length rs) ≡ true
-            open_now = ap (λ (k : ℕ). is_open (v2.reads k)) (sym is) ∙ opened
+          module _ (opened : says_open (v2.reads gate) ≡ true) where
+            open_now : is_gate_open v2.reads (length rs) ≡ true
+            open_now = ap (λ (k : ℕ). says_open (v2.reads k)) (sym is) ∙ opened
 
             added_done : AgreeBut is_journal (overlaid batch (home v.reads)) (home v2.reads)
             added_done = (open_after v2.reads has2 open_now).stands
@@ -217,7 +217,7 @@ module _ (rs : List Record) (batch : List Patch) (v : View) (at : IsRingAt rs v)
             descriptor = has2 (descriptor_sector (length rs)) (λ e. gate_descriptor_apart (length rs) (length rs) (sym e)) ∙ named;
           }
 
-          pub added : v2.reads gate ≡ gate_bytes true → is_open (v2.reads gate) ≡ true → IsFirm v2 → IsAdded rs batch v v2
+          pub added : v2.reads gate ≡ gate_bytes true → says_open (v2.reads gate) ≡ true → IsFirm v2 → IsAdded rs batch v v2
           added bytes opened firm2 = record {
             sent = added_sent;
             any_moment = opening;

@@ -3,7 +3,7 @@ use Rattle.std.proofs.Common.{◌≡◌, ℕ, suc, ◌+◌, ◌*◌, ◌≤◌, 
 use Rattle.std.proofs.lemmas.Bool.{cases_Bool}
 use Rattle.image_layout.specs.declared.offset.Patch.{Patch}
 use Rattle.intent_journal.specs.Batch.{has_home}
-use Rattle.intent_journal.specs.Records.{Record, patches_of}
+use Rattle.intent_journal.specs.Records.{JournalRecord, patches_of}
 use Rattle.intent_journal.specs.Ring.{last_patches, distinct_homes, is_full_for, committed, checkpoint_writes, commit_writes}
 use Rattle.intent_journal.proofs.Parts.{patches_push}
 use Rattle.intent_journal.proofs.Replaying.{lasts_most}
@@ -27,17 +27,17 @@ more_homes (p ∷ ps) qs =
     ]
 
 -- a batch adds at most its length to the distinct homes of a ring
-pub homes_added : (rs : List Record) (batch : List Patch) → distinct_homes (rs ++ batch ∷ []) ≤ distinct_homes rs + length batch
+pub homes_added : (rs : List JournalRecord) (batch : List Patch) → distinct_homes (rs ++ batch ∷ []) ≤ distinct_homes rs + length batch
 homes_added rs batch =
     let same : distinct_homes (rs ++ batch ∷ []) ≡ length (last_patches (patches_of rs ++ batch)) = ap (λ (ps : List Patch). length (last_patches ps)) (patches_push rs batch) in
     omega (arith, same, more_homes (patches_of rs) batch)
 
 -- and to what a checkpoint writes one more, its gate
-pub checkpoint_added : (rs : List Record) (batch : List Patch) → checkpoint_writes (rs ++ batch ∷ []) ≤ checkpoint_writes rs + length batch + 1
+pub checkpoint_added : (rs : List JournalRecord) (batch : List Patch) → checkpoint_writes (rs ++ batch ∷ []) ≤ checkpoint_writes rs + length batch + 1
 checkpoint_added rs batch = omega (arith, homes_added rs batch, length-append rs (batch ∷ []))
 
 -- what a commit writes, with what a checkpoint would write then
-pub commit_pays : (rs : List Record) (batch : List Patch) → commit_writes rs batch + checkpoint_writes (committed rs batch) ≤ checkpoint_writes rs + (2 * length batch + 3)
+pub commit_pays : (rs : List JournalRecord) (batch : List Patch) → commit_writes rs batch + checkpoint_writes (committed rs batch) ≤ checkpoint_writes rs + (2 * length batch + 3)
 commit_pays rs batch = elim (cases_Bool (length batch == 0)) [
   | inl e ↦ rw e (omega arith)
   | inr e ↦ rw e (elim (is_full_for rs (length batch)) as (λ t. length batch + 2 + cond t (checkpoint_writes rs) 0 + checkpoint_writes (cond t (batch ∷ []) (rs ++ batch ∷ [])) ≤ checkpoint_writes rs + (2 * length batch + 3)) [

@@ -11,7 +11,8 @@ use Rattle.byteorder.specs.Endian.{little_from, little_bytes}
 use Rattle.byteorder.specs.Numbers.{little_from-cons, little_number-reads_back}
 use Rattle.image_layout.specs.declared.offset.Patch.{Patch}
 use Rattle.image_layout.specs.Ring.{bodies}
-use Rattle.intent_journal.specs.Homes.{is_lawful_home, is_distinct}
+use Rattle.tsd_model.specs.World.{are_apart}
+use Rattle.intent_journal.specs.Homes.{is_lawful_home}
 use Rattle.intent_journal.specs.Batch.{homes_of, IsBatch}
 use Rattle.intent_journal.specs.Descriptor.{count_in, home_in, homes_in, is_valid, descriptor_bytes}
 use Rattle.intent_journal.proofs.HomesOf.{homes_append, length_homes}
@@ -117,7 +118,7 @@ descriptor_valid batch start b some room =
     let homes : homes_in bytes ≡ homes_of batch = batch_homes batch b in
     let one : nat_le 1 (count_in bytes) ≡ true = ap (nat_le 1) count ∙ le_true 1 (length batch) (some_patch batch some) in
     let fits : nat_le (start + count_in bytes) bodies ≡ true = ap (λ n. nat_le (start + n) bodies) count ∙ le_true (start + length batch) bodies room in
-    let distinct : is_distinct (homes_in bytes) ≡ true = ap is_distinct homes ∙ b.distinct in
+    let distinct : are_apart (homes_in bytes) ≡ true = ap are_apart homes ∙ b.distinct in
     let lawful : list_all is_lawful_home (homes_in bytes) ≡ true = ap (list_all is_lawful_home) homes ∙ b.lawful in
     both_true _ _ (both_true _ _ (both_true _ _ one fits) distinct) lawful
   where

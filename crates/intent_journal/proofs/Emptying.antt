@@ -6,7 +6,7 @@ use Rattle.image_device.specs.View.{View}
 use Rattle.image_layout.specs.Ring.{records, gate_sector}
 use Rattle.image_layout.specs.declared.offset.Patch.{Patch}
 use Rattle.intent_journal.specs.Closing.{IsListed, is_listed_open, one_if, later_open, closing_writes}
-use Rattle.intent_journal.specs.Records.{Record, patches_of, open_from, open_records, is_open_gate}
+use Rattle.intent_journal.specs.Records.{JournalRecord, patches_of, open_from, open_records, is_gate_open}
 use Rattle.intent_journal.specs.Ring.{IsRing, IsRingAt, last_patches, checkpoint_writes}
 use Rattle.image_layout.specs.Image.{gate_bytes}
 use Rattle.intent_journal.specs.Written.{ClosesGates}
@@ -15,20 +15,20 @@ use Rattle.intent_journal.proofs.Replaying.{lasts_most}
 use Rattle.intent_journal.proofs.Uses.{at_valid}
 
 -- the gates of the open records are open
-open_gates_from : (left : ℕ) (x : Image) (index start : ℕ) (rs : List Record) → open_from x index start left ≡ rs → (i : ℕ) → i < length rs → is_open_gate x (index + i) ≡ true
+open_gates_from : (left : ℕ) (x : Image) (index start : ℕ) (rs : List JournalRecord) → open_from x index start left ≡ rs → (i : ℕ) → i < length rs → is_gate_open x (index + i) ≡ true
 open_gates_from zero x index start rs is i less = absurd (omega (arith, ap length is))
 open_gates_from (suc left) x index start [] is i less = absurd (omega arith)
-open_gates_from (suc left) x index start (r ∷ rs) is zero less = ap (is_open_gate x) (omega arith) ∙ (begins x index start left r rs is).gate
+open_gates_from (suc left) x index start (r ∷ rs) is zero less = ap (is_gate_open x) (omega arith) ∙ (begins x index start left r rs is).gate
 open_gates_from (suc left) x index start (r ∷ rs) is (suc i) less =
     let at : index + suc i ≡ index + 1 + i = omega arith in
-    ap (is_open_gate x) at ∙ open_gates_from left x (index + 1) (start + length r) rs (begins x index start left r rs is).rest i (omega arith)
+    ap (is_gate_open x) at ∙ open_gates_from left x (index + 1) (start + length r) rs (begins x index start left r rs is).rest i (omega arith)
 
-pub open_gate_of : (x : Image) (rs : List Record) → open_records x ≡ rs → (i : ℕ) → i < length rs → is_open_gate x i ≡ true
+pub open_gate_of : (x : Image) (rs : List JournalRecord) → open_records x ≡ rs → (i : ℕ) → i < length rs → is_gate_open x i ≡ true
 unfolding open_records
-open_gate_of x rs is i less = let at : 0 + i ≡ i = omega arith in ap (is_open_gate x) (sym at) ∙ open_gates_from records x 0 0 rs is i less
+open_gate_of x rs is i less = let at : 0 + i ≡ i = omega arith in ap (is_gate_open x) (sym at) ∙ open_gates_from records x 0 0 rs is i less
 
 -- the gates that are to be closed
-pub listed_at : (rs : List Record) (v : View) (ps : List Patch) (gates : List Bool) (count : ℕ) → IsRingAt rs v → ps ≡ patches_of rs → count ≡ length rs
+pub listed_at : (rs : List JournalRecord) (v : View) (ps : List Patch) (gates : List Bool) (count : ℕ) → IsRingAt rs v → ps ≡ patches_of rs → count ≡ length rs
     → ((i : ℕ) → i < records → is_listed_open gates i ≡ nat_lt i count) → IsListed ps gates v
 listed_at rs v ps gates count at is counted listed = record {
   patches = ap patches_of at.shows ∙ sym is;
@@ -54,7 +54,7 @@ first_counted gates k listed (suc i) within =
     let e : one_if (is_listed_open gates (suc i)) ≡ one_if (nat_lt (suc i) k) = ap one_if (listed (suc i) (omega arith)) in
     omega (arith, e, one_lt (suc i) k, first_counted gates k listed i (omega arith))
 
-pub closing_of_ring : (rs : List Record) (ps : List Patch) (gates : List Bool) (count : ℕ) → IsRing rs → ps ≡ patches_of rs → count ≡ length rs
+pub closing_of_ring : (rs : List JournalRecord) (ps : List Patch) (gates : List Bool) (count : ℕ) → IsRing rs → ps ≡ patches_of rs → count ≡ length rs
     → ((i : ℕ) → i < records → is_listed_open gates i ≡ nat_lt i count) → closing_writes ps gates ≤ checkpoint_writes rs
 closing_of_ring rs ps gates count ring is counted listed =
     let all : one_if (is_listed_open gates 0) + later_open gates 8 ≡ min 8 count = first_counted gates count listed 7 (omega arith) in
@@ -62,10 +62,10 @@ closing_of_ring rs ps gates count ring is counted listed =
     let some : closing_writes ps gates ≡ length (last_patches ps) + (one_if (is_listed_open gates 0) + later_open gates 8) = omega arith in
     omega (arith, all, same, some, counted, ring.most)
 
-pub ring_most : (rs : List Record) → IsRing rs → checkpoint_writes rs ≤ 121
+pub ring_most : (rs : List JournalRecord) → IsRing rs → checkpoint_writes rs ≤ 121
 ring_most rs ring = omega (arith, lasts_most (patches_of rs), ring.most, ring.fits)
 
 -- an empty ring has no gate to close
-pub none_to_close : (rs : List Record) (v new : View) → IsRingAt rs v → length rs ≡ 0 → new.reads ≡ v.reads → ClosesGates v.reads new.reads
+pub none_to_close : (rs : List JournalRecord) (v new : View) → IsRingAt rs v → length rs ≡ 0 → new.reads ≡ v.reads → ClosesGates v.reads new.reads
 none_to_close rs v new at none same i less =
-    (λ j. same j (gate_sector i)) ∙ sym (cond-false (is_open_gate v.reads i) (gate_bytes false) (v.reads (gate_sector i)) (at.others_closed i (omega (arith, none)) less))
+    (λ j. same j (gate_sector i)) ∙ sym (cond-false (is_gate_open v.reads i) (gate_bytes false) (v.reads (gate_sector i)) (at.others_closed i (omega (arith, none)) less))

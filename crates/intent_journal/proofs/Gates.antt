@@ -5,10 +5,10 @@ use Rattle.image_device.specs.Image.{Image}
 use Rattle.image_layout.specs.Ring.{records, bodies, body_sector}
 use Rattle.intent_journal.specs.Descriptor.{count_in, is_valid}
 use Rattle.intent_journal.proofs.Opened.{record_alike}
-use Rattle.intent_journal.specs.Records.{descriptor_of, is_open_gate, record_at, open_from, open_records, are_valid_from, has_valid_records}
+use Rattle.intent_journal.specs.Records.{descriptor_of, is_gate_open, record_at, open_from, open_records, are_valid_from, has_valid_records}
 
 pub record IsAlike (x y : Image) : Type 0 where
-  pub gates : (i : ℕ) → i < records → is_open_gate y i ≡ is_open_gate x i
+  pub gates : (i : ℕ) → i < records → is_gate_open y i ≡ is_gate_open x i
   pub descriptors : (i : ℕ) → i < records → descriptor_of y i ≡ descriptor_of x i
   pub each_body : (k : ℕ) → k < bodies → y (body_sector k) ≡ x (body_sector k)
 
@@ -28,12 +28,12 @@ module _ (x y : Image) (alike : IsAlike x y) where
   open_alike index start zero within = refl
   open_alike index start (suc left) within =
       let less : index < records = omega arith in
-      let same : (is_open_gate y index && is_valid start (descriptor_of y index)) ≡ (is_open_gate x index && is_valid start (descriptor_of x index)) = λ i. alike.gates index less i && is_valid start (alike.descriptors index less i) in
+      let same : (is_gate_open y index && is_valid start (descriptor_of y index)) ≡ (is_gate_open x index && is_valid start (descriptor_of x index)) = λ i. alike.gates index less i && is_valid start (alike.descriptors index less i) in
       let rest : open_from y (index + 1) (start + count_in (descriptor_of y index)) left ≡ open_from x (index + 1) (start + count_in (descriptor_of x index)) left =
       ap (λ (d : List ℕ). open_from y (index + 1) (start + count_in d) left) (alike.descriptors index less) ∙ open_alike (index + 1) (start + count_in (descriptor_of x index)) left (omega arith) in
-      elim (cases_Bool (is_open_gate x index && is_valid start (descriptor_of x index))) [
+      elim (cases_Bool (is_gate_open x index && is_valid start (descriptor_of x index))) [
         | inl t ↦
-            let valid = (and_parts (is_open_gate x index) (is_valid start (descriptor_of x index)) t).1 in
+            let valid = (and_parts (is_gate_open x index) (is_valid start (descriptor_of x index)) t).1 in
             let first = record_same index start less (valid_room start (descriptor_of x index) valid) in
             cond-true _ _ _ (same ∙ t) ∙ (λ i. first i ∷ rest i) ∙ sym (cond-true _ _ _ t)
         | inr f ↦ cond-false _ _ _ (same ∙ f) ∙ sym (cond-false _ _ _ f)

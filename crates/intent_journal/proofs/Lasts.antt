@@ -11,7 +11,7 @@ use Rattle.std.specs.Option.{MatchOption}
 use Rattle.image_layout.specs.declared.offset.Patch.{Patch}
 use Rattle.intent_journal.specs.Batch.{has_home}
 use Rattle.intent_journal.specs.Home.{overlaid, home}
-use Rattle.intent_journal.specs.Records.{Record, patches_of}
+use Rattle.intent_journal.specs.Records.{JournalRecord, patches_of}
 use Rattle.intent_journal.specs.Ring.{last_patches, IsRingAt}
 use Rattle.intent_journal.specs.Closing.{one_if}
 use Rattle.intent_journal.proofs.Overlays.{overlaid_missed, overlaid_append}
@@ -33,7 +33,7 @@ overlaid_here p qs x none =
     overlaid_missed qs (put_at p.sector p.bytes x) p.sector none ∙ cond-true (p.sector == p.sector) p.bytes (x p.sector) same
 
 -- ---- a read
-module _ (rs : List Record) (v : View) (sector : ℕ) (ps : List Patch) (at : IsRingAt rs v) (is : ps ≡ patches_of rs) where
+module _ (rs : List JournalRecord) (v : View) (sector : ℕ) (ps : List Patch) (at : IsRingAt rs v) (is : ps ≡ patches_of rs) where
   pub home_is : home v.reads sector ≡ overlaid ps v.reads sector
   home_is = ap (λ (qs : List Patch). overlaid qs v.reads sector) (ap patches_of at.shows ∙ sym is)
 

@@ -8,31 +8,32 @@ use Rattle.tsd_model.proofs.RangeLaws.{map_range_alike}
 use Rattle.image_device.specs.Image.{Image}
 use Rattle.image_layout.specs.Ring.{records, bodies, body_sector}
 use Rattle.image_layout.specs.declared.offset.Patch.{Patch}
-use Rattle.intent_journal.specs.Homes.{is_lawful_home, is_distinct}
+use Rattle.tsd_model.specs.World.{are_apart}
+use Rattle.intent_journal.specs.Homes.{is_lawful_home}
 use Rattle.intent_journal.specs.Batch.{homes_of, IsBatch}
 use Rattle.intent_journal.specs.Descriptor.{count_in, home_in, homes_in, is_valid, descriptor_bytes}
 use Rattle.intent_journal.specs.Home.{overlaid, home}
-use Rattle.intent_journal.specs.Records.{Record, patches_of, record_at, open_from, open_records, is_open_gate, descriptor_of, are_valid_from, has_valid_records}
+use Rattle.intent_journal.specs.Records.{JournalRecord, patches_of, record_at, open_from, open_records, is_gate_open, descriptor_of, are_valid_from, has_valid_records}
 use Rattle.intent_journal.proofs.HomesOf.{homes_append}
 use Rattle.intent_journal.proofs.Bools.{and_true_parts}
 use Rattle.intent_journal.proofs.Descriptors.{items_at, batch_count, batch_home, descriptor_valid}
 
 -- ---- records from an index on
 -- of the records from an index on, both images have the same: the gates as open, the descriptors, and the bodies from one on
-pub record SameFrom (index start : ℕ) (rs : List Record) (x y : Image) : Type 0 where
-  pub gates : (i : ℕ) → index ≤ i → i < index + length rs → is_open_gate y i ≡ is_open_gate x i
+pub record SameFrom (index start : ℕ) (rs : List JournalRecord) (x y : Image) : Type 0 where
+  pub gates : (i : ℕ) → index ≤ i → i < index + length rs → is_gate_open y i ≡ is_gate_open x i
   pub descriptors : (i : ℕ) → index ≤ i → i < index + length rs → descriptor_of y i ≡ descriptor_of x i
   pub each_body : (k : ℕ) → start ≤ k → k < start + length (patches_of rs) → y (body_sector k) ≡ x (body_sector k)
 
 -- the same of all records
-pub record SameUsed (rs : List Record) (x y : Image) : Type 0 where
-  pub gates : (i : ℕ) → i < length rs → is_open_gate y i ≡ is_open_gate x i
+pub record SameUsed (rs : List JournalRecord) (x y : Image) : Type 0 where
+  pub gates : (i : ℕ) → i < length rs → is_gate_open y i ≡ is_gate_open x i
   pub descriptors : (i : ℕ) → i < length rs → descriptor_of y i ≡ descriptor_of x i
   pub each_body : (k : ℕ) → k < length (patches_of rs) → y (body_sector k) ≡ x (body_sector k)
 
 -- what stands at an index: nothing where its gate is closed or its descriptor isn't valid
 abbrev counts_at : Image → ℕ → ℕ → Bool
-counts_at x index start = is_open_gate x index && is_valid start (descriptor_of x index)
+counts_at x index start = is_gate_open x index && is_valid start (descriptor_of x index)
 
 pub stops : (x : Image) (index start left : ℕ) → counts_at x index start ≡ false → open_from x index start (suc left) ≡ []
 stops x index start left e = ap (λ b. cond b (record_at x index start ∷ open_from x (index + 1) (start + count_in (descriptor_of x index)) left) []) e
@@ -56,20 +57,20 @@ record_alike x y index start named same =
 parts_of : {X : Type 0} (a b : X) (xs ys : List X) → a ∷ xs ≡ b ∷ ys → (a ≡ b) × (xs ≡ ys)
 parts_of a b xs ys e = (cc, cc)
 
-length_patches : (r : Record) (rs : List Record) → length (patches_of (r ∷ rs)) ≡ length r + length (patches_of rs)
+length_patches : (r : JournalRecord) (rs : List JournalRecord) → length (patches_of (r ∷ rs)) ≡ length r + length (patches_of rs)
 length_patches r rs = length-append r (patches_of rs)
 
 -- a closed gate ends the records
-pub closed_ends : (y : Image) (index start left : ℕ) → (0 < left → is_open_gate y index ≡ false) → (open_from y index start left ≡ []) × (are_valid_from y index start left ≡ true)
+pub closed_ends : (y : Image) (index start left : ℕ) → (0 < left → is_gate_open y index ≡ false) → (open_from y index start left ≡ []) × (are_valid_from y index start left ≡ true)
 closed_ends y index start zero shut = (refl, refl)
 closed_ends y index start (suc left) shut =
-    let closed : is_open_gate y index ≡ false = shut (omega arith) in (
+    let closed : is_gate_open y index ≡ false = shut (omega arith) in (
       stops y index start left (ap (λ b. b && is_valid start (descriptor_of y index)) closed),
       ap (λ b. cond b (is_valid start (descriptor_of y index) && are_valid_from y (index + 1) (start + count_in (descriptor_of y index)) left) true) closed,
     )
 
 -- an open gate with a valid descriptor begins them
-pub open_begins : (y : Image) (index start left next : ℕ) (r : Record) (rs : List Record) → is_open_gate y index ≡ true → is_valid start (descriptor_of y index) ≡ true → record_at y index start ≡ r
+pub open_begins : (y : Image) (index start left next : ℕ) (r : JournalRecord) (rs : List JournalRecord) → is_gate_open y index ≡ true → is_valid start (descriptor_of y index) ≡ true → record_at y index start ≡ r
     → start + count_in (descriptor_of y index) ≡ next → (open_from y (index + 1) next left ≡ rs) × (are_valid_from y (index + 1) next left ≡ true)
     → (open_from y index start (suc left) ≡ r ∷ rs) × (are_valid_from y index start (suc left) ≡ true)
 open_begins y index start left next r rs gate valid first at rest =
@@ -82,24 +83,24 @@ open_begins y index start left next r rs gate valid first at rest =
     (open_is, here ∙ ap (λ b. b && are_valid_from y (index + 1) (start + count_in (descriptor_of y index)) left) valid ∙ others_valid)
 
 -- what an image has where its records are one and more
-pub record Begins (x : Image) (index start left : ℕ) (r : Record) (rs : List Record) : Type 0 where
-  pub gate : is_open_gate x index ≡ true
+pub record Begins (x : Image) (index start left : ℕ) (r : JournalRecord) (rs : List JournalRecord) : Type 0 where
+  pub gate : is_gate_open x index ≡ true
   pub valid : is_valid start (descriptor_of x index) ≡ true
   pub first : record_at x index start ≡ r
   pub count : count_in (descriptor_of x index) ≡ length r
   pub rest : open_from x (index + 1) (start + length r) left ≡ rs
 
-pub begins : (x : Image) (index start left : ℕ) (r : Record) (rs : List Record) → open_from x index start (suc left) ≡ r ∷ rs → Begins x index start left r rs
+pub begins : (x : Image) (index start left : ℕ) (r : JournalRecord) (rs : List JournalRecord) → open_from x index start (suc left) ≡ r ∷ rs → Begins x index start left r rs
 begins x index start left r rs is = elim (cases_Bool (counts_at x index start)) [
   | inl e ↦
-      let parts = and_true_parts (is_open_gate x index) (is_valid start (descriptor_of x index)) e in
+      let parts = and_true_parts (is_gate_open x index) (is_valid start (descriptor_of x index)) e in
       let split = parts_of (record_at x index start) r (open_from x (index + 1) (start + count_in (descriptor_of x index)) left) rs (sym (goes x index start left e) ∙ is) in
       let count : count_in (descriptor_of x index) ≡ length r = sym (length_record x index start) ∙ ap length split.0 in
       record { gate = parts.0; valid = parts.1; first = split.0; count = count; rest = ap (λ k. open_from x (index + 1) (start + k) left) (sym count) ∙ split.1 }
   | inr e ↦ let none : [] ≡ r ∷ rs = sym (stops x index start left e) ∙ is in absurd (cc)
 ]
 
-same_rest : (index start : ℕ) (r : Record) (rs : List Record) (x y : Image) → SameFrom index start (r ∷ rs) x y → SameFrom (index + 1) (start + length r) rs x y
+same_rest : (index start : ℕ) (r : JournalRecord) (rs : List JournalRecord) (x y : Image) → SameFrom index start (r ∷ rs) x y → SameFrom (index + 1) (start + length r) rs x y
 same_rest index start r rs x y same = record {
   gates = λ i low high. same.gates i (omega arith) (omega arith);
   descriptors = λ i low high. same.descriptors i (omega arith) (omega arith);
@@ -107,7 +108,7 @@ same_rest index start r rs x y same = record {
 }
 
 -- both images begin alike
-pub begins_alike : (x y : Image) (index start left : ℕ) (r : Record) (rs : List Record) → Begins x index start left r rs → SameFrom index start (r ∷ rs) x y → (rest : List Record)
+pub begins_alike : (x y : Image) (index start left : ℕ) (r : JournalRecord) (rs : List JournalRecord) → Begins x index start left r rs → SameFrom index start (r ∷ rs) x y → (rest : List JournalRecord)
     → (open_from y (index + 1) (start + length r) left ≡ rest) × (are_valid_from y (index + 1) (start + length r) left ≡ true)
     → (open_from y index start (suc left) ≡ r ∷ rest) × (are_valid_from y index start (suc left) ≡ true)
 begins_alike x y index start left r rs b same rest others =
@@ -117,8 +118,8 @@ begins_alike x y index start left r rs b same rest others =
     (ap (λ (l : List ℕ). start + count_in l) named ∙ ap (λ k. start + k) b.count) others
 
 -- the same records, and each of them valid, where the gate behind them is closed
-pub kept_from : (left index start : ℕ) (rs : List Record) (x y : Image) → open_from x index start left ≡ rs → SameFrom index start rs x y
-    → (length rs < left → (at : ℕ) → at ≡ index + length rs → is_open_gate y at ≡ false) → (open_from y index start left ≡ rs) × (are_valid_from y index start left ≡ true)
+pub kept_from : (left index start : ℕ) (rs : List JournalRecord) (x y : Image) → open_from x index start left ≡ rs → SameFrom index start rs x y
+    → (length rs < left → (at : ℕ) → at ≡ index + length rs → is_gate_open y at ≡ false) → (open_from y index start left ≡ rs) × (are_valid_from y index start left ≡ true)
 kept_from zero index start rs x y is same shut = (is, refl)
 kept_from (suc left) index start [] x y is same shut = closed_ends y index start (suc left) (λ some. shut some index (omega arith))
 kept_from (suc left) index start (r ∷ rs) x y is same shut =
@@ -126,20 +127,20 @@ kept_from (suc left) index start (r ∷ rs) x y is same shut =
     begins_alike x y index start left r rs b same rs
     (kept_from left (index + 1) (start + length r) rs x y b.rest (same_rest index start r rs x y same) (λ less at is_at. shut (omega arith) at (omega arith)))
 
-same_from_zero : (rs : List Record) (x y : Image) → SameUsed rs x y → SameFrom 0 0 rs x y
+same_from_zero : (rs : List JournalRecord) (x y : Image) → SameUsed rs x y → SameFrom 0 0 rs x y
 same_from_zero rs x y same = record {
   gates = λ i low high. same.gates i (omega arith);
   descriptors = λ i low high. same.descriptors i (omega arith);
   each_body = λ k low high. same.each_body k (omega arith);
 }
 
-pub opened_kept : (rs : List Record) (x y : Image) → open_records x ≡ rs → SameUsed rs x y → (length rs < records → is_open_gate y (length rs) ≡ false)
+pub opened_kept : (rs : List JournalRecord) (x y : Image) → open_records x ≡ rs → SameUsed rs x y → (length rs < records → is_gate_open y (length rs) ≡ false)
     → (open_records y ≡ rs) × (has_valid_records y ≡ true)
 unfolding open_records has_valid_records
 opened_kept rs x y is same shut =
-    kept_from records 0 0 rs x y is (same_from_zero rs x y same) (λ less at is_at. let e : at ≡ length rs = omega arith in ap (is_open_gate y) e ∙ shut less)
+    kept_from records 0 0 rs x y is (same_from_zero rs x y same) (λ less at is_at. let e : at ≡ length rs = omega arith in ap (is_gate_open y) e ∙ shut less)
 
-pub opened_none : (x : Image) → is_open_gate x 0 ≡ false → (open_records x ≡ []) × (has_valid_records x ≡ true)
+pub opened_none : (x : Image) → is_gate_open x 0 ≡ false → (open_records x ≡ []) × (has_valid_records x ≡ true)
 unfolding open_records has_valid_records
 opened_none x shut = closed_ends x 0 0 records (λ some. shut)
 
@@ -158,13 +159,13 @@ homes_of_record x index start = homes_of_range 0 (count_in (descriptor_of x inde
 pub record Valid (start : ℕ) (bytes : List ℕ) : Type 0 where
   pub some : 1 ≤ count_in bytes
   pub room : start + count_in bytes ≤ bodies
-  pub distinct : IsTrue (is_distinct (homes_in bytes))
+  pub distinct : IsTrue (are_apart (homes_in bytes))
   pub lawful : IsTrue (list_all is_lawful_home (homes_in bytes))
 
 pub valid_parts : (start : ℕ) (bytes : List ℕ) → is_valid start bytes ≡ true → Valid start bytes
 valid_parts start bytes h =
-    let one = and_true_parts (nat_le 1 (count_in bytes) && nat_le (start + count_in bytes) bodies && is_distinct (homes_in bytes)) (list_all is_lawful_home (homes_in bytes)) h in
-    let two = and_true_parts (nat_le 1 (count_in bytes) && nat_le (start + count_in bytes) bodies) (is_distinct (homes_in bytes)) one.0 in
+    let one = and_true_parts (nat_le 1 (count_in bytes) && nat_le (start + count_in bytes) bodies && are_apart (homes_in bytes)) (list_all is_lawful_home (homes_in bytes)) h in
+    let two = and_true_parts (nat_le 1 (count_in bytes) && nat_le (start + count_in bytes) bodies) (are_apart (homes_in bytes)) one.0 in
     let three = and_true_parts (nat_le 1 (count_in bytes)) (nat_le (start + count_in bytes) bodies) two.0 in
     let some : nat_le 1 (count_in bytes) ≡ true = three.0 in
     let room : nat_le (start + count_in bytes) bodies ≡ true = three.1 in
@@ -180,12 +181,12 @@ all_append test (n ∷ ns) ms h k =
     rw parts.0 (all_append test ns ms parts.1 k)
 
 -- the records from an index on: no more than are left, and lawful bodies up to the last
-pub record Fits (start left : ℕ) (rs : List Record) : Type 0 where
+pub record Fits (start left : ℕ) (rs : List JournalRecord) : Type 0 where
   pub few : length rs ≤ left
   pub room : start + length (patches_of rs) ≤ bodies
   pub lawful : IsTrue (list_all is_lawful_home (homes_of (patches_of rs)))
 
-pub fits_from : (left index start : ℕ) (x : Image) (rs : List Record) → open_from x index start left ≡ rs → start ≤ bodies → Fits start left rs
+pub fits_from : (left index start : ℕ) (x : Image) (rs : List JournalRecord) → open_from x index start left ≡ rs → start ≤ bodies → Fits start left rs
 fits_from left index start x [] is low = record { few = omega arith; room = omega arith; lawful = refl }
 fits_from zero index start x (r ∷ rs) is low = absurd (cc)
 fits_from (suc left) index start x (r ∷ rs) is low =
@@ -224,30 +225,30 @@ record_written y index start batch b named each =
         let bytes_are : y (body_sector (start + k)) ≡ p.bytes = each k p at in
         λ i. record { sector = home_is i; bytes = bytes_are i }
 
-pub more_from : (left index start : ℕ) (rs : List Record) (batch : List Patch) (x y : Image) → open_from x index start left ≡ rs → SameFrom index start rs x y → length rs < left → batch ≢ [] → IsBatch batch
+pub more_from : (left index start : ℕ) (rs : List JournalRecord) (batch : List Patch) (x y : Image) → open_from x index start left ≡ rs → SameFrom index start rs x y → length rs < left → batch ≢ [] → IsBatch batch
     → (at from : ℕ) → at ≡ index + length rs → from ≡ start + length (patches_of rs) → from + length batch ≤ bodies
-    → is_open_gate y at ≡ true → descriptor_of y at ≡ descriptor_bytes (homes_of batch)
+    → is_gate_open y at ≡ true → descriptor_of y at ≡ descriptor_bytes (homes_of batch)
     → ((k : ℕ) (p : Patch) → slice_get batch k ≡ Some p → y (body_sector (from + k)) ≡ p.bytes)
-    → (length rs + 1 < left → is_open_gate y (at + 1) ≡ false) → (open_from y index start left ≡ rs ++ batch ∷ []) × (are_valid_from y index start left ≡ true)
+    → (length rs + 1 < left → is_gate_open y (at + 1) ≡ false) → (open_from y index start left ≡ rs ++ batch ∷ []) × (are_valid_from y index start left ≡ true)
 more_from zero index start rs batch x y is same less some b at from at_is from_is room gate named each shut = absurd (omega arith)
 more_from (suc left) index start [] batch x y is same less some b at from at_is from_is room gate named each shut =
     let here : at ≡ index = omega arith in
     let first : from ≡ start = omega arith in
-    let gate_here : is_open_gate y index ≡ true = ap (is_open_gate y) (sym here) ∙ gate in
+    let gate_here : is_gate_open y index ≡ true = ap (is_gate_open y) (sym here) ∙ gate in
     let named_here : descriptor_of y index ≡ descriptor_bytes (homes_of batch) = ap (descriptor_of y) (sym here) ∙ named in
     let written : record_at y index start ≡ batch = record_written y index start batch b named_here (λ k p is_at. ap (λ f. y (body_sector (f + k))) (sym first) ∙ each k p is_at) in
     let valid : is_valid start (descriptor_of y index) ≡ true = ap (is_valid start) named_here ∙ descriptor_valid batch start b some (omega arith) in
     open_begins y index start left (start + count_in (descriptor_of y index)) batch [] gate_here valid written refl
-    (closed_ends y (index + 1) (start + count_in (descriptor_of y index)) left (λ more. ap (λ i. is_open_gate y (i + 1)) (sym here) ∙ shut (omega arith)))
+    (closed_ends y (index + 1) (start + count_in (descriptor_of y index)) left (λ more. ap (λ i. is_gate_open y (i + 1)) (sym here) ∙ shut (omega arith)))
 more_from (suc left) index start (r ∷ rs) batch x y is same less some b at from at_is from_is room gate named each shut =
     let front = begins x index start left r rs is in
     begins_alike x y index start left r rs front same (rs ++ batch ∷ [])
     (more_from left (index + 1) (start + length r) rs batch x y front.rest (same_rest index start r rs x y same) (omega arith) some b at from (omega arith) (omega (arith, length_patches r rs)) room gate named each (λ more. shut (omega arith)))
 
-pub opened_more : (rs : List Record) (batch : List Patch) (x y : Image) → open_records x ≡ rs → SameUsed rs x y → length rs < records → batch ≢ [] → IsBatch batch → length (patches_of rs) + length batch ≤ bodies
-    → is_open_gate y (length rs) ≡ true → descriptor_of y (length rs) ≡ descriptor_bytes (homes_of batch)
+pub opened_more : (rs : List JournalRecord) (batch : List Patch) (x y : Image) → open_records x ≡ rs → SameUsed rs x y → length rs < records → batch ≢ [] → IsBatch batch → length (patches_of rs) + length batch ≤ bodies
+    → is_gate_open y (length rs) ≡ true → descriptor_of y (length rs) ≡ descriptor_bytes (homes_of batch)
     → ((k : ℕ) (p : Patch) → slice_get batch k ≡ Some p → y (body_sector (length (patches_of rs) + k)) ≡ p.bytes)
-    → (length rs + 1 < records → is_open_gate y (length rs + 1) ≡ false) → (open_records y ≡ rs ++ batch ∷ []) × (has_valid_records y ≡ true)
+    → (length rs + 1 < records → is_gate_open y (length rs + 1) ≡ false) → (open_records y ≡ rs ++ batch ∷ []) × (has_valid_records y ≡ true)
 unfolding open_records has_valid_records
 opened_more rs batch x y is same less some b room gate named each shut =
     more_from records 0 0 rs batch x y is (same_from_zero rs x y same) less some b (length rs) (length (patches_of rs)) (omega arith) (omega arith) room gate named each shut

@@ -4,10 +4,11 @@ use Rattle.std.specs.List.{list_all, slice_get, range_with_len}
 use Rattle.image_device.specs.Image.{Image, IsSector}
 use Rattle.image_layout.specs.Ring.{records, body_sector}
 use Rattle.image_layout.specs.declared.offset.Patch.{Patch}
-use Rattle.intent_journal.specs.Homes.{is_lawful_home, is_distinct}
+use Rattle.tsd_model.specs.World.{are_apart}
+use Rattle.intent_journal.specs.Homes.{is_lawful_home}
 use Rattle.intent_journal.specs.Batch.{IsBatch}
 use Rattle.intent_journal.specs.Descriptor.{count_in, home_in, is_valid}
-use Rattle.intent_journal.specs.Records.{Record, record_at, open_from, open_records, descriptor_of}
+use Rattle.intent_journal.specs.Records.{JournalRecord, record_at, open_from, open_records, descriptor_of}
 use Rattle.intent_journal.specs.Ring.{IsRing}
 use Rattle.intent_journal.proofs.Opened.{begins, length_record, valid_parts, homes_of_record, opened_most}
 
@@ -32,19 +33,19 @@ record_batch x index start whole valid =
     let homes = homes_of_record x index start in (
       record {
         most = omega (arith, length_record x index start, v.room);
-        distinct = ap is_distinct homes ∙ v.distinct;
+        distinct = ap are_apart homes ∙ v.distinct;
         lawful = ap (list_all is_lawful_home) homes ∙ v.lawful;
         whole = record_whole x index start whole;
       },
       some_record (record_at x index start) (omega (arith, length_record x index start, v.some)),
     )
 
-each_from : (left index start : ℕ) (x : Image) (rs : List Record) → ((n : ℕ) → IsSector (x n)) → open_from x index start left ≡ rs → (k : ℕ) (d : Record) → k < length rs → IsBatch (get_or rs k d) × (get_or rs k d ≢ [])
+each_from : (left index start : ℕ) (x : Image) (rs : List JournalRecord) → ((n : ℕ) → IsSector (x n)) → open_from x index start left ≡ rs → (k : ℕ) (d : JournalRecord) → k < length rs → IsBatch (get_or rs k d) × (get_or rs k d ≢ [])
 each_from left index start x [] whole is k d less = absurd (omega arith)
 each_from zero index start x (r ∷ rs) whole is k d less = absurd (cc)
 each_from (suc left) index start x (r ∷ rs) whole is zero d less =
     let b = begins x index start left r rs is in
-    subst (λ (q : Record). IsBatch q × (q ≢ [])) b.first (record_batch x index start whole b.valid)
+    subst (λ (q : JournalRecord). IsBatch q × (q ≢ [])) b.first (record_batch x index start whole b.valid)
 each_from (suc left) index start x (r ∷ rs) whole is (suc k) d less =
     each_from left (index + 1) (start + length r) x rs whole (begins x index start left r rs is).rest k d (omega arith)
 
@@ -53,5 +54,5 @@ unfolding open_records
 opened_ring x whole = record {
   most = (opened_most x).0;
   fits = (opened_most x).1;
-  each = λ r has. subst (λ (q : Record). IsBatch q × (q ≢ [])) has.2 (each_from records 0 0 x (open_records x) whole refl has.0 r has.1);
+  each = λ r has. subst (λ (q : JournalRecord). IsBatch q × (q ≢ [])) has.2 (each_from records 0 0 x (open_records x) whole refl has.0 r has.1);
 }

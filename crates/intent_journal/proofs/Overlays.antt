@@ -6,7 +6,8 @@ use Rattle.std.proofs.lemmas.Bool.{cases_Bool}
 use Rattle.std.proofs.lemmas.Bool.Decides.{nat_tests}
 use Rattle.image_device.specs.Image.{Image, put_at}
 use Rattle.image_layout.specs.declared.offset.Patch.{Patch}
-use Rattle.intent_journal.specs.Homes.{is_lawful_home, is_distinct}
+use Rattle.tsd_model.specs.World.{are_apart}
+use Rattle.intent_journal.specs.Homes.{is_lawful_home}
 use Rattle.intent_journal.specs.Batch.{homes_of, has_home}
 use Rattle.intent_journal.specs.Home.{overlaid, is_journal}
 use Rattle.intent_journal.specs.Ring.{last_patches}
@@ -69,7 +70,7 @@ last_patches_homes (p ∷ ps) n = elim (cases_Bool (has_home ps p.sector)) [
   | inr e ↦ rw e (ap (λ b. (p.sector == n) || b) (last_patches_homes ps n))
 ]
 
-pub last_patches_distinct : (ps : List Patch) → IsTrue (is_distinct (homes_of (last_patches ps)))
+pub last_patches_distinct : (ps : List Patch) → IsTrue (are_apart (homes_of (last_patches ps)))
 last_patches_distinct [] = refl
 last_patches_distinct (p ∷ ps) = elim (cases_Bool (has_home ps p.sector)) [
   | inl e ↦ rw e (last_patches_distinct ps)

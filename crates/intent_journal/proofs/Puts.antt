@@ -7,7 +7,8 @@ use Rattle.std.proofs.lemmas.List.Folds.{list_any-append}
 use Rattle.image_device.specs.Image.{IsSector}
 use Rattle.image_layout.specs.declared.offset.Patch.{Patch}
 use Rattle.image_layout.specs.Ring.{bodies}
-use Rattle.intent_journal.specs.Homes.{is_lawful_home, has_number, is_distinct}
+use Rattle.tsd_model.specs.World.{has_number, are_apart}
+use Rattle.intent_journal.specs.Homes.{is_lawful_home}
 use Rattle.intent_journal.proofs.HomesOf.{homes_append}
 use Rattle.intent_journal.proofs.Bools.{or_false_parts, and_true_parts, not_true, other_way, equal_numbers}
 use Rattle.intent_journal.specs.Batch.{homes_of, has_home, with_patch, IsBatch}
@@ -55,10 +56,10 @@ put_new p ps is = elim (cases_Bool (nat_lt (position_or_len (has_its_home p) ps)
 ]
 
 -- ---- what stays a batch
-pub distinct_push : (ns : List ℕ) (n : ℕ) → is_distinct ns ≡ true → has_number ns n ≡ false → is_distinct (ns ++ n ∷ []) ≡ true
+pub distinct_push : (ns : List ℕ) (n : ℕ) → are_apart ns ≡ true → has_number ns n ≡ false → are_apart (ns ++ n ∷ []) ≡ true
 distinct_push [] n d h = refl
 distinct_push (m ∷ ms) n d h =
-    let parts = and_true_parts (not (has_number ms m)) (is_distinct ms) d in
+    let parts = and_true_parts (not (has_number ms m)) (are_apart ms) d in
     let absent : has_number ms m ≡ false = not_true _ parts.0 in
     let apart = or_false_parts (m == n) (has_number ms n) h in
     let far : (n == m) ≡ false = other_way m n apart.0 in

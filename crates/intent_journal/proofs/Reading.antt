@@ -6,7 +6,7 @@ use Rattle.std.proofs.lemmas.List.FromFn.{length-map-range_with_len}
 use Rattle.image_device.specs.Image.{Image}
 use Rattle.image_layout.specs.declared.offset.Patch.{Patch}
 use Rattle.intent_journal.specs.Descriptor.{count_in, is_valid}
-use Rattle.intent_journal.specs.Records.{Record, patches_of, descriptor_of, is_open_gate, record_at, open_from, open_records, are_valid_from, has_valid_records}
+use Rattle.intent_journal.specs.Records.{JournalRecord, patches_of, descriptor_of, is_gate_open, record_at, open_from, open_records, are_valid_from, has_valid_records}
 
 -- before the first
 pub found_start : (image : Image) (ps : List Patch) → ps ≡ [] → patches_of (open_records image) ≡ ps ++ patches_of (open_from image 0 (length ps) (8 - 0))
@@ -25,38 +25,38 @@ module _ (image : Image) (index : ℕ) (ps : List Patch) (less : index < 8) wher
   one_more = omega arith
 
   -- a record more
-  module _ (new : List Patch) (gate : is_open_gate image index ≡ true) (valid : is_valid (length ps) (descriptor_of image index) ≡ true) (is : new ≡ ps ++ record_at image index (length ps)) where
+  module _ (new : List Patch) (gate : is_gate_open image index ≡ true) (valid : is_valid (length ps) (descriptor_of image index) ≡ true) (is : new ≡ ps ++ record_at image index (length ps)) where
     longer : length ps + count_in (descriptor_of image index) ≡ length new
     longer = sym (ap length is ∙ length-append ps (record_at image index (length ps)) ∙ ap (λ (n : ℕ). length ps + n) (length-map-range_with_len _ 0 (count_in (descriptor_of image index))))
 
     pub found_more : ps ++ patches_of (open_from image index (length ps) (8 - index)) ≡ new ++ patches_of (open_from image (index + 1) (length new) (8 - (index + 1)))
     found_more =
         let start : ℕ = length ps in
-        let rest : List Record = open_from image (index + 1) (start + count_in (descriptor_of image index)) (8 - (index + 1)) in
+        let rest : List JournalRecord = open_from image (index + 1) (start + count_in (descriptor_of image index)) (8 - (index + 1)) in
         let split : open_from image index start (8 - index) ≡ record_at image index start ∷ rest =
-        ap (open_from image index start) one_more ∙ cond-true _ (record_at image index start ∷ rest) [] (and_from (is_open_gate image index) (is_valid start (descriptor_of image index)) gate valid) in
-        ap (λ (rs : List Record). ps ++ patches_of rs) split ∙ sym (append_assoc ps (record_at image index start) (patches_of rest)) ∙ ap (λ (l : List Patch). l ++ patches_of rest) (sym is)
+        ap (open_from image index start) one_more ∙ cond-true _ (record_at image index start ∷ rest) [] (and_from (is_gate_open image index) (is_valid start (descriptor_of image index)) gate valid) in
+        ap (λ (rs : List JournalRecord). ps ++ patches_of rs) split ∙ sym (append_assoc ps (record_at image index start) (patches_of rest)) ∙ ap (λ (l : List Patch). l ++ patches_of rest) (sym is)
         ∙ ap (λ (n : ℕ). new ++ patches_of (open_from image (index + 1) n (8 - (index + 1)))) longer
 
     pub valid_more : are_valid_from image index (length ps) (8 - index) ≡ are_valid_from image (index + 1) (length new) (8 - (index + 1))
     valid_more =
         let start : ℕ = length ps in
         let rest : Bool = are_valid_from image (index + 1) (start + count_in (descriptor_of image index)) (8 - (index + 1)) in
-        ap (are_valid_from image index start) one_more ∙ cond-true (is_open_gate image index) (is_valid start (descriptor_of image index) && rest) true gate ∙ ap (λ b. b && rest) valid
+        ap (are_valid_from image index start) one_more ∙ cond-true (is_gate_open image index) (is_valid start (descriptor_of image index) && rest) true gate ∙ ap (λ b. b && rest) valid
         ∙ ap (λ (n : ℕ). are_valid_from image (index + 1) n (8 - (index + 1))) longer
 
   -- a closed gate
-  pub found_end : is_open_gate image index ≡ false → ps ++ patches_of (open_from image index (length ps) (8 - index)) ≡ ps
+  pub found_end : is_gate_open image index ≡ false → ps ++ patches_of (open_from image index (length ps) (8 - index)) ≡ ps
   found_end gate =
       let none : open_from image index (length ps) (8 - index) ≡ [] =
-      ap (open_from image index (length ps)) one_more ∙ cond-false _ (record_at image index (length ps) ∷ _) [] (and_left (is_open_gate image index) (is_valid (length ps) (descriptor_of image index)) gate) in
-      ap (λ (rs : List Record). ps ++ patches_of rs) none ∙ append-nil ps
+      ap (open_from image index (length ps)) one_more ∙ cond-false _ (record_at image index (length ps) ∷ _) [] (and_left (is_gate_open image index) (is_valid (length ps) (descriptor_of image index)) gate) in
+      ap (λ (rs : List JournalRecord). ps ++ patches_of rs) none ∙ append-nil ps
 
-  pub valid_end : is_open_gate image index ≡ false → are_valid_from image index (length ps) (8 - index) ≡ true
-  valid_end gate = ap (are_valid_from image index (length ps)) one_more ∙ cond-false (is_open_gate image index) _ true gate
+  pub valid_end : is_gate_open image index ≡ false → are_valid_from image index (length ps) (8 - index) ≡ true
+  valid_end gate = ap (are_valid_from image index (length ps)) one_more ∙ cond-false (is_gate_open image index) _ true gate
 
   -- a descriptor that isn't valid
-  pub bad_end : is_open_gate image index ≡ true → is_valid (length ps) (descriptor_of image index) ≡ false → are_valid_from image index (length ps) (8 - index) ≡ false
+  pub bad_end : is_gate_open image index ≡ true → is_valid (length ps) (descriptor_of image index) ≡ false → are_valid_from image index (length ps) (8 - index) ≡ false
   bad_end gate bad =
       let rest : Bool = are_valid_from image (index + 1) (length ps + count_in (descriptor_of image index)) (8 - (index + 1)) in
-      ap (are_valid_from image index (length ps)) one_more ∙ cond-true (is_open_gate image index) (is_valid (length ps) (descriptor_of image index) && rest) true gate ∙ ap (λ b. b && rest) bad
+      ap (are_valid_from image index (length ps)) one_more ∙ cond-true (is_gate_open image index) (is_valid (length ps) (descriptor_of image index) && rest) true gate ∙ ap (λ b. b && rest) bad

@@ -12,7 +12,7 @@ use Rattle.intent_journal.specs.Batch.{has_home}
 use Rattle.intent_journal.specs.Closing.{IsListed, is_listed_open, one_if, closing_writes}
 use Rattle.intent_journal.specs.Crash.{IsBefore, IsTheSame}
 use Rattle.intent_journal.specs.Home.{home, is_journal, AgreeBut}
-use Rattle.intent_journal.specs.Records.{Record, patches_of, descriptor_of, open_from, open_records, is_open_gate, has_valid_records}
+use Rattle.intent_journal.specs.Records.{JournalRecord, patches_of, descriptor_of, open_from, open_records, is_gate_open, has_valid_records}
 use Rattle.intent_journal.specs.Ring.{last_patches, distinct_homes, IsReplayFound, replay_writes}
 use Rattle.intent_journal.specs.declared.ring.Replayed.TheVariants.{Nothing, Homes}
 use Rattle.intent_journal.specs.Written.{ClosesGates}
@@ -35,7 +35,7 @@ lasts_most (p ∷ ps) = let rest = lasts_most ps in elim (cases_Bool (has_home p
 ]
 
 -- no record is empty
-none_open : (x : Image) (rs : List Record) → open_from x 0 0 8 ≡ rs → distinct_homes rs ≡ 0 → rs ≡ []
+none_open : (x : Image) (rs : List JournalRecord) → open_from x 0 0 8 ≡ rs → distinct_homes rs ≡ 0 → rs ≡ []
 none_open x [] is none = refl
 none_open x ([] ∷ rs) is none =
     let b = begins x 0 0 7 [] rs is in
@@ -93,13 +93,13 @@ module _ (v : View) (firm : IsFirm v) (sound : IsSound v) where
 
 -- ---- what is put in place is what was read
 pub listed_then : (ps : List Patch) (gates : List Bool) (v v1 v2 : View) → IsFirm v → Rests v v1 → Rests v1 v2 → ps ≡ patches_of (open_records v.reads) → has_valid_records v.reads ≡ true
-    → ((index : ℕ) → index < records → is_listed_open gates index ≡ is_open_gate v1.reads index) → IsListed ps gates v2
+    → ((index : ℕ) → index < records → is_listed_open gates index ≡ is_gate_open v1.reads index) → IsListed ps gates v2
 listed_then ps gates v v1 v2 firm first second found valid listed =
     let both = rests_joined v v1 v2 first second in
     record {
       patches = (λ i. patches_of (open_records (both.reads i))) ∙ sym found;
       valid = (λ i. has_valid_records (both.reads i)) ∙ valid;
-      gates = λ index less. listed index less ∙ sym (λ i. is_open_gate (second.reads i) index);
+      gates = λ index less. listed index less ∙ sym (λ i. is_gate_open (second.reads i) index);
       journal_firm = λ n _. (λ i. both.loose i n) ∙ firm n;
     }
 
@@ -111,8 +111,8 @@ gates_then v v2 v3 rests closes = subst (λ (x : Image). ClosesGates x v3.reads)
 
 -- no more is written than needed
 pub needed_then : (ps : List Patch) (gates : List Bool) (v v1 : View) → Rests v v1 → ps ≡ patches_of (open_records v.reads)
-    → ((index : ℕ) → index < records → is_listed_open gates index ≡ is_open_gate v1.reads index) → closing_writes ps gates ≤ replay_writes v.reads
+    → ((index : ℕ) → index < records → is_listed_open gates index ≡ is_gate_open v1.reads index) → closing_writes ps gates ≤ replay_writes v.reads
 needed_then ps gates v v1 rests found listed = omega (arith, ap (λ (l : List Patch). length (last_patches l)) found, one 0 (omega arith), one 1 (omega arith), one 2 (omega arith), one 3 (omega arith), one 4 (omega arith), one 5 (omega arith), one 6 (omega arith), one 7 (omega arith))
   where
-    one : (i : ℕ) → i < records → one_if (is_listed_open gates i) ≡ one_if (is_open_gate v.reads i)
-    one i less = ap one_if (listed i less ∙ (λ j. is_open_gate (rests.reads j) i))
+    one : (i : ℕ) → i < records → one_if (is_listed_open gates i) ≡ one_if (is_gate_open v.reads i)
+    one i less = ap one_if (listed i less ∙ (λ j. is_gate_open (rests.reads j) i))

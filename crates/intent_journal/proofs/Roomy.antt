@@ -10,7 +10,7 @@ use Rattle.image_device.proofs.Moments.{joined, weakened}
 use Rattle.image_layout.specs.declared.offset.Patch.{Patch}
 use Rattle.intent_journal.specs.Crash.{IsBefore, IsBeforeOrAfter}
 use Rattle.intent_journal.specs.Home.{home, overlaid, is_journal, AgreeBut}
-use Rattle.intent_journal.specs.Records.{Record}
+use Rattle.intent_journal.specs.Records.{JournalRecord}
 use Rattle.std.proofs.lemmas.List.{length_push}
 use Rattle.intent_journal.specs.Written.{IsRecordWritten}
 use Rattle.intent_journal.proofs.Overlays.{overlaid_alike}
@@ -42,7 +42,7 @@ module _ (batch : List Patch) (v v1 : View) where
   done_added v2 r same done = on_ok_weaker r (λ h n out. h n out ∙ after_same same n out) done
 
 -- where the record of a committed batch stands
-pub written_last : {T E : Type 0} (r : Result T E) (mid new : List Record) (batch : List Patch) (x : Image) → OnOk r (new ≡ mid ++ batch ∷ []) → OnOk r (IsRecordWritten (length mid) batch x)
+pub written_last : {T E : Type 0} (r : Result T E) (mid new : List JournalRecord) (batch : List Patch) (x : Image) → OnOk r (new ≡ mid ++ batch ∷ []) → OnOk r (IsRecordWritten (length mid) batch x)
     → OnOk r (batch ≢ [] → IsRecordWritten (length new - 1) batch x)
 written_last (Ok t) mid new batch x is written = λ some.
     let at : length mid ≡ length new - 1 = omega (arith, ap length is, length_push mid batch) in

@@ -6,13 +6,14 @@ use Rattle.std.proofs.lemmas.Bool.Decides.{nat_tests}
 use Rattle.image_device.specs.Image.{Image, put_at}
 use Rattle.image_device.specs.Calls.{Rests}
 use Rattle.image_device.specs.View.{View}
-use Rattle.image_layout.specs.Image.{is_open}
+use Rattle.image_layout.specs.Image.{says_open}
 use Rattle.image_layout.specs.Ring.{records, bodies, gate_sector, descriptor_sector, body_sector}
 use Rattle.image_layout.specs.declared.offset.Patch.{Patch}
-use Rattle.intent_journal.specs.Homes.{is_lawful_home, is_distinct}
+use Rattle.tsd_model.specs.World.{are_apart}
+use Rattle.intent_journal.specs.Homes.{is_lawful_home}
 use Rattle.intent_journal.specs.Batch.{homes_of, has_home, with_patch}
 use Rattle.intent_journal.specs.Home.{overlaid, home, is_journal}
-use Rattle.intent_journal.specs.Records.{Record, patches_of, open_records, is_open_gate, has_valid_records}
+use Rattle.intent_journal.specs.Records.{JournalRecord, patches_of, open_records, is_gate_open, has_valid_records}
 use Rattle.intent_journal.specs.Ring.{IsRingAt}
 use Rattle.intent_journal.proofs.Bools.{and_true_parts, not_true, equal_numbers}
 use Rattle.intent_journal.proofs.Overlays.{put_here, put_elsewhere, overlaid_alike, overlaid_missed}
@@ -33,7 +34,7 @@ body_inside body less = grind (arith, nat_tests)
 
 pub journal_alike : (x y : Image) → ((n : ℕ) → is_journal n ≡ true → y n ≡ x n) → IsAlike x y
 journal_alike x y same = record {
-  gates = λ i less. ap is_open (same (gate_sector i) (gate_inside i less));
+  gates = λ i less. ap says_open (same (gate_sector i) (gate_inside i less));
   descriptors = λ i less. same (descriptor_sector i) (descriptor_inside i less);
   each_body = λ k less. same (body_sector k) (body_inside k less);
 }
@@ -66,24 +67,24 @@ home_unlawful x n out = home_missed x n (opened_missed x n out)
 
 -- ---- where a ring is
 -- writes outside the journal leave a ring where it is
-pub at_kept : {rs : List Record} {old new : View} → IsRingAt rs old → ((n : ℕ) → is_journal n ≡ true → (new.reads n ≡ old.reads n) × (new.loose n ≡ false)) → IsRingAt rs new
+pub at_kept : {rs : List JournalRecord} {old new : View} → IsRingAt rs old → ((n : ℕ) → is_journal n ≡ true → (new.reads n ≡ old.reads n) × (new.loose n ≡ false)) → IsRingAt rs new
 at_kept {rs} {old} {new} at same = record {
   shows = opened_same old.reads new.reads (journal_alike old.reads new.reads (λ n inside. (same n inside).0)) ∙ at.shows;
-  others_closed = λ index from less. ap is_open (same (gate_sector index) (gate_inside index less)).0 ∙ at.others_closed index from less;
+  others_closed = λ index from less. ap says_open (same (gate_sector index) (gate_inside index less)).0 ∙ at.others_closed index from less;
   journal_firm = λ n inside. (same n inside).1;
 }
 
 -- so do calls that only read
-pub at_rested : {rs : List Record} {old new : View} → IsRingAt rs old → Rests old new → IsRingAt rs new
+pub at_rested : {rs : List JournalRecord} {old new : View} → IsRingAt rs old → Rests old new → IsRingAt rs new
 at_rested {rs} {old} {new} at rests = at_kept at (λ n inside. ((λ i. rests.reads i n), (λ i. rests.loose i n) ∙ at.journal_firm n inside))
 
 -- each record of a ring is valid where the ring is
-pub at_valid : {rs : List Record} {v : View} → IsRingAt rs v → has_valid_records v.reads ≡ true
+pub at_valid : {rs : List JournalRecord} {v : View} → IsRingAt rs v → has_valid_records v.reads ≡ true
 at_valid {rs} {v} at =
     (opened_kept rs v.reads v.reads at.shows (record { gates = λ i less. refl; descriptors = λ i less. refl; each_body = λ k less. refl }) (λ less. at.others_closed (length rs) (omega arith) less)).1
 
 -- where every gate reads closed, the empty ring is
-pub at_closed : (v : View) → ((index : ℕ) → index < records → is_open_gate v.reads index ≡ false) → ((n : ℕ) → is_journal n ≡ true → v.loose n ≡ false) → IsRingAt [] v
+pub at_closed : (v : View) → ((index : ℕ) → index < records → is_gate_open v.reads index ≡ false) → ((n : ℕ) → is_journal n ≡ true → v.loose n ≡ false) → IsRingAt [] v
 at_closed v closed firm = record {
   shows = (opened_none v.reads (closed 0 (omega arith))).0;
   others_closed = λ index from less. closed index less;
@@ -92,10 +93,10 @@ at_closed v closed firm = record {
 
 -- ---- batches
 -- a patch that is put overlays last
-pub overlaid_with_patch : (p : Patch) (ps : List Patch) (x : Image) (n : ℕ) → IsTrue (is_distinct (homes_of ps)) → overlaid (with_patch p ps) x n ≡ put_at p.sector p.bytes (overlaid ps x) n
+pub overlaid_with_patch : (p : Patch) (ps : List Patch) (x : Image) (n : ℕ) → IsTrue (are_apart (homes_of ps)) → overlaid (with_patch p ps) x n ≡ put_at p.sector p.bytes (overlaid ps x) n
 overlaid_with_patch p [] x n d = refl
 overlaid_with_patch p (q ∷ qs) x n d =
-    let parts = and_true_parts (not (has_home qs q.sector)) (is_distinct (homes_of qs)) d in
+    let parts = and_true_parts (not (has_home qs q.sector)) (are_apart (homes_of qs)) d in
     elim (cases_Bool (q.sector == p.sector)) [
       | inl e ↦ rw e (in_place e (not_true (has_home qs q.sector) parts.0))
       | inr e ↦ rw e (overlaid_with_patch p qs (put_at q.sector q.bytes x) n parts.1)

@@ -4,7 +4,8 @@ use Rattle.std.specs.List.{list_all}
 use Rattle.image_device.specs.Image.{IsSector}
 use Rattle.image_layout.specs.declared.offset.Patch.{Patch}
 use Rattle.image_layout.specs.Ring.{bodies}
-use Rattle.intent_journal.specs.Homes.{is_lawful_home, is_distinct, has_number}
+use Rattle.tsd_model.specs.World.{has_number, are_apart}
+use Rattle.intent_journal.specs.Homes.{is_lawful_home}
 
 abbrev pub homes_of : List Patch → List ℕ
 homes_of ps = map (λ p. p.sector) ps
@@ -25,6 +26,6 @@ pub record ArePatches (ps : List Patch) : Type 0 where
 -- distinct lawful homes, at most 113, each with the bytes of a sector
 pub record IsBatch (ps : List Patch) : Type 0 where
   pub most : length ps ≤ bodies
-  pub distinct : IsTrue (is_distinct (homes_of ps))
+  pub distinct : IsTrue (are_apart (homes_of ps))
   pub lawful : IsTrue (list_all is_lawful_home (homes_of ps))
   pub whole : (i : ℕ) (p : Patch) → slice_get ps i ≡ Some p → IsSector p.bytes

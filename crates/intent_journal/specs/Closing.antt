@@ -8,7 +8,7 @@ use Rattle.image_layout.specs.Image.{gate_bytes}
 use Rattle.image_layout.specs.Ring.{records, gate_sector, descriptor_sector, body_sector}
 use Rattle.intent_journal.specs.Batch.{has_home}
 use Rattle.intent_journal.specs.Home.{is_journal}
-use Rattle.intent_journal.specs.Records.{patches_of, open_records, is_open_gate, has_valid_records}
+use Rattle.intent_journal.specs.Records.{patches_of, open_records, is_gate_open, has_valid_records}
 use Rattle.intent_journal.specs.Ring.{last_patches}
 
 abbrev pub is_listed_open : List Bool → ℕ → Bool
@@ -18,7 +18,7 @@ is_listed_open gates index = slice_index_or gates index false
 pub record IsListed (ps : List Patch) (listed : List Bool) (v : View) : Type 0 where
   pub patches : patches_of (open_records v.reads) ≡ ps
   pub valid : has_valid_records v.reads ≡ true
-  pub gates : (index : ℕ) → index < records → is_listed_open listed index ≡ is_open_gate v.reads index
+  pub gates : (index : ℕ) → index < records → is_listed_open listed index ≡ is_gate_open v.reads index
   pub journal_firm : (n : ℕ) → is_journal n ≡ true → v.loose n ≡ false
 
 abbrev pub one_if : Bool → ℕ

@@ -3,7 +3,8 @@ use Rattle.std.specs.Prelude.{ℕ, ◌+◌, ◌-◌, ◌*◌, ◌&&◌, nat_le, 
 use Rattle.std.specs.List.{list_all, range_with_len}
 use Rattle.byteorder.specs.Endian.{little_from, little_bytes}
 use Rattle.image_layout.specs.Ring.{bodies}
-use Rattle.intent_journal.specs.Homes.{is_lawful_home, is_distinct}
+use Rattle.tsd_model.specs.World.{are_apart}
+use Rattle.intent_journal.specs.Homes.{is_lawful_home}
 
 -- the first number: how many homes follow it
 abbrev pub count_in : List ℕ → ℕ
@@ -21,7 +22,7 @@ abbrev pub is_valid : ℕ → List ℕ → Bool
 is_valid start bytes =
     nat_le 1 (count_in bytes)
     && nat_le (start + count_in bytes) bodies
-    && is_distinct (homes_in bytes)
+    && are_apart (homes_in bytes)
     && list_all is_lawful_home (homes_in bytes)
 
 -- what is written for these homes

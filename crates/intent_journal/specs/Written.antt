@@ -6,7 +6,7 @@ use Rattle.image_layout.specs.Ring.{records, gate_sector, descriptor_sector}
 use Rattle.image_layout.specs.declared.offset.Patch.{Patch}
 use Rattle.intent_journal.specs.Batch.{homes_of}
 use Rattle.intent_journal.specs.Descriptor.{descriptor_bytes}
-use Rattle.intent_journal.specs.Records.{is_open_gate}
+use Rattle.intent_journal.specs.Records.{is_gate_open}
 
 -- a record as it is written: an open gate, and a descriptor with zeros behind its homes
 pub record IsRecordWritten (index : ℕ) (batch : List Patch) (image : Image) : Type 0 where
@@ -17,4 +17,4 @@ pub record IsRecordWritten (index : ℕ) (batch : List Patch) (image : Image) : 
 abbrev pub ClosesGates : Image → Image → Type 0
 ClosesGates old new =
     (index : ℕ) → index < records → new (gate_sector index)
-    ≡ cond (is_open_gate old index) (gate_bytes false) (old (gate_sector index))
+    ≡ cond (is_gate_open old index) (gate_bytes false) (old (gate_sector index))

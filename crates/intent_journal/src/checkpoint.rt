@@ -9,7 +9,7 @@ ghost use Rattle.image_layout.specs.Image.{gate_bytes};
 ghost use Rattle.image_layout.specs.Ring.{records, bodies, gate_sector};
 ghost use Rattle.intent_journal.specs.Batch.{has_home};
 ghost use Rattle.intent_journal.specs.Home.{home, overlaid, is_journal, AgreeBut};
-ghost use Rattle.intent_journal.specs.Records.{is_open_gate};
+ghost use Rattle.intent_journal.specs.Records.{is_gate_open};
 ghost use Rattle.intent_journal.specs.Ring.{IsRingAt, last_patches, checkpoint_writes};
 ghost use Rattle.intent_journal.specs.Closing.{IsListed, IsPutUnlessLater, ClosesLaterGates, is_listed_open};
 ghost use Rattle.intent_journal.specs.Closing.{one_if, later_open, closing_writes};
@@ -156,8 +156,8 @@ fn write_if_last<D: Device>(dev: &mut D, patch: &Patch, later: &[Patch]) -> Resu
 /// Closes gate 0 where it is open, and waits until that is on the disk.
 #[tactic(auto, using(image_device::proofs::Confined::confined_calls))]
 fn close_first_gate<D: Device>(dev: &mut D, is_open: bool) -> Result<(), Failed>
-    requires { D.told → is_open ≡ is_open_gate (D.view dev.old).reads 0 }
-    ensures closed { D.told → OnOk result (is_open_gate (D.view dev.new).reads 0 ≡ false) }
+    requires { D.told → is_open ≡ is_gate_open (D.view dev.old).reads 0 }
+    ensures closed { D.told → OnOk result (is_gate_open (D.view dev.new).reads 0 ≡ false) }
     ensures written { D.told → OnOk result ((D.view dev.new).reads (gate_sector 0) ≡ cond is_open (gate_bytes false)
         ((D.view dev.old).reads (gate_sector 0))) }
     ensures firm { D.told → OnOk result (IsFirm (D.view dev.new)) }
@@ -173,9 +173,9 @@ fn close_first_gate<D: Device>(dev: &mut D, is_open: bool) -> Result<(), Failed>
 #[tactic(auto, using(image_device::proofs::Confined::confined_calls))]
 fn close_later_gates<D: Device>(dev: &mut D, gates: &Gates) -> Result<(), Failed>
     requires { D.told → (index : ℕ) → 0 < index → index < records → is_listed_open gates.now index
-        ≡ is_open_gate (D.view dev.old).reads index }
+        ≡ is_gate_open (D.view dev.old).reads index }
     ensures closed { D.told → OnOk result ((index : ℕ) → 0 < index → index < records
-        → is_open_gate (D.view dev.new).reads index ≡ false) }
+        → is_gate_open (D.view dev.new).reads index ≡ false) }
     ensures written { D.told → OnOk result (ClosesLaterGates gates.now (D.view dev.old).reads (D.view dev.new).reads) }
     ensures firm { D.told → OnOk result (IsFirm (D.view dev.new)) }
     ensures confined { D.told → IsConfined (λ n. nat_le 117 n && nat_le n 129) (D.view dev.old) (D.view dev.new) }
@@ -192,8 +192,8 @@ fn close_later_gates<D: Device>(dev: &mut D, gates: &Gates) -> Result<(), Failed
 #[tactic(auto, using(image_device::proofs::Confined::confined_calls))]
 fn close_gate<D: Device>(dev: &mut D, index: u32, is_open: bool) -> Result<(), Failed>
     requires record { index < records }
-    requires listed { D.told → is_open ≡ is_open_gate (D.view dev.old).reads index }
-    ensures closed { D.told → OnOk result (is_open_gate (D.view dev.new).reads index ≡ false) }
+    requires listed { D.told → is_open ≡ is_gate_open (D.view dev.old).reads index }
+    ensures closed { D.told → OnOk result (is_gate_open (D.view dev.new).reads index ≡ false) }
     ensures written { D.told → OnOk result ((D.view dev.new).reads (gate_sector index)
         ≡ cond is_open (gate_bytes false) ((D.view dev.old).reads (gate_sector index))) }
     ensures confined { D.told → IsConfined (λ n. is_open && (n == gate_sector index)) (D.view dev.old)

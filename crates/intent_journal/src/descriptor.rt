@@ -12,7 +12,8 @@ ghost use Rattle.std.specs.Prelude.{MatchOption};
 ghost use Rattle.std.specs.List.{list_all, range_with_len};
 ghost use Rattle.byteorder.specs.Endian.{little_from, little_bytes};
 ghost use Rattle.image_layout.specs.Ring.{bodies};
-ghost use Rattle.intent_journal.specs.Homes.{is_distinct, is_lawful_home};
+ghost use Rattle.tsd_model.specs.World.{are_apart};
+ghost use Rattle.intent_journal.specs.Homes.{is_lawful_home};
 ghost use Rattle.intent_journal.specs.Batch.{homes_of};
 ghost use Rattle.intent_journal.specs.Descriptor.{home_in, homes_in, is_valid, descriptor_bytes};
 
@@ -97,7 +98,7 @@ fn first_homes(sector: &[u8; SECTOR_BYTES], count: u32) -> ArrayVec<u32, MOST_HO
 
 /// Whether no home comes twice.
 fn are_distinct(homes: &[u32]) -> bool
-    ensures { result ≡ is_distinct homes.now }
+    ensures { result ≡ are_apart homes.now }
 {
     for (index, home) in homes.iter().enumerate() {
         if homes[index + 1..].contains(home) {

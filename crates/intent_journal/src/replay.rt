@@ -9,7 +9,7 @@ ghost use Rattle.image_device.specs.Runs.{IsFirm, LeavesOnly};
 ghost use Rattle.image_layout.specs.Ring.{records, bodies, gate_sector, body_sector};
 ghost use Rattle.intent_journal.specs.Descriptor.{is_valid};
 ghost use Rattle.intent_journal.specs.Home.{home, is_journal, AgreeBut};
-ghost use Rattle.intent_journal.specs.Records.{patches_of, open_records, is_open_gate, descriptor_of};
+ghost use Rattle.intent_journal.specs.Records.{patches_of, open_records, is_gate_open, descriptor_of};
 ghost use Rattle.intent_journal.specs.Records.{has_valid_records, bodied, AddsRecord, HasHomes, IsBadRecord};
 ghost use Rattle.intent_journal.specs.Ring.{IsRingAt, IsReplayFound, distinct_homes, replay_writes};
 ghost use Rattle.intent_journal.specs.Closing.{is_listed_open};
@@ -22,7 +22,7 @@ use crate::patches::PatchList;
 use crate::ring::{RECORD_PLACES, ReplayFault, Replayed, Ring, read_over};
 use arrayvec::ArrayVec;
 use image_device::{Device, Failed};
-use image_layout::gate::is_open;
+use image_layout::gate::says_open;
 use image_layout::ring::{RECORDS, body_sector, descriptor_sector, gate_sector};
 
 impl Ring {
@@ -177,7 +177,7 @@ fn read_record<D: Device>(
 ) -> Result<bool, ReplayFault>
     requires { index < records }
     ensures closed { D.told → IfOk result (λ more. more ≡ false
-        → (is_open_gate (D.view dev.old).reads index ≡ false) × (patches.new ≡ patches.old)) }
+        → (is_gate_open (D.view dev.old).reads index ≡ false) × (patches.new ≡ patches.old)) }
     ensures more { D.told → IfOk result (λ more. more ≡ true
         → AddsRecord (D.view dev.old).reads index patches.old patches.new) }
     ensures bad { D.told → IsErrOf result ReplayFault.BadDescriptor
@@ -240,21 +240,21 @@ fn read_bodies<D: Device>(dev: &mut D, homes: &[u32], patches: &mut PatchList) -
 #[tactic(auto, using(image_device::proofs::Resting::rests_calls))]
 fn is_gate_open<D: Device>(dev: &mut D, index: u32) -> Result<bool, Failed>
     requires { index < records }
-    ensures gate { D.told → IfOk result (λ b. b ≡ is_open_gate (D.view dev.old).reads index) }
+    ensures gate { D.told → IfOk result (λ b. b ≡ is_gate_open (D.view dev.old).reads index) }
     ensures rests { D.told → Rests (D.view dev.old) (D.view dev.new) }
     ensures uses { Uses 0 (D.view dev.old) (D.view dev.new) }
     ensures faults { CountsFault result (D.view dev.old).faults (D.view dev.new).faults }
 {
     let mut gate = [0; 512];
     dev.read(gate_sector(index), &mut gate)?;
-    Ok(is_open(&gate))
+    Ok(says_open(&gate))
 }
 
 /// Reads which gates are open, also those behind a closed one.
 #[tactic(auto, using(image_device::proofs::Resting::rests_calls))]
 fn read_gates<D: Device>(dev: &mut D) -> Result<Gates, Failed>
     ensures gates { D.told → IfOk result (λ gates. (index : ℕ) → index < records → is_listed_open gates index
-        ≡ is_open_gate (D.view dev.old).reads index) }
+        ≡ is_gate_open (D.view dev.old).reads index) }
     ensures rests { D.told → Rests (D.view dev.old) (D.view dev.new) }
     ensures uses { Uses 0 (D.view dev.old) (D.view dev.new) }
     ensures faults { CountsFault result (D.view dev.old).faults (D.view dev.new).faults }

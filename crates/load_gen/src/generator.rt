@@ -2,7 +2,7 @@
 
 ghost use Rattle.std.specs.Prelude.{◌≡◌, ◌+◌, ◌<◌, ◌≤◌};
 ghost use Rattle.tsd_model.specs.Geometry.{IsLawful};
-ghost use Rattle.load_gen.specs.Load.{load_of, next_of};
+ghost use Rattle.load_gen.specs.Load.{load_after, next_request};
 
 use crate::asked::{SESSION, request_of_words};
 use cap_store::seed_caps;
@@ -39,10 +39,10 @@ pub struct LoadGen {
 }
 
 impl Model for LoadGen {
-    ghost use Rattle.load_gen.specs.Load.{Load};
+    ghost use Rattle.load_gen.specs.Load.{Generator};
     ghost use Rattle.load_gen.specs.Words.{StandsAtRequest};
 
-    ghost Value = { Load };
+    ghost Value = { Generator };
 
     ghost view = { λ g. record { key = g.words.key; pairs = g.caps; geometry = g.geometry; drawn = g.drawn } };
 
@@ -53,7 +53,7 @@ impl LoadGen {
     /// The generator of a seed and a size, which has drawn nothing.
     pub fn new(seed: &[u8; 32], geometry: &Geometry) -> LoadGen
         requires { IsLawful geometry.now }
-        ensures { result ≡ load_of seed.now geometry.now 0 }
+        ensures { result ≡ load_after seed.now geometry.now 0 }
     {
         let mut words = ChaCha20Rng::from_seed(*seed);
         words.set_word_pos(CAP_WORDS);
@@ -76,7 +76,7 @@ impl LoadGen {
     /// Draws the next request.
     pub fn next_request(&mut self) -> Request
         requires { self.old.drawn < DRAWS_MAX }
-        ensures request { result ≡ next_of self.old }
+        ensures request { result ≡ next_request self.old }
         ensures drawn { self.new ≡ record self.old { drawn = self.old.drawn + 1 } }
     {
         let number = self.drawn;

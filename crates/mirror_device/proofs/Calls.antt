@@ -9,8 +9,8 @@ use Rattle.image_device.specs.Image.{put_at}
 use Rattle.image_device.proofs.Sets.{or_false_right}
 use Rattle.mirror_device.specs.declared.side.Side.{Side}
 use Rattle.mirror_device.specs.declared.side.Side.TheVariants.{First, Second}
-use Rattle.mirror_device.specs.declared.entry.Entry.{Entry}
-use Rattle.mirror_device.specs.declared.entry.Entry.TheVariants.{Write, Sync, Put, Poke}
+use Rattle.mirror_device.specs.declared.entry.LogEntry.{LogEntry}
+use Rattle.mirror_device.specs.declared.entry.LogEntry.TheVariants.{Write, Sync, Put, Poke}
 use Rattle.mirror_device.specs.SidesView.{SidesView, Item, side_of, other, IsItemNow, IsItemWithin, IsItemInPut}
 use Rattle.mirror_device.specs.SideCalls.{SidesElapse, SideRests, SideTouches, SideSettles, SidesAppend, IncludesPut, SideUses, SideSyncs, SidesPut, IsSideFirm}
 use Rattle.mirror_device.specs.History.{begun, step, after, IsNow, IsDuring, history_view}
@@ -24,7 +24,7 @@ is_same : (sector : ℕ) → (sector == sector) ≡ true
 is_same sector = grind (arith, nat_tests)
 
 -- a call that changed nothing
-pub rests_none : (side : Side) (es new : List Entry) (p p' : ℕ) → new ≡ es → SideRests side (history_view es p) (history_view new p')
+pub rests_none : (side : Side) (es new : List LogEntry) (p p' : ℕ) → new ≡ es → SideRests side (history_view es p) (history_view new p')
 rests_none First es new p p' is = subst (λ l. SideRests First (history_view es p) (history_view l p')) (sym is) (record { reads = refl; loose = refl; others = refl; sent = refl; time = elapses_same es p p' (IsItemNow (history_view es p)) })
 rests_none Second es new p p' is = subst (λ l. SideRests Second (history_view es p) (history_view l p')) (sym is) (record { reads = refl; loose = refl; others = refl; sent = refl; time = elapses_same es p p' (IsItemNow (history_view es p)) })
 
@@ -61,7 +61,7 @@ pub syncs_uses : (side : Side) (old new : SidesView) → SideUses side old new �
 syncs_uses side old new u = record { clock = u.clock; faults = u.faults; syncs = omega (arith, u.syncs); other_faults = u.other_faults; other_syncs = u.other_syncs; put_faults = u.put_faults }
 
 -- a write that is done
-module _ (es : List Entry) (p : ℕ) (sector : ℕ) (box : Box (List ℕ)) where
+module _ (es : List LogEntry) (p : ℕ) (sector : ℕ) (box : Box (List ℕ)) where
   written_at : (side : Side) → (side_of side (history_view (es ++ Write side sector box ∷ []) p)).reads sector ≡ box.value
   written_at First = ap (λ z. z.first.reads sector) (after_push es begun (Write First sector box)) ∙ ap (λ t. cond t box.value ((after es begun).first.reads sector)) (is_same sector)
   written_at Second = ap (λ z. z.second.reads sector) (after_push es begun (Write Second sector box)) ∙ ap (λ t. cond t box.value ((after es begun).second.reads sector)) (is_same sector)
@@ -124,7 +124,7 @@ module _ (es : List Entry) (p : ℕ) (sector : ℕ) (box : Box (List ℕ)) where
   fine_at First = ap (λ z. z.first.faults) (after_push es begun (Write First sector box))
   fine_at Second = ap (λ z. z.second.faults) (after_push es begun (Write Second sector box))
 
-  module _ (side : Side) (new : List Entry) (p' : ℕ) (is : new ≡ es ++ Write side sector box ∷ []) (count : p' ≡ p) where
+  module _ (side : Side) (new : List LogEntry) (p' : ℕ) (is : new ≡ es ++ Write side sector box ∷ []) (count : p' ≡ p) where
     moved : (P : SidesView → Type 0) → P (history_view (es ++ Write side sector box ∷ []) p) → P (history_view new p')
     moved P done = subst (λ q. P (history_view new q)) (sym count) (subst (λ l. P (history_view l p)) (sym is) done)
 
@@ -144,7 +144,7 @@ module _ (es : List Entry) (p : ℕ) (sector : ℕ) (box : Box (List ℕ)) where
     write_fine = moved (λ v. (side_of side v).faults ≡ (side_of side (history_view es p)).faults) (fine_at side)
 
 -- a sync that is done
-module _ (es : List Entry) (p : ℕ) where
+module _ (es : List LogEntry) (p : ℕ) where
   is_now : (i : Item) → IsNow (after es begun) i → IsItemNow (history_view es p) i
   is_now i now = record { first = now.first; second = now.second; sent = now.sent }
 
@@ -194,7 +194,7 @@ module _ (es : List Entry) (p : ℕ) where
   sync_fine_at First = ap (λ z. z.first.faults) (after_push es begun (Sync First))
   sync_fine_at Second = ap (λ z. z.second.faults) (after_push es begun (Sync Second))
 
-  module _ (side : Side) (new : List Entry) (p' : ℕ) (is : new ≡ es ++ Sync side ∷ []) (count : p' ≡ p) where
+  module _ (side : Side) (new : List LogEntry) (p' : ℕ) (is : new ≡ es ++ Sync side ∷ []) (count : p' ≡ p) where
     synced_to : (P : SidesView → Type 0) → P (history_view (es ++ Sync side ∷ []) p) → P (history_view new p')
     synced_to P done = subst (λ q. P (history_view new q)) (sym count) (subst (λ l. P (history_view l p)) (sym is) done)
 
@@ -214,7 +214,7 @@ module _ (es : List Entry) (p : ℕ) where
     sync_fine = synced_to (λ v. (side_of side v).faults ≡ (side_of side (history_view es p)).faults) (sync_fine_at side)
 
 -- a put that is done
-module _ (es : List Entry) (p : ℕ) (text : Vec ℕ) where
+module _ (es : List LogEntry) (p : ℕ) (text : Vec ℕ) where
   append_begins : (i : Item) → IsNow (after es begun) i → IsDuring (after es begun) (Put text) i
   append_begins i now = record { first = now.first; second = now.second; sent = record { front = []; back = text.items; sent = now.sent ∙ sym (append-nil (after es begun).sent); whole = refl } }
 
@@ -231,7 +231,7 @@ module _ (es : List Entry) (p : ℕ) (text : Vec ℕ) where
   includes_at : IncludesPut text.items (history_view es p) (history_view (es ++ Put text ∷ []) p)
   includes_at t i le during = inside t es begun (Put text) i le (record { first = during.first; second = during.second; sent = during.sent })
 
-  module _ (piece : List ℕ) (same : text.items ≡ piece) (new : List Entry) (p' : ℕ) (is : new ≡ es ++ Put text ∷ []) (count : p' ≡ p) where
+  module _ (piece : List ℕ) (same : text.items ≡ piece) (new : List LogEntry) (p' : ℕ) (is : new ≡ es ++ Put text ∷ []) (count : p' ≡ p) where
     put_to : (P : List ℕ → SidesView → Type 0) → P text.items (history_view (es ++ Put text ∷ []) p) → P piece (history_view new p')
     put_to P done = subst (λ q. P piece (history_view new q)) (sym count) (subst (λ x. P x (history_view new p)) same (subst (λ l. P text.items (history_view l p)) (sym is) done))
 
@@ -255,15 +255,15 @@ module _ (es : List Entry) (p : ℕ) (text : Vec ℕ) where
     })
 
 -- a put that failed
-pub appends_not : (es new : List Entry) (p p' : ℕ) (piece : List ℕ) → new ≡ es → SidesAppend piece (history_view es p) (history_view new p')
+pub appends_not : (es new : List LogEntry) (p p' : ℕ) (piece : List ℕ) → new ≡ es → SidesAppend piece (history_view es p) (history_view new p')
 appends_not es new p p' piece is = subst (λ l. SidesAppend piece (history_view es p) (history_view l p')) (sym is) (record { first = refl; second = refl; time = elapses_same es p p' (IsItemInPut piece (history_view es p)) })
 
-pub puts_not : (es new : List Entry) (p p' : ℕ) → new ≡ es → p ≤ p' → SidesPut (history_view es p) (history_view new p')
+pub puts_not : (es new : List LogEntry) (p p' : ℕ) → new ≡ es → p ≤ p' → SidesPut (history_view es p) (history_view new p')
 puts_not es new p p' is le = subst (λ l. SidesPut (history_view es p) (history_view l p')) (sym is)
     (record { clock = omega arith; first_faults = refl; first_syncs = refl; second_faults = refl; second_syncs = refl; put_faults = le })
 
 -- a poke that is done
-module _ (es : List Entry) (p : ℕ) (sector : ℕ) (box : Box (List ℕ)) where
+module _ (es : List LogEntry) (p : ℕ) (sector : ℕ) (box : Box (List ℕ)) where
   pokes_at : (side : Side) → SidesElapse (history_view es p) (history_view (es ++ Poke side sector box ∷ []) p) (IsItemNow (history_view es p))
   pokes_at side = elapses_push es p p (Poke side sector box) (IsItemNow (history_view es p)) (λ i now. now) (is_now es p)
 
@@ -291,7 +291,7 @@ module _ (es : List Entry) (p : ℕ) (sector : ℕ) (box : Box (List ℕ)) where
   sent_on First = refl
   sent_on Second = refl
 
-  module _ (side : Side) (new : List Entry) (p' : ℕ) (is : new ≡ es ++ Poke side sector box ∷ []) (count : p' ≡ p) where
+  module _ (side : Side) (new : List LogEntry) (p' : ℕ) (is : new ≡ es ++ Poke side sector box ∷ []) (count : p' ≡ p) where
     poked_to : (P : SidesView → Type 0) → P (history_view (es ++ Poke side sector box ∷ []) p) → P (history_view new p')
     poked_to P done = subst (λ q. P (history_view new q)) (sym count) (subst (λ l. P (history_view l p)) (sym is) done)
 

@@ -2,8 +2,8 @@
 use Rattle.std.specs.Prelude.{ℕ, suc, zero, ◌-◌, ◌^◌, ◌==◌, ◌⊎◌, List, [], ◌∷◌, ◌++◌, length}
 use Rattle.mirror_device.specs.declared.side.Side.{Side}
 use Rattle.mirror_device.specs.declared.side.Side.TheVariants.{First, Second}
-use Rattle.mirror_device.specs.declared.entry.Entry.{Entry}
-use Rattle.mirror_device.specs.declared.entry.Entry.TheVariants.{Write, Sync, Put, Poke, Fail}
+use Rattle.mirror_device.specs.declared.entry.LogEntry.{LogEntry}
+use Rattle.mirror_device.specs.declared.entry.LogEntry.TheVariants.{Write, Sync, Put, Poke, Fail}
 use Rattle.mirror_device.specs.declared.entry.Lapse.{Lapse}
 use Rattle.mirror_device.specs.declared.entry.Lapse.TheVariants.{Never, Of, OfBoth}
 use Rattle.mirror_device.specs.SidesView.{SideView, SidesView, Item, other, IsItemNow, IsItemWithin, IsItemInPut}
@@ -29,7 +29,7 @@ abbrev pub appended : List ℕ → Stand → Stand
 appended piece s = record { first = s.first; second = s.second; sent = s.sent ++ piece }
 
 -- one entry
-abbrev pub step : Stand → Entry → Stand
+abbrev pub step : Stand → LogEntry → Stand
 step s (Write side sector bytes) = on side (written sector bytes.value) s
 step s (Sync side) = on side settled s
 step s (Put piece) = appended piece.items s
@@ -37,7 +37,7 @@ step s (Poke side sector bytes) = on side (poked sector bytes.value) s
 step s (Fail side faults) = on side (blamed faults) s
 
 -- all of them
-abbrev pub after : List Entry → Stand → Stand
+abbrev pub after : List LogEntry → Stand → Stand
 after [] s = s
 after (e ∷ es) s = after es (step s e)
 
@@ -57,7 +57,7 @@ abbrev pub IsNow : Stand → Item → Type 0
 IsNow s i = IsItemNow (still s) i
 
 -- what a crash inside an entry leaves
-abbrev pub IsDuring : Stand → Entry → Item → Type 0
+abbrev pub IsDuring : Stand → LogEntry → Item → Type 0
 IsDuring s (Write side sector bytes) i = IsItemWithin side (λ n. n == sector) (still s) i
 IsDuring s (Sync side) i = IsNow s i
 IsDuring s (Put piece) i = IsItemInPut piece.items (still s) i
@@ -65,28 +65,28 @@ IsDuring s (Poke side sector bytes) i = IsNow s i
 IsDuring s (Fail side faults) i = IsNow s i
 
 -- what a crash at some moment leaves
-abbrev pub Had : List Entry → Stand → Item → Type 0
+abbrev pub Had : List LogEntry → Stand → Item → Type 0
 Had [] s i = IsNow s i
 Had (e ∷ es) s i = IsDuring s e i ⊎ Had es (step s e) i
 
 -- the same from a moment on, where each entry is one moment
-abbrev pub HadSince : ℕ → List Entry → Stand → Item → Type 0
+abbrev pub HadSince : ℕ → List LogEntry → Stand → Item → Type 0
 HadSince zero es s i = Had es s i
 HadSince (suc t) [] s i = IsNow s i
 HadSince (suc t) (e ∷ es) s i = HadSince t es (step s e) i
 
 -- the failed call for which the record had no room
-abbrev pub lapse_of : Side → Entry
+abbrev pub lapse_of : Side → LogEntry
 lapse_of side = Fail side (2 ^ 64 - 1)
 
 -- all that was done: the record, and the failed calls for which it had no room
-abbrev pub with_lapse : List Entry → Lapse → List Entry
+abbrev pub with_lapse : List LogEntry → Lapse → List LogEntry
 with_lapse log Never = log
 with_lapse log (Of side) = log ++ lapse_of side ∷ []
 with_lapse log (OfBoth side) = (log ++ lapse_of side ∷ []) ++ lapse_of (other side) ∷ []
 
 -- what a list of entries says of two images, with the count of failed puts
-abbrev pub history_view : List Entry → ℕ → SidesView
+abbrev pub history_view : List LogEntry → ℕ → SidesView
 history_view es put_faults = record {
   first = (after es begun).first;
   second = (after es begun).second;

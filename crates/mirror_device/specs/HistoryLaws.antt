@@ -3,25 +3,25 @@ use Rattle.std.proofs.Common.{inl, inr, ℕ, zero, suc, ◌-◌, ◌^◌, ◌≤
 use Rattle.image_device.specs.Image.{IsImage}
 use Rattle.image_device.specs.MemStation.{station_sound}
 use Rattle.mirror_device.specs.declared.side.Side.TheVariants.{First, Second}
-use Rattle.mirror_device.specs.declared.entry.Entry.{Entry}
-use Rattle.mirror_device.specs.declared.entry.Entry.TheVariants.{Write, Sync, Put, Poke, Fail}
+use Rattle.mirror_device.specs.declared.entry.LogEntry.{LogEntry}
+use Rattle.mirror_device.specs.declared.entry.LogEntry.TheVariants.{Write, Sync, Put, Poke, Fail}
 use Rattle.mirror_device.specs.declared.pair.Pair.{Pair}
 use Rattle.mirror_device.specs.SidesView.{Item, SidesAreSound, HasCountsUpTo}
 use Rattle.mirror_device.specs.History.{Stand, begun, step, after, still, IsNow, IsDuring, Had, HadSince, history_view}
 use Rattle.mirror_device.specs.Pair.{pair_view}
 
-had_now : (es : List Entry) (s : Stand) (i : Item) → IsNow (after es s) i → Had es s i
+had_now : (es : List LogEntry) (s : Stand) (i : Item) → IsNow (after es s) i → Had es s i
 had_now [] s i now = now
 had_now (e ∷ es) s i now = inr (had_now es (step s e) i now)
 
 -- what is left now was left since any moment
-counts_now : (t : ℕ) (es : List Entry) (s : Stand) (i : Item) → IsNow (after es s) i → HadSince t es s i
+counts_now : (t : ℕ) (es : List LogEntry) (s : Stand) (i : Item) → IsNow (after es s) i → HadSince t es s i
 counts_now zero es s i now = had_now es s i now
 counts_now (suc t) [] s i now = now
 counts_now (suc t) (e ∷ es) s i now = counts_now t es (step s e) i now
 
 -- since now nothing else is left
-only_now : (es : List Entry) (s : Stand) (i : Item) → HadSince (length es) es s i → IsNow (after es s) i
+only_now : (es : List LogEntry) (s : Stand) (i : Item) → HadSince (length es) es s i → IsNow (after es s) i
 only_now [] s i had = had
 only_now (e ∷ es) s i had = only_now es (step s e) i had
 
@@ -31,13 +31,13 @@ pub record IsBounded (s : Stand) : Type 0 where
   pub second : s.second.syncs ≤ 2 ^ 64 - 1
 
 -- no count is below what it was
-record Grows (a b : Stand) : Type 0 where
+record CountsGrow (a b : Stand) : Type 0 where
   first_faults : a.first.faults ≤ b.first.faults
   first_syncs : a.first.syncs ≤ b.first.syncs
   second_faults : a.second.faults ≤ b.second.faults
   second_syncs : a.second.syncs ≤ b.second.syncs
 
-step_bounded : (s : Stand) (e : Entry) → IsBounded s → IsBounded (step s e)
+step_bounded : (s : Stand) (e : LogEntry) → IsBounded s → IsBounded (step s e)
 step_bounded s (Write First sector bytes) b = record { first = b.first; second = b.second }
 step_bounded s (Write Second sector bytes) b = record { first = b.first; second = b.second }
 step_bounded s (Sync First) b = record { first = omega arith; second = b.second }
@@ -48,11 +48,11 @@ step_bounded s (Poke Second sector bytes) b = record { first = b.first; second =
 step_bounded s (Fail First faults) b = record { first = b.first; second = b.second }
 step_bounded s (Fail Second faults) b = record { first = b.first; second = b.second }
 
-after_bounded : (es : List Entry) (s : Stand) → IsBounded s → IsBounded (after es s)
+after_bounded : (es : List LogEntry) (s : Stand) → IsBounded s → IsBounded (after es s)
 after_bounded [] s b = b
 after_bounded (e ∷ es) s b = after_bounded es (step s e) (step_bounded s e b)
 
-step_grows : (s : Stand) (e : Entry) → IsBounded s → Grows s (step s e)
+step_grows : (s : Stand) (e : LogEntry) → IsBounded s → CountsGrow s (step s e)
 step_grows s (Write First sector bytes) b = record {
   first_faults = omega arith;
   first_syncs = omega arith;
@@ -109,7 +109,7 @@ step_grows s (Fail Second faults) b = record {
 }
 
 -- an item whose counts are at most those of some moment, at a later one
-counted_later : (a b : Stand) (i : Item) → Grows a b → HasCountsUpTo (still a) i → HasCountsUpTo (still b) i
+counted_later : (a b : Stand) (i : Item) → CountsGrow a b → HasCountsUpTo (still a) i → HasCountsUpTo (still b) i
 counted_later a b i g c = record {
   first_faults = omega (arith, g.first_faults, c.first_faults);
   first_syncs = omega (arith, g.first_syncs, c.first_syncs);
@@ -117,7 +117,7 @@ counted_later a b i g c = record {
   second_syncs = omega (arith, g.second_syncs, c.second_syncs);
 }
 
-after_grows : (es : List Entry) (s : Stand) → IsBounded s → Grows s (after es s)
+after_grows : (es : List LogEntry) (s : Stand) → IsBounded s → CountsGrow s (after es s)
 after_grows [] s b = record {
   first_faults = omega arith;
   first_syncs = omega arith;
@@ -142,7 +142,7 @@ now_counted s i now = record {
   second_syncs = omega (arith, now.second.syncs);
 }
 
-during_counted : (s : Stand) (e : Entry) (i : Item) → IsDuring s e i → HasCountsUpTo (still s) i
+during_counted : (s : Stand) (e : LogEntry) (i : Item) → IsDuring s e i → HasCountsUpTo (still s) i
 during_counted s (Write First sector bytes) i here = record {
   first_faults = omega (arith, here.here.faults);
   first_syncs = omega (arith, here.here.syncs);
@@ -165,14 +165,15 @@ during_counted s (Put piece) i here = record {
 during_counted s (Poke side sector bytes) i now = now_counted s i now
 during_counted s (Fail side faults) i now = now_counted s i now
 
-had_counted : (es : List Entry) (s : Stand) (i : Item) → IsBounded s → Had es s i → HasCountsUpTo (still (after es s)) i
+had_counted : (es : List LogEntry) (s : Stand) (i : Item) → IsBounded s → Had es s i
+    → HasCountsUpTo (still (after es s)) i
 had_counted [] s i b now = now_counted s i now
 had_counted (e ∷ es) s i b (inl here) =
     counted_later s (after es (step s e)) i (after_grows (e ∷ es) s b) (during_counted s e i here)
 had_counted (e ∷ es) s i b (inr later) = had_counted es (step s e) i (step_bounded s e b) later
 
 -- counts never fell
-counted : (t : ℕ) (es : List Entry) (s : Stand) (i : Item) → IsBounded s → HadSince t es s i
+counted : (t : ℕ) (es : List LogEntry) (s : Stand) (i : Item) → IsBounded s → HadSince t es s i
     → HasCountsUpTo (still (after es s)) i
 counted zero es s i b had = had_counted es s i b had
 counted (suc t) [] s i b now = now_counted s i now
@@ -181,10 +182,10 @@ counted (suc t) (e ∷ es) s i b had = counted t es (step s e) i (step_bounded s
 begun_bounded : IsBounded begun
 begun_bounded = record { first = omega arith; second = omega arith }
 
-pub history_bounded : (es : List Entry) → IsBounded (after es begun)
+pub history_bounded : (es : List LogEntry) → IsBounded (after es begun)
 history_bounded es = after_bounded es begun begun_bounded
 
-pub history_sound : (es : List Entry) (put_faults : ℕ) (p : Pair) → after es begun ≡ pair_view p
+pub history_sound : (es : List LogEntry) (put_faults : ℕ) (p : Pair) → after es begun ≡ pair_view p
     → SidesAreSound (history_view es put_faults)
 history_sound es put_faults p agrees = record {
   counts_now = λ t i le now.

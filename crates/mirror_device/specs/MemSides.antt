@@ -2,14 +2,14 @@
 use Rattle.std.specs.Prelude.{ℕ, ◌≡◌, Bool, true, false, List, Result, OnOk, OnErr, IsErr}
 use Rattle.image_device.specs.Image.{Image}
 use Rattle.image_device.specs.Counts.{raised}
-use Rattle.mirror_device.specs.declared.entry.Entry.{Entry}
+use Rattle.mirror_device.specs.declared.entry.LogEntry.{LogEntry}
 use Rattle.mirror_device.specs.declared.entry.Lapse.TheVariants.{Never}
 use Rattle.mirror_device.specs.declared.mem_sides.MemSides.{MemSides}
 use Rattle.mirror_device.specs.declared.side.Side.{Side}
 use Rattle.mirror_device.specs.SidesView.{SidesView, SidesAreSound}
-use Rattle.mirror_device.specs.Numbers.{is_listed}
+use Rattle.mirror_device.specs.Numbers.{is_one_of}
 use Rattle.mirror_device.specs.Pair.{synced_on}
-use Rattle.mirror_device.specs.Twins.{entries_of, twins_view, twins_sound}
+use Rattle.mirror_device.specs.Twins.{log_entries, twins_view, twins_sound}
 
 abbrev pub mem_view : MemSides → SidesView
 mem_view m = twins_view m.twins
@@ -18,8 +18,8 @@ pub mem_sound : (m : MemSides) → SidesAreSound (mem_view m)
 mem_sound m = twins_sound m.twins
 
 -- all that was done
-abbrev pub done_of : MemSides → List Entry
-done_of m = entries_of m.twins
+abbrev pub done_of : MemSides → List LogEntry
+done_of m = log_entries m.twins
 
 -- the sectors of a side as its last sync held them
 abbrev pub synced_of : Side → MemSides → Image
@@ -37,7 +37,7 @@ short_of m = m.short
 
 -- the next call is one of those that are to fail
 abbrev pub is_failing : MemSides → Bool
-is_failing m = is_listed m.calls m.fail.items
+is_failing m = is_one_of m.calls m.fail.items
 
 -- Each failed call is in the record. One that isn't, for want of memory, has raised its side's count to the greatest
 -- u64.

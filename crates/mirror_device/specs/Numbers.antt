@@ -3,5 +3,5 @@ use Rattle.std.specs.List.{list_any}
 use Rattle.std.specs.Prelude.{ℕ, ◌==◌, Bool, List}
 
 -- the number is one of these
-abbrev pub is_listed : ℕ → List ℕ → Bool
-is_listed number numbers = list_any (λ n. n == number) numbers
+abbrev pub is_one_of : ℕ → List ℕ → Bool
+is_one_of number numbers = list_any (λ n. n == number) numbers

@@ -5,7 +5,7 @@ use crate::side::Side;
 use std::alloc::AllocError;
 
 #[derive(Drop)]
-pub(crate) enum Entry {
+pub(crate) enum LogEntry {
     Write {
         side: Side,
         sector: u32,
@@ -42,7 +42,7 @@ pub(crate) enum Lapse {
 }
 
 /// Makes room for one entry more in a record from which none is missing.
-pub(crate) fn make_room(log: &mut Vec<Entry>, lapse: Lapse) -> Result<(), AllocError>
+pub(crate) fn make_room(log: &mut Vec<LogEntry>, lapse: Lapse) -> Result<(), AllocError>
     ensures items { log.new.items ≡ log.old.items }
     ensures whole { OnOk result (lapse ≡ Lapse.Never) }
     ensures room { OnOk result (vec_len log.new < vec_capacity log.new) }
@@ -54,7 +54,7 @@ pub(crate) fn make_room(log: &mut Vec<Entry>, lapse: Lapse) -> Result<(), AllocE
 }
 
 /// Keeps an entry for which there is room.
-pub(crate) fn keep(log: &mut Vec<Entry>, entry: Entry)
+pub(crate) fn keep(log: &mut Vec<LogEntry>, entry: LogEntry)
     requires { vec_len log.old < vec_capacity log.old }
     ensures { log.new.items ≡ log.old.items ++ entry ∷ [] }
 {

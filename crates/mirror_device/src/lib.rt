@@ -24,5 +24,5 @@ mod twins;
 pub use mem_sides::MemSides;
 pub use mirror::Mirror;
 pub use ready::Began;
-pub use side::{Seen, Side};
+pub use side::{Side, SideCounts};
 pub use sides::Sides;

@@ -1,9 +1,9 @@
 // Two stations in memory whose calls are numbered together.
 ghost use Rattle.std.specs.Prelude.{◌≡◌};
 ghost use Rattle.image_device.specs.Counts.{raised, CountsFault};
-ghost use Rattle.mirror_device.specs.Numbers.{is_listed};
+ghost use Rattle.mirror_device.specs.Numbers.{is_one_of};
 
-use crate::side::{Seen, Side};
+use crate::side::{Side, SideCounts};
 use crate::sides::Sides;
 use crate::twins::Twins;
 use image_device::{Failed, MemStation, Pick};
@@ -12,7 +12,7 @@ use std::alloc::Global;
 /// Counts a call, and gives whether it is one of those that fail.
 fn is_failing(fail: &Vec<u64>, calls: &mut u64) -> bool
     ensures counted { calls.new ≡ raised calls.old }
-    ensures failing { result ≡ is_listed calls.old fail.now.items }
+    ensures failing { result ≡ is_one_of calls.old fail.now.items }
 {
     let number = *calls;
     *calls = number.saturating_add(1);
@@ -249,7 +249,7 @@ impl Sides for MemSides {
         Ok(self.twins.end(side))
     }
 
-    fn seen(&self, side: Side) -> Seen {
+    fn seen(&self, side: Side) -> SideCounts {
         self.twins.seen(side)
     }
 

@@ -2,7 +2,7 @@
 ghost use Rattle.std.specs.Prelude.{◌≡◌, ◌<◌};
 ghost use Rattle.mirror_device.specs.Mirror.{SidesReadAlike, LeftIsSound, NoneIsSound, CountsAgree};
 
-use crate::copy::{Copied, copy_all};
+use crate::copy::{CopyingEnd, copy_all};
 use crate::ready::{Began, Ready};
 use crate::side::{Serving, Side};
 use crate::sides::Sides;
@@ -75,9 +75,9 @@ impl<P: Sides, K: Began> Mirror<P, K> {
             return Ok(Mirror::begin(sides, Serving::First));
         }
         match copy_all(&mut sides) {
-            Copied::FirstFailed => Err(sides),
-            Copied::SecondFailed => Ok(Mirror::begin(sides, Serving::First)),
-            Copied::Whole => Ok(Mirror::begin(sides, Serving::Both)),
+            CopyingEnd::FirstFailed => Err(sides),
+            CopyingEnd::SecondFailed => Ok(Mirror::begin(sides, Serving::First)),
+            CopyingEnd::Whole => Ok(Mirror::begin(sides, Serving::Both)),
         }
     }
 

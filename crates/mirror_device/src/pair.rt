@@ -1,6 +1,6 @@
 // Two stations in memory and the bytes put, without a record of what was done to them.
 use crate::mem_side::MemSide;
-use crate::side::{Seen, Side};
+use crate::side::{Side, SideCounts};
 use image_device::{Failed, MemStation, Pick};
 use std::alloc::{AllocError, Global};
 
@@ -105,7 +105,7 @@ impl Pair {
     }
 
     /// Both counts of a side.
-    pub(crate) fn seen(&self, side: Side) -> Seen
+    pub(crate) fn seen(&self, side: Side) -> SideCounts
         ensures faults { result.faults ≡ (side_of side (still (pair_view self.now))).faults }
         ensures syncs { result.syncs ≡ (side_of side (still (pair_view self.now))).syncs }
     {
@@ -113,7 +113,7 @@ impl Pair {
             Side::First => &self.first,
             Side::Second => &self.second,
         };
-        Seen {
+        SideCounts {
             faults: on.faults,
             syncs: on.syncs,
         }

@@ -3,7 +3,7 @@ ghost use Rattle.std.specs.Prelude.{[]};
 ghost use Rattle.mirror_device.specs.Mirror.{Start};
 ghost use Rattle.mirror_device.specs.Sending.{SendsLate};
 
-use crate::side::{Seen, Side};
+use crate::side::{Side, SideCounts};
 use crate::sides::Sides;
 use image_device::{Failed, WorkDone};
 use std::marker::{Brand, PhantomData};
@@ -48,7 +48,7 @@ impl<P: Sides, K: Began> Sides for Ready<P, K> {
         self.sides.end(side)
     }
 
-    fn seen(&self, side: Side) -> Seen {
+    fn seen(&self, side: Side) -> SideCounts {
         self.sides.seen(side)
     }
 

@@ -7,7 +7,7 @@ ghost use Rattle.mirror_device.specs.SidesView.{side_of, SidesAreSound, SidesVie
 ghost use Rattle.mirror_device.specs.SideCalls.{IncludesPut, IsSideFirm, SideRests, SideSettles, SideSyncs};
 ghost use Rattle.mirror_device.specs.SideCalls.{SidesAppend, SidesPut, SideTouches, SideUses};
 
-use crate::side::{Seen, Side};
+use crate::side::{Side, SideCounts};
 use image_device::{Failed, WorkDone};
 
 /// Two disks of sectors of 512 bytes, with a port beside them, under one clock. A call on one side
@@ -66,7 +66,7 @@ pub trait Sides {
             (side_of side (view self.new)).faults };
 
     /// Both counts of a side.
-    fn seen(&self, side: Side) -> Seen
+    fn seen(&self, side: Side) -> SideCounts
         ensures faults { result.faults ≡ (side_of side (view self.now)).faults }
         ensures syncs { result.syncs ≡ (side_of side (view self.now)).syncs };
 
@@ -117,7 +117,7 @@ impl<P: Sides> Sides for &mut P {
         (**self).end(side)
     }
 
-    fn seen(&self, side: Side) -> Seen {
+    fn seen(&self, side: Side) -> SideCounts {
         (**self).seen(side)
     }
 

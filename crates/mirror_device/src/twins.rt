@@ -3,9 +3,9 @@ ghost use Rattle.std.specs.Prelude.{◌≡◌};
 ghost use Rattle.mirror_device.specs.History.{after, begun, with_lapse};
 ghost use Rattle.mirror_device.specs.Pair.{pair_view};
 
-use crate::entry::{Entry, Lapse, keep, make_room};
+use crate::entry::{Lapse, LogEntry, keep, make_room};
 use crate::pair::Pair;
-use crate::side::{Seen, Side};
+use crate::side::{Side, SideCounts};
 use image_device::{MemStation, Pick};
 use std::alloc::{AllocError, Global};
 
@@ -16,7 +16,7 @@ pub(crate) struct Twins {
     alloc: Global,
     pub(crate) pair: Pair,
     /// All that was done, the oldest first.
-    log: Vec<Entry>,
+    log: Vec<LogEntry>,
     lapse: Lapse,
     put_faults: u64,
     ghost agrees: { after (with_lapse log.items lapse) begun ≡ pair_view pair },
@@ -27,15 +27,15 @@ impl Twins {
     ghost use Rattle.image_device.specs.Image.{put_at, zeros, IsImage};
     ghost use Rattle.image_device.specs.MemStation.{failing_of, station_view, IsUnused};
     ghost use Rattle.image_device.specs.Counts.{raised, Rose};
-    ghost use Rattle.mirror_device.specs.declared.entry.Entry.TheVariants.{Poke, Put, Sync, Write};
+    ghost use Rattle.mirror_device.specs.declared.entry.LogEntry.TheVariants.{Poke, Put, Sync, Write};
     ghost use Rattle.mirror_device.specs.SidesView.{other, side_of};
     ghost use Rattle.mirror_device.specs.SideCalls.{SideRests, SideUses};
     ghost use Rattle.mirror_device.specs.Pair.{synced_on};
-    ghost use Rattle.mirror_device.specs.Twins.{entries_of, twins_view};
+    ghost use Rattle.mirror_device.specs.Twins.{log_entries, twins_view};
 
     /// Two sides of zeros, to which nothing was done.
     pub(crate) fn new(alloc: Global) -> Twins
-        ensures entries { entries_of result ≡ [] }
+        ensures entries { log_entries result ≡ [] }
         ensures put_faults { result.put_faults ≡ 0 }
     {
         Twins {
@@ -50,7 +50,7 @@ impl Twins {
     /// Reads a sector of a side, which is no entry.
     pub(crate) fn read(&mut self, side: Side, sector: u32, into: &mut [u8; 512])
         ensures bytes { into.new ≡ (side_of side (twins_view self.old)).reads sector }
-        ensures same { entries_of self.new ≡ entries_of self.old }
+        ensures same { log_entries self.new ≡ log_entries self.old }
         ensures put_faults { self.new.put_faults ≡ self.old.put_faults }
         ensures synced { (s : Side) → synced_on s self.new.pair ≡ synced_on s self.old.pair }
     {
@@ -65,8 +65,8 @@ impl Twins {
         from: &[u8; 512],
     ) -> Result<(), AllocError>
         ensures kept { OnOk result ((bytes : _) × (bytes.value ≡ from.now)
-            × (entries_of self.new ≡ entries_of self.old ++ Write side sector bytes ∷ [])) }
-        ensures same { OnErr result (entries_of self.new ≡ entries_of self.old) }
+            × (log_entries self.new ≡ log_entries self.old ++ Write side sector bytes ∷ [])) }
+        ensures same { OnErr result (log_entries self.new ≡ log_entries self.old) }
         ensures put_faults { self.new.put_faults ≡ self.old.put_faults }
         ensures synced { (s : Side) → synced_on s self.new.pair ≡ synced_on s self.old.pair }
     {
@@ -77,7 +77,7 @@ impl Twins {
         }
         keep(
             &mut self.log,
-            Entry::Write {
+            LogEntry::Write {
                 side,
                 sector,
                 bytes,
@@ -88,8 +88,8 @@ impl Twins {
 
     /// Makes all of a side firm, or leaves all as it was.
     pub(crate) fn sync(&mut self, side: Side) -> Result<(), AllocError>
-        ensures kept { OnOk result (entries_of self.new ≡ entries_of self.old ++ Sync side ∷ []) }
-        ensures same { OnErr result (entries_of self.new ≡ entries_of self.old) }
+        ensures kept { OnOk result (log_entries self.new ≡ log_entries self.old ++ Sync side ∷ []) }
+        ensures same { OnErr result (log_entries self.new ≡ log_entries self.old) }
         ensures put_faults { self.new.put_faults ≡ self.old.put_faults }
         ensures synced { OnOk result (synced_on side self.new.pair ≡ (side_of side (twins_view self.old)).reads) }
         ensures other_synced { synced_on (other side) self.new.pair ≡ synced_on (other side) self.old.pair }
@@ -99,7 +99,7 @@ impl Twins {
         if self.pair.sync(side).is_err() {
             return Err(AllocError);
         }
-        keep(&mut self.log, Entry::Sync { side });
+        keep(&mut self.log, LogEntry::Sync { side });
         Ok(())
     }
 
@@ -111,8 +111,8 @@ impl Twins {
         from: &[u8; 512],
     ) -> Result<(), AllocError>
         ensures kept { OnOk result ((bytes : _) × (bytes.value ≡ from.now)
-            × (entries_of self.new ≡ entries_of self.old ++ Poke side sector bytes ∷ [])) }
-        ensures same { OnErr result (entries_of self.new ≡ entries_of self.old) }
+            × (log_entries self.new ≡ log_entries self.old ++ Poke side sector bytes ∷ [])) }
+        ensures same { OnErr result (log_entries self.new ≡ log_entries self.old) }
         ensures put_faults { self.new.put_faults ≡ self.old.put_faults }
         ensures synced { OnOk result (synced_on side self.new.pair ≡ put_at sector from.now
             (synced_on side self.old.pair)) }
@@ -126,7 +126,7 @@ impl Twins {
         }
         keep(
             &mut self.log,
-            Entry::Poke {
+            LogEntry::Poke {
                 side,
                 sector,
                 bytes,
@@ -138,15 +138,15 @@ impl Twins {
     /// Puts a piece, or leaves all as it was.
     pub(crate) fn put(&mut self, piece: &[u8]) -> Result<(), AllocError>
         ensures kept { OnOk result ((text : _) × (text.items ≡ piece.now)
-            × (entries_of self.new ≡ entries_of self.old ++ Put text ∷ [])) }
-        ensures same { OnErr result (entries_of self.new ≡ entries_of self.old) }
+            × (log_entries self.new ≡ log_entries self.old ++ Put text ∷ [])) }
+        ensures same { OnErr result (log_entries self.new ≡ log_entries self.old) }
         ensures put_faults { self.new.put_faults ≡ self.old.put_faults }
         ensures synced { (s : Side) → synced_on s self.new.pair ≡ synced_on s self.old.pair }
     {
         make_room(&mut self.log, self.lapse)?;
         let kept = piece.to_vec(self.alloc)?;
         self.pair.put(piece)?;
-        keep(&mut self.log, Entry::Put { piece: kept });
+        keep(&mut self.log, LogEntry::Put { piece: kept });
         Ok(())
     }
 
@@ -163,7 +163,7 @@ impl Twins {
         match self.lapse {
             Lapse::Never => {
                 let faults = self.seen(side).faults.saturating_add(1);
-                if self.log.push(Entry::Fail { side, faults }).is_ok() {
+                if self.log.push(LogEntry::Fail { side, faults }).is_ok() {
                     self.pair.blame(side, faults);
                     return;
                 }
@@ -182,7 +182,7 @@ impl Twins {
 
     /// Counts a failed put.
     pub(crate) fn blame_put(&mut self)
-        ensures same { entries_of self.new ≡ entries_of self.old }
+        ensures same { log_entries self.new ≡ log_entries self.old }
         ensures put_faults { self.new.put_faults ≡ raised self.old.put_faults }
         ensures later { self.old.put_faults ≤ self.new.put_faults }
         ensures synced { (s : Side) → synced_on s self.new.pair ≡ synced_on s self.old.pair }
@@ -191,7 +191,7 @@ impl Twins {
     }
 
     /// Both counts of a side.
-    pub(crate) fn seen(&self, side: Side) -> Seen
+    pub(crate) fn seen(&self, side: Side) -> SideCounts
         ensures faults { result.faults ≡ (side_of side (twins_view self.now)).faults }
         ensures syncs { result.syncs ≡ (side_of side (twins_view self.now)).syncs }
     {

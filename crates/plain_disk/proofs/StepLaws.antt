@@ -6,7 +6,7 @@ use Rattle.std.proofs.lemmas.List.{take_more, map-append}
 use Rattle.std.proofs.Math.Seq.{drop-cons}
 use Rattle.tsd_model.specs.World.{World}
 use Rattle.tsd_model.specs.Rank.{rank_of}
-use Rattle.tsd_model.specs.Placing.{in_rank_order, sorted_by_rank, hint_block, first_of, is_free_run, runs, chosen_run}
+use Rattle.tsd_model.specs.Placing.{in_rank_order, sorted_by_rank, hint_block, first_block, is_free_run, runs, chosen_run}
 use Rattle.tsd_model.specs.Step.{targets_from, zeros, with_contents, with_pointer, with_new_blocks}
 use Rattle.tsd_model.specs.declared.requests.Hint.{Hint}
 use Rattle.tsd_model.specs.declared.requests.PlaceKind.{PlaceKind}
@@ -59,7 +59,7 @@ below-sorted_by_rank : (n : ℕ) (rank : ℕ → ℕ) (bs : List ℕ) → AllBel
 below-sorted_by_rank n rank [] h = tt
 below-sorted_by_rank n rank (b ∷ bs) h = below-in_rank_order n rank b (sorted_by_rank rank bs) h.0 (below-sorted_by_rank n rank bs h.1)
 
-below-first_of : (n : ℕ) (xs : List ℕ) → AllBelow n xs → IfSome (first_of xs) (λ b. b < n)
+below-first_of : (n : ℕ) (xs : List ℕ) → AllBelow n xs → IfSome (first_block xs) (λ b. b < n)
 below-first_of n [] h = tt
 below-first_of n (x ∷ xs) h = h.0
 

@@ -5,9 +5,10 @@ ghost use Rattle.std.specs.Prelude.{slice_index_or, filter, ◌==◌, cond, [], 
 ghost use Rattle.std.specs.Prelude.{OnErr, MatchOption};
 ghost use Rattle.std.specs.List.{enumerate_from};
 ghost use Rattle.tsd_model.specs.Pairs.{sources_to};
-ghost use Rattle.tsd_model.specs.Sessions.{held_by, is_open, level_from, levels_from, levels_in, level_of, greatest};
-ghost use Rattle.tsd_model.specs.Sessions.{no_sessions, with_held, begun, ended, raised, raised_held, raised_level};
-ghost use Rattle.tsd_model.specs.Sessions.{dropped_from, levels_at_live, fitted};
+ghost use Rattle.tsd_model.specs.Sessions.{held_by, is_open, level_from, levels_from, levels_in, greatest_level};
+ghost use Rattle.tsd_model.specs.Sessions.{greatest, no_sessions, with_held, session_begun, session_ended};
+ghost use Rattle.tsd_model.specs.Sessions.{raised_sessions, raised_held, raised_level, dropped_from, levels_at_live};
+ghost use Rattle.tsd_model.specs.Sessions.{fitted};
 ghost use Rattle.tsd_model.specs.Attained.{shown_level, led_level, attained_from, attained};
 ghost use Rattle.tsd_model.specs.declared.requests.Level.TheVariants as level;
 
@@ -296,7 +297,7 @@ impl Sessions {
         world: &World,
         session: u32,
     ) -> Result<Sessions, AllocError>
-        ensures { IfOk result (λ v. v ≡ begun world.now self session) }
+        ensures { IfOk result (λ v. v ≡ session_begun world.now self session) }
     {
         let geometry = world.geometry();
         let holding = Holding::nothing(alloc, geometry.primaries, geometry.blocks)?;
@@ -305,7 +306,7 @@ impl Sessions {
 
     /// With this session closed.
     pub(crate) fn ended(self, session: u32) -> Sessions
-        ensures { result ≡ ended self session }
+        ensures { result ≡ session_ended self session }
     {
         self.with(session, None)
     }
@@ -320,7 +321,7 @@ impl Sessions {
         session: u32,
         need: &Need,
     ) -> Result<Sessions, AllocError>
-        ensures { IfOk result (λ v. v ≡ raised self session need.now.block (attained_from world.now before.now
+        ensures { IfOk result (λ v. v ≡ raised_sessions self session need.now.block (attained_from world.now before.now
             session need.now.block need.now.shown)) }
     {
         let raised = match self.holding(session) {

@@ -7,7 +7,7 @@ ghost use Rattle.std.specs.List.{range_with_len};
 ghost use Rattle.tsd_model.specs.Geometry.{block_len};
 ghost use Rattle.tsd_model.specs.World.{contents};
 ghost use Rattle.tsd_model.specs.Records.{kept};
-ghost use Rattle.tsd_model.specs.Sessions.{begun, ended, dropped_from};
+ghost use Rattle.tsd_model.specs.Sessions.{session_begun, session_ended, dropped_from};
 ghost use Rattle.tsd_model.specs.Reach.{swept};
 ghost use Rattle.tsd_model.specs.Doomed.{settle};
 ghost use Rattle.tsd_model.specs.Placing.{chosen, chosen_run};
@@ -160,14 +160,14 @@ fn begin(
     sessions: Sessions,
     session: u32,
 ) -> Result<Changed, NoMemory>
-    ensures { IfOk result (λ r. gives r.0 r.1 r.2 ≡ done world.now (begun world.now sessions session)) }
+    ensures { IfOk result (λ r. gives r.0 r.1 r.2 ≡ done world.now (session_begun world.now sessions session)) }
 {
     let begun = sessions.begun(alloc, world, session)?;
     unchanged(alloc, world, begun, Reply::Done)
 }
 
 fn end(alloc: Global, world: &World, sessions: Sessions, session: u32) -> Result<Changed, NoMemory>
-    ensures { IfOk result (λ r. gives r.0 r.1 r.2 ≡ done world.now (ended sessions session)) }
+    ensures { IfOk result (λ r. gives r.0 r.1 r.2 ≡ done world.now (session_ended sessions session)) }
 {
     unchanged(alloc, world, sessions.ended(session), Reply::Done)
 }

@@ -7,7 +7,8 @@ use Rattle.std.proofs.lemmas.List.{length-set, get_or-set_same, get_or-set_other
 use Rattle.std.proofs.lemmas.List.FromFn.{length-range_with_len}
 use Rattle.std.proofs.lemmas.List.Sums.{sum_by-cons}
 use Rattle.std.specs.List.{range_with_len}
-use Rattle.pointer_table.specs.Empties.{is_among, AreEmptyOnce, AreLinked, AreEmpties, AreInRow}
+use Rattle.tsd_model.specs.World.{has_number}
+use Rattle.pointer_table.specs.Empties.{AreEmptyOnce, AreLinked, AreEmpties, AreInRow}
 use Rattle.pointer_table.specs.Links.{unset_link}
 use Rattle.pointer_table.specs.Slots.{slot_at}
 use Rattle.pointer_table.specs.Threads.{no_link}
@@ -18,17 +19,17 @@ use Rattle.pointer_table.proofs.SlotLaws.{some_inside, set_same, set_other}
 pub not_some : (slot : Option (ℕ × ℕ)) (e : ℕ × ℕ) → slot ≡ None → slot ≡ Some e → ⊥
 not_some slot e none some = cc
 
-chain_stays : (next now : List ℕ) (link : ℕ) (positions : List ℕ) → ((k : ℕ) → is_among positions k ≡ true → get_or now k 0 ≡ get_or next k 0) → AreLinked next link positions → AreLinked now link positions
+chain_stays : (next now : List ℕ) (link : ℕ) (positions : List ℕ) → ((k : ℕ) → has_number positions k ≡ true → get_or now k 0 ≡ get_or next k 0) → AreLinked next link positions → AreLinked now link positions
 chain_stays next now link [] same chain = chain
 chain_stays next now link (p ∷ positions) same chain = (
   chain.0,
-  subst (λ (l : ℕ). AreLinked now l positions) (sym (same p (or_left (p == p) (is_among positions p) (eq-eqb p p refl))))
-      (chain_stays next now (get_or next p 0) positions (λ k among. same k (or_right (p == k) (is_among positions k) among)) chain.1),
+  subst (λ (l : ℕ). AreLinked now l positions) (sym (same p (or_left (p == p) (has_number positions p) (eq-eqb p p refl))))
+      (chain_stays next now (get_or next p 0) positions (λ k among. same k (or_right (p == k) (has_number positions k) among)) chain.1),
 )
 
-among_empty : (slots : List (Option (ℕ × ℕ))) (positions : List ℕ) (k : ℕ) → AreEmptyOnce slots positions → is_among positions k ≡ true → (k < length slots) × (slot_at slots k ≡ None)
+among_empty : (slots : List (Option (ℕ × ℕ))) (positions : List ℕ) (k : ℕ) → AreEmptyOnce slots positions → has_number positions k ≡ true → (k < length slots) × (slot_at slots k ≡ None)
 among_empty slots [] k empty among = absurd (cc)
-among_empty slots (p ∷ positions) k empty among = elim (or_cases (p == k) (is_among positions k) among) [
+among_empty slots (p ∷ positions) k empty among = elim (or_cases (p == k) (has_number positions k) among) [
   | inl here ↦
       (let same : p ≡ k = eqb-true p k here in
       let inside = empty.0 in
@@ -36,14 +37,14 @@ among_empty slots (p ∷ positions) k empty among = elim (or_cases (p == k) (is_
   | inr later ↦ among_empty slots positions k empty.3 later
 ]
 
-empty_stays : (slots now : List (Option (ℕ × ℕ))) (positions : List ℕ) → ((k : ℕ) → is_among positions k ≡ true → (k < length now) × (slot_at now k ≡ None)) → AreEmptyOnce slots positions → AreEmptyOnce now positions
+empty_stays : (slots now : List (Option (ℕ × ℕ))) (positions : List ℕ) → ((k : ℕ) → has_number positions k ≡ true → (k < length now) × (slot_at now k ≡ None)) → AreEmptyOnce slots positions → AreEmptyOnce now positions
 empty_stays slots now [] stays empty = tt
 empty_stays slots now (p ∷ positions) stays empty =
-    let here = stays p (or_left (p == p) (is_among positions p) (eq-eqb p p refl)) in (
+    let here = stays p (or_left (p == p) (has_number positions p) (eq-eqb p p refl)) in (
       here.0,
       here.1,
       empty.2,
-      empty_stays slots now positions (λ k among. stays k (or_right (p == k) (is_among positions k) among)) empty.3,
+      empty_stays slots now positions (λ k among. stays k (or_right (p == k) (has_number positions k) among)) empty.3,
     )
 
 -- ---- the first taken off
@@ -62,8 +63,8 @@ empties_taken slots held first next now e empties room stays = go empties.positi
     go : (positions : List ℕ) → AreLinked next first positions → AreEmptyOnce slots positions → length positions + held ≡ length slots → AreEmpties (set slots first (Some e)) (held + 1) (get_or next first 0) now
     go [] chain empty many = absurd (omega arith)
     go (p ∷ positions) chain empty many =
-        let off : (k : ℕ) → is_among positions k ≡ true → k ≡ first → ⊥ = λ k among same.
-        both_ways (is_among positions p) empty.2 (ap (is_among positions) (sym (same ∙ chain.0)) ∙ among) in
+        let off : (k : ℕ) → has_number positions k ≡ true → k ≡ first → ⊥ = λ k among same.
+        both_ways (has_number positions p) empty.2 (ap (has_number positions) (sym (same ∙ chain.0)) ∙ among) in
         let all = length-set slots first (Some e) in
         record {
           positions = positions;
@@ -95,7 +96,7 @@ empties_given slots held left first next now position e empties one_more here ro
       empty = (
         omega arith,
         set_same slots position None inside,
-        false_from_ne_true (is_among empties.positions position) (λ among. off position among refl),
+        false_from_ne_true (has_number empties.positions position) (λ among. off position among refl),
         empty_stays slots (set slots position None) empties.positions (λ k among.
             let old = among_empty slots empties.positions k empties.empty among in
             let within = old.0 in
@@ -104,7 +105,7 @@ empties_given slots held left first next now position e empties one_more here ro
       many = omega arith;
     }
   where
-    off : (k : ℕ) → is_among empties.positions k ≡ true → k ≡ position → ⊥
+    off : (k : ℕ) → has_number empties.positions k ≡ true → k ≡ position → ⊥
     off k among same = not_some (slot_at slots position) e (ap (slot_at slots) (sym same) ∙ (among_empty slots empties.positions k empties.empty among).1) here
 
 -- ---- made from the last slot to the first
@@ -114,7 +115,7 @@ pub record AreEmptiesFrom (slots : List (Option (ℕ × ℕ))) (left first : ℕ
   pub positions : List ℕ
   pub chain : AreLinked next first positions
   pub empty : AreEmptyOnce slots positions
-  pub from : (k : ℕ) → is_among positions k ≡ true → left ≤ k
+  pub from : (k : ℕ) → has_number positions k ≡ true → left ≤ k
   pub many : length positions + count_by is_some (drop left slots) + left ≡ length slots
 
 pub count_drop : (slots : List (Option (ℕ × ℕ))) (l : ℕ) → l < length slots → count_by is_some (drop l slots) ≡ cond (is_some (slot_at slots l)) 1 0 + count_by is_some (drop (suc l) slots)
@@ -174,9 +175,9 @@ row_linked next k (suc n) all row = (
       (row_linked next (k + 1) n (omega arith) (λ j far inside. row j (omega arith) inside)),
 )
 
-row_among : (k n j : ℕ) → is_among (range_with_len k n) j ≡ true → k ≤ j
+row_among : (k n j : ℕ) → has_number (range_with_len k n) j ≡ true → k ≤ j
 row_among k zero j among = absurd (cc)
-row_among k (suc n) j among = elim (or_cases (k == j) (is_among (range_with_len (k + 1) n) j) among) [
+row_among k (suc n) j among = elim (or_cases (k == j) (has_number (range_with_len (k + 1) n) j) among) [
   | inl here ↦ (let is = eqb-true k j here in omega arith)
   | inr later ↦ (let far = row_among (k + 1) n j later in omega arith)
 ]
@@ -186,7 +187,7 @@ row_empty slots k zero all none = tt
 row_empty slots k (suc n) all none = (
   omega arith,
   none k (omega arith),
-  false_from_ne_true (is_among (range_with_len (k + 1) n) k) (λ among. let far = row_among (k + 1) n k among in omega arith),
+  false_from_ne_true (has_number (range_with_len (k + 1) n) k) (λ among. let far = row_among (k + 1) n k among in omega arith),
   row_empty slots (k + 1) n (omega arith) (λ j far. none j (omega arith)),
 )
 
@@ -220,15 +221,15 @@ empties_more slots left first next some inside long none empties =
             (chain_stays next (set next (left - 1) first) first empties.positions (λ k among.
             get_or-set_other next (left - 1) k first 0 (off k among)) empties.chain),
       );
-      empty = (omega arith, none, false_from_ne_true (is_among empties.positions (left - 1)) (λ among. off (left - 1) among refl), empties.empty);
-      from = λ k among. elim (or_cases ((left - 1) == k) (is_among empties.positions k) among) [
+      empty = (omega arith, none, false_from_ne_true (has_number empties.positions (left - 1)) (λ among. off (left - 1) among refl), empties.empty);
+      from = λ k among. elim (or_cases ((left - 1) == k) (has_number empties.positions k) among) [
         | inl here ↦ (let is = eqb-true (left - 1) k here in omega arith)
         | inr later ↦ (let low = empties.from k later in omega arith)
       ];
       many = omega arith;
     }
   where
-    off : (k : ℕ) → is_among empties.positions k ≡ true → k ≡ left - 1 → ⊥
+    off : (k : ℕ) → has_number empties.positions k ≡ true → k ≡ left - 1 → ⊥
     off k among same = let low = empties.from k among in omega arith
 
 pub empties_skip : (slots : List (Option (ℕ × ℕ))) (left first : ℕ) (next : List ℕ) (e : ℕ × ℕ) → 0 < left → left ≤ length slots → slot_at slots (left - 1) ≡ Some e → AreEmptiesFrom slots left first next

@@ -10,7 +10,7 @@ use Rattle.tsd_model.specs.declared.geometry.Geometry.{Geometry}
 use Rattle.image_layout.specs.Areas.{slots_start}
 use Rattle.image_layout.specs.Image.{Image, source_field, target_field}
 use Rattle.pointer_table.specs.declared.raw.RawSlot.{RawSlot}
-use Rattle.pointer_table.specs.Loading.{is_bad, is_bad_at, IsLeastBadSlot}
+use Rattle.pointer_table.specs.Loading.{is_bad_slot, is_bad_at, IsLeastBadSlot}
 use Rattle.pointer_table.specs.Raw.{slot_in}
 use Rattle.pointer_table.specs.Reading.{AreReadTo, AreWithinTo}
 use Rattle.pointer_table.specs.Sectors.{slot_of, stored_slot}
@@ -41,7 +41,7 @@ target_at image g k part sector from below is =
 -- ---- one slot more
 
 -- a slot that isn't bad
-pub good_slot : (g : Geometry) (source target : ℕ) (e : ℕ × ℕ) → is_bad g source target ≡ false → slot_of source target ≡ Some e → MayBeHeld g e
+pub good_slot : (g : Geometry) (source target : ℕ) (e : ℕ × ℕ) → is_bad_slot g source target ≡ false → slot_of source target ≡ Some e → MayBeHeld g e
 good_slot g source target e good is =
     elim (source == 0) as (λ t. (source == 0) ≡ t → (not t && (nat_lt g.blocks source || nat_le g.blocks target || nat_lt target g.primaries)) ≡ false → cond t None (Some (source - 1, target)) ≡ Some e → MayBeHeld g e) [
       | true ↦ λ z h s. absurd (cc)
@@ -57,7 +57,7 @@ good_slot g source target e good is =
     ] refl good is
 
 pub read_more : (image : Image) (g : Geometry) (position : ℕ) (raws : List (Option (ℕ × ℕ))) (raw : RawSlot) → position < length raws
-    → raw.source ≡ source_field image g position → raw.target ≡ target_field image g position → is_bad g raw.source raw.target ≡ false
+    → raw.source ≡ source_field image g position → raw.target ≡ target_field image g position → is_bad_slot g raw.source raw.target ≡ false
     → AreReadTo image g position raws → AreReadTo image g (position + 1) (set raws position (slot_in raw))
 read_more image g position raws raw inside source target good so_far = record {
   each = λ k below. elim (cases_eq k position) [
@@ -71,12 +71,12 @@ read_more image g position raws raw inside source target good so_far = record {
         ∙ sym (set_other raws position k (slot_in raw) other)
   ];
   no_bad = λ k below. elim (cases_eq k position) [
-    | inl here ↦ ap (is_bad_at image g) here ∙ (ap (λ s. is_bad g s (target_field image g position)) (sym source) ∙ (ap (is_bad g raw.source) (sym target) ∙ good))
+    | inl here ↦ ap (is_bad_at image g) here ∙ (ap (λ s. is_bad_slot g s (target_field image g position)) (sym source) ∙ (ap (is_bad_slot g raw.source) (sym target) ∙ good))
     | inr other ↦ so_far.no_bad k (omega arith)
   ];
 }
 
-pub within_more : (g : Geometry) (position : ℕ) (raws : List (Option (ℕ × ℕ))) (raw : RawSlot) → position < length raws → is_bad g raw.source raw.target ≡ false
+pub within_more : (g : Geometry) (position : ℕ) (raws : List (Option (ℕ × ℕ))) (raw : RawSlot) → position < length raws → is_bad_slot g raw.source raw.target ≡ false
     → AreWithinTo g position raws → AreWithinTo g (position + 1) (set raws position (slot_in raw))
 within_more g position raws raw inside good so_far = record {
   each = λ k e below here. elim (cases_eq k position) [
@@ -92,7 +92,7 @@ within_more g position raws raw inside good so_far = record {
 
 -- a bad one behind those that were read
 pub least_bad : (image : Image) (g : Geometry) (position : ℕ) (raws : List (Option (ℕ × ℕ))) (raw : RawSlot) → position < g.slots
-    → raw.source ≡ source_field image g position → raw.target ≡ target_field image g position → is_bad g raw.source raw.target ≡ true
+    → raw.source ≡ source_field image g position → raw.target ≡ target_field image g position → is_bad_slot g raw.source raw.target ≡ true
     → AreReadTo image g position raws → IsLeastBadSlot image g position raw.source raw.target
 least_bad image g position raws raw inside source target bad so_far = record {
   inside = inside;

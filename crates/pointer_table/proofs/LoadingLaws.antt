@@ -12,7 +12,7 @@ use Rattle.tsd_model.specs.declared.geometry.Geometry.{Geometry}
 use Rattle.tsd_model.proofs.PlaceLaws.{same_pair}
 use Rattle.image_layout.specs.Areas.{slots_start, data_start}
 use Rattle.image_layout.specs.Image.{Image, source_field, target_field}
-use Rattle.pointer_table.specs.Loading.{is_bad, is_bad_at, HasNoBad, IsLeastBadSlot, IsLeastRepeated, IsLoaded, WasDecided, AnswersPointers}
+use Rattle.pointer_table.specs.Loading.{is_bad_slot, is_bad_at, HasNoBad, IsLeastBadSlot, IsLeastRepeated, IsLoaded, WasDecided, AnswersPointers}
 use Rattle.pointer_table.specs.Sectors.{stored_slot, IsStored}
 use Rattle.pointer_table.specs.Table.{Table}
 use Rattle.pointer_table.specs.declared.fault.TableFault.{TableFault}
@@ -22,7 +22,7 @@ use Rattle.pointer_table.proofs.SectorLaws.{read_at, stored_at}
 -- ---- one answer
 
 bad_there : (image : Image) (g : Geometry) (k source target : ℕ) → IsLeastBadSlot image g k source target → is_bad_at image g k ≡ true
-bad_there image g k source target least = ap (λ s. is_bad g s (target_field image g k)) (sym least.source_is) ∙ (ap (is_bad g source) (sym least.target_is) ∙ least.bad)
+bad_there image g k source target least = ap (λ s. is_bad_slot g s (target_field image g k)) (sym least.source_is) ∙ (ap (is_bad_slot g source) (sym least.target_is) ∙ least.bad)
 
 same_bad : (image : Image) (g : Geometry) (k s t j u v : ℕ) → IsLeastBadSlot image g k s t → IsLeastBadSlot image g j u v → ◌≡◌ {A = Result Table TableFault} (Err (fault.Slot k s t)) (Err (fault.Slot j u v))
 same_bad image g k s t j u v one other = elim (cases_order k j) [

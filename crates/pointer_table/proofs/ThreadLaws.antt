@@ -5,7 +5,7 @@ use Rattle.std.specs.Prelude.{IfSome}
 use Rattle.std.proofs.lemmas.Bool.{cases_eq, cases_lt, ne_eqb, ltb-true, ltb-false}
 use Rattle.std.proofs.lemmas.List.{length-set, get_or-set_same, get_or-set_other}
 use Rattle.pointer_table.specs.declared.way.Way.{Way}
-use Rattle.pointer_table.specs.Threads.{rank, group, is_below, no_link, linked, IsMember, IsFirstFrom, IsFirstThatFar, IsLast, IsLastBelow, IsNear, AreThreads, IsWith, after, heads_with, next_with}
+use Rattle.pointer_table.specs.Threads.{rank, group, is_below, no_link, linked, IsMember, IsFirstFrom, IsFirstThatFar, IsLast, IsLastBelow, IsNear, AreThreads, IsWith, link_after, heads_with, next_with}
 
 -- ---- ranks
 
@@ -149,7 +149,7 @@ past_is held k e here = ap past here
 
 -- what is after a slot leads on
 pub leads_on : (held : ℕ → Option (ℕ × ℕ)) (by : (ℕ × ℕ) → ℕ) (heads next : List ℕ) (of limit : ℕ) (before : Option ℕ) → AreThreads held by heads next → of < length heads
-    → IsNear held by of limit before → IsFirstThatFar held by of (from_of held before) (linked (after heads next of before))
+    → IsNear held by of limit before → IsFirstThatFar held by of (from_of held before) (linked (link_after heads next of before))
 leads_on held by heads next of limit None threads inside near = threads.first of inside
 leads_on held by heads next of limit (Some k) threads inside near =
     let m = near.1.0 in
@@ -190,10 +190,10 @@ near_before held by of limit None last = tt
 near_before held by of limit (Some k) last = (last.pair, (last.member, last.below))
 
 pub leads_there : (held : ℕ → Option (ℕ × ℕ)) (by : (ℕ × ℕ) → ℕ) (heads next : List ℕ) (of limit : ℕ) (before : Option ℕ) → AreThreads held by heads next → of < length heads
-    → IsLastBelow held by of limit before → IsFirstThatFar held by of limit (linked (after heads next of before))
+    → IsLastBelow held by of limit before → IsFirstThatFar held by of limit (linked (link_after heads next of before))
 leads_there held by heads next of limit before threads inside last =
     let near = near_before held by of limit before last in
-    higher held by of (from_of held before) limit (linked (after heads next of before)) (not_past held by of limit before near)
+    higher held by of (from_of held before) limit (linked (link_after heads next of before)) (not_past held by of limit before near)
     (gap_before held by of limit before last) (leads_on held by heads next of limit before threads inside near)
 
 -- ---- a step of the walk
@@ -202,7 +202,7 @@ linked_on : (link : ℕ) → (link ≡ no_link → ⊥) → linked link ≡ Some
 linked_on link on = ap (λ t. cond t None (Some link)) (ne_eqb link no_link on)
 
 pub leads_to_slot : (held : ℕ → Option (ℕ × ℕ)) (by : (ℕ × ℕ) → ℕ) (heads next : List ℕ) (of limit : ℕ) (before : Option ℕ) (link : ℕ) → AreThreads held by heads next → of < length heads
-    → IsNear held by of limit before → link ≡ after heads next of before → (link ≡ no_link → ⊥) → IsFirstFrom held by of (from_of held before) link
+    → IsNear held by of limit before → link ≡ link_after heads next of before → (link ≡ no_link → ⊥) → IsFirstFrom held by of (from_of held before) link
 leads_to_slot held by heads next of limit before link threads inside near is on =
     subst (IsFirstThatFar held by of (from_of held before)) (ap linked (sym is) ∙ linked_on link on) (leads_on held by heads next of limit before threads inside near)
 
@@ -213,13 +213,13 @@ not_below_limit : (limit : ℕ) (slot : Option (ℕ × ℕ)) (e : ℕ × ℕ) �
 not_below_limit limit slot e is far = ltb-false (rank e) limit (sym (ap (is_below limit) is) ∙ far)
 
 pub step_near : (held : ℕ → Option (ℕ × ℕ)) (by : (ℕ × ℕ) → ℕ) (heads next : List ℕ) (of limit : ℕ) (before : Option ℕ) (link : ℕ) → AreThreads held by heads next → of < length heads
-    → IsNear held by of limit before → link ≡ after heads next of before → (link ≡ no_link → ⊥) → is_below limit (held link) ≡ true → IsNear held by of limit (Some link)
+    → IsNear held by of limit before → link ≡ link_after heads next of before → (link ≡ no_link → ⊥) → is_below limit (held link) ≡ true → IsNear held by of limit (Some link)
 step_near held by heads next of limit before link threads inside near is on below =
     let there = leads_to_slot held by heads next of limit before link threads inside near is on in
     (there.pair, (there.member, below_limit limit (held link) there.pair there.member.here below))
 
 pub step_smaller : (held : ℕ → Option (ℕ × ℕ)) (by : (ℕ × ℕ) → ℕ) (heads next : List ℕ) (of limit : ℕ) (before : Option ℕ) (link : ℕ) → AreThreads held by heads next → of < length heads
-    → IsNear held by of limit before → link ≡ after heads next of before → (link ≡ no_link → ⊥) → is_below limit (held link) ≡ true
+    → IsNear held by of limit before → link ≡ link_after heads next of before → (link ≡ no_link → ⊥) → is_below limit (held link) ≡ true
     → limit - from_of held (Some link) < limit - from_of held before
 step_smaller held by heads next of limit before link threads inside near is on below =
     let there = leads_to_slot held by heads next of limit before link threads inside near is on in
@@ -229,7 +229,7 @@ step_smaller held by heads next of limit before link threads inside near is on b
     omega arith
 
 pub step_inside : (held : ℕ → Option (ℕ × ℕ)) (by : (ℕ × ℕ) → ℕ) (heads next : List ℕ) (of limit : ℕ) (before : Option ℕ) (link : ℕ) → AreThreads held by heads next → of < length heads
-    → IsNear held by of limit before → link ≡ after heads next of before → (link ≡ no_link → ⊥) → link < length next
+    → IsNear held by of limit before → link ≡ link_after heads next of before → (link ≡ no_link → ⊥) → link < length next
 step_inside held by heads next of limit before link threads inside near is on =
     let there = leads_to_slot held by heads next of limit before link threads inside near is on in
     threads.inside link there.pair there.member.here
@@ -241,7 +241,7 @@ near_inside held by heads next of limit (Some k) threads near = threads.inside k
 
 -- the end of the group
 pub stop_at_end : (held : ℕ → Option (ℕ × ℕ)) (by : (ℕ × ℕ) → ℕ) (heads next : List ℕ) (of limit : ℕ) (before : Option ℕ) (link : ℕ) → AreThreads held by heads next → of < length heads
-    → IsNear held by of limit before → link ≡ after heads next of before → link ≡ no_link → IsLastBelow held by of limit before
+    → IsNear held by of limit before → link ≡ link_after heads next of before → link ≡ no_link → IsLastBelow held by of limit before
 stop_at_end held by heads next of limit before link threads inside near is off =
     let none : IsFirstThatFar held by of (from_of held before) None =
     subst (IsFirstThatFar held by of (from_of held before)) (ap linked (sym is ∙ off)) (leads_on held by heads next of limit before threads inside near) in
@@ -249,7 +249,7 @@ stop_at_end held by heads next of limit before link threads inside near is off =
 
 -- a pair that isn't below the limit
 pub stop_at_slot : (held : ℕ → Option (ℕ × ℕ)) (by : (ℕ × ℕ) → ℕ) (heads next : List ℕ) (of limit : ℕ) (before : Option ℕ) (link : ℕ) → AreThreads held by heads next → of < length heads
-    → IsNear held by of limit before → link ≡ after heads next of before → (link ≡ no_link → ⊥) → is_below limit (held link) ≡ false → IsLastBelow held by of limit before
+    → IsNear held by of limit before → link ≡ link_after heads next of before → (link ≡ no_link → ⊥) → is_below limit (held link) ≡ false → IsLastBelow held by of limit before
 stop_at_slot held by heads next of limit before link threads inside near is on far =
     let there = leads_to_slot held by heads next of limit before link threads inside near is on in
     let high = not_below_limit limit (held link) there.pair there.member.here far in
@@ -417,7 +417,7 @@ put_behind held now by heads next position e p threads more new fits inside smal
 
 pub put_in : (held now : ℕ → Option (ℕ × ℕ)) (by : (ℕ × ℕ) → ℕ) (heads next : List ℕ) (position : ℕ) (e : ℕ × ℕ) (before : Option ℕ) → AreThreads held by heads next → IsWith held position e now
     → ((k : ℕ) → held k ≡ Some e → ⊥) → e.1 < 4294967296 → position < length next → position < no_link → by e < length heads → IsLastBelow held by (by e) (rank e) before
-    → AreThreads now by (heads_with heads (by e) before position) (next_with (set next position (after heads next (by e) before)) before position)
+    → AreThreads now by (heads_with heads (by e) before position) (next_with (set next position (link_after heads next (by e) before)) before position)
 put_in held now by heads next position e None threads more new fits inside small room last = put_first held now by heads next position e threads more new fits inside small room last
 put_in held now by heads next position e (Some p) threads more new fits inside small room last = put_behind held now by heads next position e p threads more new fits inside small room last
 
@@ -553,14 +553,14 @@ pub put_fields : (held now : ℕ → Option (ℕ × ℕ)) (way other : Way) (hea
     → AreThreads held (group way (length heads)) heads next → IsWith held position e now → ((k : ℕ) → held k ≡ Some e → ⊥) → e.1 < 4294967296
     → position < length next → position < no_link → group way (length heads) e < length heads
     → of ≡ group way (length heads) e → r ≡ rank e → IsLastBelow held (group way (length heads)) of r before
-    → new_heads ≡ heads_with heads of before position → new_next ≡ next_with (set next position (after heads next of before)) before position → other ≡ way
+    → new_heads ≡ heads_with heads of before position → new_next ≡ next_with (set next position (link_after heads next of before)) before position → other ≡ way
     → AreThreads now (group other (length new_heads)) new_heads new_next
 put_fields held now way other heads next new_heads new_next position of r e before threads more new fits inside small within groups ranks last h n ways =
     let by = group way (length heads) in
     let heads_are : new_heads ≡ heads_with heads (by e) before position = h ∙ ap (λ g. heads_with heads g before position) groups in
-    let next_are : new_next ≡ next_with (set next position (after heads next (by e) before)) before position =
-    n ∙ ap (λ g. next_with (set next position (after heads next g before)) before position) groups in
-    renamed now way other heads next (heads_with heads (by e) before position) (next_with (set next position (after heads next (by e) before)) before position) new_heads new_next
+    let next_are : new_next ≡ next_with (set next position (link_after heads next (by e) before)) before position =
+    n ∙ ap (λ g. next_with (set next position (link_after heads next g before)) before position) groups in
+    renamed now way other heads next (heads_with heads (by e) before position) (next_with (set next position (link_after heads next (by e) before)) before position) new_heads new_next
     ways heads_are next_are (heads_as_many heads new_heads of before position h)
     (put_in held now by heads next position e before threads more new fits inside small within (before_same held by of r (rank e) (by e) before groups ranks last))
 

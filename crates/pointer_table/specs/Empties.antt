@@ -1,20 +1,16 @@
 -- The list of the empty slots. The first of them is known, and the link by bucket of each, which no thread uses, leads
 -- to the next one.
-use Rattle.std.specs.Prelude.{◌≡◌, ℕ, ◌+◌, ◌<◌, ◌==◌, Bool, true, false, List, [], ◌∷◌, length, slice_index_or, Option}
+use Rattle.std.specs.Prelude.{◌≡◌, ℕ, ◌+◌, ◌<◌, true, false, List, [], ◌∷◌, length, slice_index_or, Option}
 use Rattle.std.specs.Prelude.{None, ⊤}
-use Rattle.std.specs.List.{list_any}
+use Rattle.tsd_model.specs.World.{has_number}
 use Rattle.pointer_table.specs.Links.{unset_link}
 use Rattle.pointer_table.specs.Slots.{slot_at}
 use Rattle.pointer_table.specs.Threads.{no_link}
 
--- the number is one of these
-abbrev pub is_among : List ℕ → ℕ → Bool
-is_among positions k = list_any (λ p. p == k) positions
-
 -- each of these slots is empty, and none stands twice
 abbrev pub AreEmptyOnce : List (Option (ℕ × ℕ)) → List ℕ → Type 0
 AreEmptyOnce slots [] = ⊤
-AreEmptyOnce slots (p ∷ positions) = (p < length slots) × (slot_at slots p ≡ None) × (is_among positions p ≡ false)
+AreEmptyOnce slots (p ∷ positions) = (p < length slots) × (slot_at slots p ≡ None) × (has_number positions p ≡ false)
     × AreEmptyOnce slots positions
 
 -- a link leads to the first of these slots, and each of them to the next; the last leads nowhere

@@ -12,19 +12,19 @@ use Rattle.pointer_table.specs.declared.fault.TableFault.TheVariants as fault
 
 -- A slot with these two numbers is bad: it isn't empty, and its source is no block, or its target is no block or is
 -- primary.
-abbrev pub is_bad : Geometry → ℕ → ℕ → Bool
-is_bad g source target =
+abbrev pub is_bad_slot : Geometry → ℕ → ℕ → Bool
+is_bad_slot g source target =
     not (source == 0) && (nat_lt g.blocks source || nat_le g.blocks target || nat_lt target g.primaries)
 
 abbrev pub is_bad_at : Image → Geometry → ℕ → Bool
-is_bad_at image g k = is_bad g (source_field image g k) (target_field image g k)
+is_bad_at image g k = is_bad_slot g (source_field image g k) (target_field image g k)
 
 -- this is the least bad slot, and these are its two numbers
 pub record IsLeastBadSlot (image : Image) (g : Geometry) (k source target : ℕ) : Type 0 where
   pub inside : k < g.slots
   pub source_is : source ≡ source_field image g k
   pub target_is : target ≡ target_field image g k
-  pub bad : IsTrue (is_bad g source target)
+  pub bad : IsTrue (is_bad_slot g source target)
   pub least : (j : ℕ) → j < k → is_bad_at image g j ≡ false
 
 abbrev pub HasNoBad : Image → Geometry → Type 0

@@ -30,8 +30,8 @@ IsSlotReading image g slots (Err (fault.Slot k source target)) = IsLeastBadSlot 
 IsSlotReading image g slots (Err (fault.Repeated a b)) = ⊥
 
 -- the end of the slots that this one of their sectors has
-abbrev pub end_of : Geometry → ℕ → ℕ
-end_of g part = min g.slots (per_sector * part + per_sector)
+abbrev pub part_end : Geometry → ℕ → ℕ
+part_end g part = min g.slots (per_sector * part + per_sector)
 
 -- what comes of taking this sector's slots, which an image has as this one of its slots' sectors, behind those before
 -- it
@@ -39,11 +39,11 @@ abbrev pub IsTaking : Geometry → ℕ → List ℕ → List (Option (ℕ × ℕ
     → Result (Unit {0}) BadSlot → Type 0
 IsTaking g part sector old new result =
     (image : Image) → image (slots_start g + part) ≡ sector → AreReadTo image g (per_sector * part) old
-    → MatchResult result (λ _. AreReadTo image g (end_of g part) new)
+    → MatchResult result (λ _. AreReadTo image g (part_end g part) new)
     (λ bad. IsLeastBadSlot image g bad.slot bad.source bad.target)
 
 -- the pairs in the slots that were taken may be held
 abbrev pub TakesWithin : Geometry → ℕ → List (Option (ℕ × ℕ)) → List (Option (ℕ × ℕ))
     → Result (Unit {0}) BadSlot → Type 0
 TakesWithin g part old new result = AreWithinTo g (per_sector * part) old
-    → OnOk result (AreWithinTo g (end_of g part) new)
+    → OnOk result (AreWithinTo g (part_end g part) new)

@@ -120,9 +120,9 @@ abbrev pub IsBelowAll : (ℕ → Option (ℕ × ℕ)) → (ℕ × ℕ) → Type 
 IsBelowAll held e = (k : ℕ) (f : ℕ × ℕ) → held k ≡ Some f → rank e < rank f
 
 -- the link behind a slot, or the head of a group
-abbrev pub after : List ℕ → List ℕ → ℕ → Option ℕ → ℕ
-after heads next of None = slice_index_or heads of 0
-after heads next of (Some k) = slice_index_or next k 0
+abbrev pub link_after : List ℕ → List ℕ → ℕ → Option ℕ → ℕ
+link_after heads next of None = slice_index_or heads of 0
+link_after heads next of (Some k) = slice_index_or next k 0
 
 -- the heads and the links with that one changed
 abbrev pub heads_with : List ℕ → ℕ → Option ℕ → ℕ → List ℕ

@@ -4,7 +4,7 @@ ghost use Rattle.std.specs.Prelude.{◌≡◌, ◌*◌, ◌<◌, length};
 ghost use Rattle.std.specs.Prelude.{OnOk};
 ghost use Rattle.image_device.specs.Calls.{Rests, Uses};
 ghost use Rattle.image_device.specs.Counts.{CountsFaultOf};
-ghost use Rattle.pointer_table.specs.Loading.{is_bad};
+ghost use Rattle.pointer_table.specs.Loading.{is_bad_slot};
 ghost use Rattle.pointer_table.specs.Reading.{IsSlotReading, IsTaking, AreWithinTo, TakesWithin};
 ghost use Rattle.tsd_model.specs.Geometry.{IsLawful};
 
@@ -26,8 +26,8 @@ struct BadSlot {
 }
 
 /// Whether a slot is bad.
-fn is_bad(slot: &RawSlot, geometry: &Geometry) -> bool
-    ensures { result ≡ is_bad geometry.now slot.now.source slot.now.target }
+fn is_bad_slot(slot: &RawSlot, geometry: &Geometry) -> bool
+    ensures { result ≡ is_bad_slot geometry.now slot.now.source slot.now.target }
 {
     slot.source != 0
         && (geometry.blocks < slot.source
@@ -53,7 +53,7 @@ fn take_sector(
     let end = slots.len().min(first + PER_SECTOR);
     for position in first..end {
         let slot = read_slot(sector, position - first);
-        if is_bad(&slot, geometry) {
+        if is_bad_slot(&slot, geometry) {
             return Err(BadSlot {
                 slot: position as u32,
                 source: slot.source,

@@ -5,8 +5,8 @@ ghost use Rattle.std.specs.Prelude.{slice_set, replicate, [], true, Option, Some
 ghost use Rattle.pointer_table.specs.Indexed.{AreThreadsOf};
 ghost use Rattle.pointer_table.specs.Links.{links_of};
 ghost use Rattle.pointer_table.specs.Slots.{slot_at};
-ghost use Rattle.pointer_table.specs.Threads.{rank, is_below, group, linked, no_link, after, heads_with, next_with};
-ghost use Rattle.pointer_table.specs.Threads.{IsFirstThatFar, IsLastBelow, IsBelowAll, IsNear, IsWith};
+ghost use Rattle.pointer_table.specs.Threads.{rank, is_below, group, linked, no_link, link_after, heads_with};
+ghost use Rattle.pointer_table.specs.Threads.{next_with, IsFirstThatFar, IsLastBelow, IsBelowAll, IsNear, IsWith};
 
 use crate::fault::TableFault;
 use crate::links::{Links, NO_LINK};
@@ -93,7 +93,7 @@ impl Threads {
     fn after(&self, of: usize, before: Option<u32>) -> u32
         requires group { of < length self.now.heads }
         requires slot { IfSome before (λ k. k < length self.now.next) }
-        ensures { result ≡ after self.now.heads self.now.next of before }
+        ensures { result ≡ link_after self.now.heads self.now.next of before }
     {
         match before {
             Some(position) => self.next.get(position as usize),
@@ -195,7 +195,7 @@ impl Threads {
         requires slot { IfSome before (λ k. k < length self.old.next) }
         requires position { position < length self.old.next }
         ensures heads { self.new.heads ≡ heads_with self.old.heads of before position }
-        ensures next { let link = after self.old.heads self.old.next of before in
+        ensures next { let link = link_after self.old.heads self.old.next of before in
             self.new.next ≡ next_with (slice_set self.old.next position link) before position }
         ensures way { self.new.way ≡ self.old.way }
     {

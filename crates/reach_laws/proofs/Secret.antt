@@ -28,7 +28,7 @@ use Rattle.disk_laws.proofs.RunLaws.{run_valid}
 use Rattle.reach_laws.specs.Runs.{at_some_request}
 use Rattle.reach_laws.specs.Confinement.{shows_right}
 use Rattle.reach_laws.specs.Confidentiality.{AlikeBut, is_of, replies_to}
-use Rattle.reach_laws.specs.Region.{IsShutOff, LeavesShut, NoneOpens, keeps_to, left_of}
+use Rattle.reach_laws.specs.Region.{IsShutOff, LeavesShut, NoneOpens, keeps_to, region_left}
 use Rattle.reach_laws.proofs.ConfinementLaws.{closed_holds_nothing, none_is_open_at_rest, holds_what_was_shown}
 use Rattle.reach_laws.proofs.Counterexamples.{read_and_write, start, W}
 use Rattle.reach_laws.proofs.RegionLaws.{region_is_hidden}
@@ -138,7 +138,7 @@ none_opens : (x : ℕ) (kind : PlaceKind) (hidden : ℕ → Bool) (s : State) (w
 none_opens x kind hidden s wants [] h = tt
 none_opens x kind hidden s wants (q ∷ qs) h =
     let parts = and_parts (not (is_of_session q 1)) (list_all (λ p. not (is_of_session p 1)) qs) h in
-    (λ other _. of_none q parts.0 other, none_opens x kind (left_of hidden (answer kind s q (wants_now wants)).state) (answer kind s q (wants_now wants)).state (drop 1 wants) qs parts.1)
+    (λ other _. of_none q parts.0 other, none_opens x kind (region_left hidden (answer kind s q (wants_now wants)).state) (answer kind s q (wants_now wants)).state (drop 1 wants) qs parts.1)
   where
     never : (n : ℕ) → not (n == 1) ≡ true → not (1 == n) ≡ false → ⊥
     never n p e = clash (not (1 == n)) (grind (arith, p)) e

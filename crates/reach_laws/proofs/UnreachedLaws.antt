@@ -38,7 +38,7 @@ use Rattle.disk_laws.proofs.NeedLaws.{is_bare}
 use Rattle.disk_laws.proofs.RunLaws.{answer_valid, answer_fits, answer_geometry}
 use Rattle.reach_laws.specs.Confidentiality.{AlikeBut, is_known, shows_known, is_of, reads_hidden, still_hidden}
 use Rattle.reach_laws.specs.Integrity.{acts_with_write, moves_pointers}
-use Rattle.reach_laws.specs.Region.{IsShutOff, keeps_to, LeavesShut, left_of}
+use Rattle.reach_laws.specs.Region.{IsShutOff, keeps_to, LeavesShut, region_left}
 use Rattle.reach_laws.specs.ByAccess.{IsOutOfReach, BlockIsAsItWas}
 use Rattle.reach_laws.proofs.ConfidentialityLaws.{replies_hide_bytes, hidden_bytes_stay_hidden}
 use Rattle.reach_laws.proofs.ConfinementLaws.{closed_holds_nothing, none_is_open_at_rest}
@@ -182,7 +182,7 @@ module _ (kind : PlaceKind) (w : World) (region : ℕ → Bool) (reached : (b : 
   lives : (b : ℕ) → region b ≡ true → is_live next.world b ≡ true
   lives b here = lives_on w.geometry.blocks b (reached b here) here
 
-  left_is : (b : ℕ) → region b ≡ true → left_of region next b ≡ true
+  left_is : (b : ℕ) → region b ≡ true → region_left region next b ≡ true
   left_is b here = ap (λ t. t && is_live next.world b) here ∙ lives b here
 
   shut_next : IsShutOff (known_by w region) region all next

@@ -4,8 +4,7 @@ use Rattle.std.proofs.lemmas.Bool.{eq-eqb, eqb-true, ne_eqb, and_parts, and_from
 use Rattle.std.proofs.lemmas.List.{append-nil, take_more}
 use Rattle.std.proofs.Common.{Option, Some, None}
 use Rattle.std.specs.Prelude.{get_or, option_to_list, IfSome, IsSome, IsNone, ◌↔◌}
-use Rattle.tsd_model.specs.World.{has_number}
-use Rattle.disk_laws.specs.Reclaiming.{all_apart}
+use Rattle.tsd_model.specs.World.{has_number, are_apart}
 use Rattle.graph_laws.proofs.CountLaws.{apart_fits}
 use Rattle.reclaim.specs.Held.{HeldTargets, IsHeld, IsPopped}
 
@@ -21,12 +20,12 @@ has-push (x ∷ xs) b c = ap (λ t. (x == c) || t) (has-push xs b c) ∙ assoc (
     assoc true t u = refl
     assoc false t u = refl
 
-pub apart-push : (xs : List ℕ) (b : ℕ) → all_apart xs ≡ true → has_number xs b ≡ false → all_apart (xs ++ b ∷ []) ≡ true
+pub apart-push : (xs : List ℕ) (b : ℕ) → are_apart xs ≡ true → has_number xs b ≡ false → are_apart (xs ++ b ∷ []) ≡ true
 apart-push [] b once new = refl
 apart-push (x ∷ xs) b once new =
-    let parts = and_parts (not (has_number xs x)) (all_apart xs) once in
+    let parts = and_parts (not (has_number xs x)) (are_apart xs) once in
     let out = or_parts (x == b) (has_number xs b) new in
-    and_from (not (has_number (xs ++ b ∷ []) x)) (all_apart (xs ++ b ∷ []))
+    and_from (not (has_number (xs ++ b ∷ []) x)) (are_apart (xs ++ b ∷ []))
     (ap not (has-push xs b x ∙ or_from (has_number xs x) (b == x) (not-true (has_number xs x) parts.0) (ne_eqb b x (λ e. both_ways (x == b) out.0 (eq-eqb x b (sym e))))))
     (apart-push xs b parts.1 out.1)
 
@@ -39,12 +38,12 @@ has-take (suc n) (x ∷ xs) b h = elim (or_cases (x == b) (has_number (take n xs
   | inr later ↦ or_right (x == b) (has_number xs b) (has-take n xs b later)
 ]
 
-pub apart-take : (n : ℕ) (xs : List ℕ) → all_apart xs ≡ true → all_apart (take n xs) ≡ true
+pub apart-take : (n : ℕ) (xs : List ℕ) → are_apart xs ≡ true → are_apart (take n xs) ≡ true
 apart-take zero [] once = refl
 apart-take zero (x ∷ xs) once = refl
 apart-take (suc n) [] once = refl
-apart-take (suc n) (x ∷ xs) once = let parts = and_parts (not (has_number xs x)) (all_apart xs) once in
-    and_from (not (has_number (take n xs) x)) (all_apart (take n xs))
+apart-take (suc n) (x ∷ xs) once = let parts = and_parts (not (has_number xs x)) (are_apart xs) once in
+    and_from (not (has_number (take n xs) x)) (are_apart (take n xs))
     (ap not (false_from_ne_true (has_number (take n xs) x) (λ h. both_ways (has_number xs x) (not-true (has_number xs x) parts.0) (has-take n xs x h))))
     (apart-take n xs parts.1)
 
@@ -55,11 +54,11 @@ take-whole (suc n) [] h = refl
 take-whole (suc n) (x ∷ xs) h = ap (λ ys. x ∷ ys) (take-whole n xs (omega arith))
 
 -- a longer list has a number more
-pub has-beyond : (n : ℕ) (xs : List ℕ) → all_apart xs ≡ true → n < length xs → (b : ℕ) × (has_number xs b ≡ true) × (has_number (take n xs) b ≡ false)
+pub has-beyond : (n : ℕ) (xs : List ℕ) → are_apart xs ≡ true → n < length xs → (b : ℕ) × (has_number xs b ≡ true) × (has_number (take n xs) b ≡ false)
 has-beyond n [] once long = absurd (omega arith)
 has-beyond zero (x ∷ xs) once long = (x, or_left (x == x) (has_number xs x) (eq-eqb x x refl), refl)
 has-beyond (suc n) (x ∷ xs) once long =
-    let parts = and_parts (not (has_number xs x)) (all_apart xs) once in
+    let parts = and_parts (not (has_number xs x)) (are_apart xs) once in
     let rest = has-beyond n xs parts.1 (omega arith) in (
       rest.0,
       or_right (x == rest.0) (has_number xs rest.0) rest.1,
@@ -69,7 +68,7 @@ has-beyond (suc n) (x ∷ xs) once long =
 
 -- there is room for one that isn't held
 pub room_for : (h : HeldTargets) (b : ℕ) → IsHeld h → b < h.room → has_number h.blocks b ≡ false → length h.blocks < h.room
-room_for h b held within new = let fits = apart_fits (b ∷ h.blocks) h.room (and_from (not (has_number h.blocks b)) (all_apart h.blocks) (ap not new) held.once)
+room_for h b held within new = let fits = apart_fits (b ∷ h.blocks) h.room (and_from (not (has_number h.blocks b)) (are_apart h.blocks) (ap not new) held.once)
     (λ c is. elim (or_cases (b == c) (has_number h.blocks c) is) [ inl same ↦ subst (λ k. k < h.room) (eqb-true b c same) within | inr old ↦ held.below c old ]) in omega (arith, fits)
 
 pub held-push : (h : HeldTargets) (b : ℕ) → IsHeld h → b < h.room → has_number h.blocks b ≡ false → IsHeld (record h { blocks = h.blocks ++ b ∷ [] })
@@ -80,17 +79,17 @@ held-push h b held within new = record {
 
 held_pop : (h : HeldTargets) (b : ℕ) (xs : List ℕ) → IsHeld h → h.blocks ≡ xs ++ b ∷ [] → IsHeld (record h { blocks = xs }) × ((b < h.room) × (has_number xs b ≡ false))
 held_pop h b xs held e = (
-  record { once = (unpush xs (subst (λ ys. all_apart ys ≡ true) e held.once)).0; below = λ c is. held.below c (ap (λ ys. has_number ys c) e ∙ (has-push xs b c ∙ or_left (has_number xs c) (b == c) is)) },
-  (held.below b (ap (λ ys. has_number ys b) e ∙ (has-push xs b b ∙ or_right (has_number xs b) (b == b) (eq-eqb b b refl))), (unpush xs (subst (λ ys. all_apart ys ≡ true) e held.once)).1),
+  record { once = (unpush xs (subst (λ ys. are_apart ys ≡ true) e held.once)).0; below = λ c is. held.below c (ap (λ ys. has_number ys c) e ∙ (has-push xs b c ∙ or_left (has_number xs c) (b == c) is)) },
+  (held.below b (ap (λ ys. has_number ys b) e ∙ (has-push xs b b ∙ or_right (has_number xs b) (b == b) (eq-eqb b b refl))), (unpush xs (subst (λ ys. are_apart ys ≡ true) e held.once)).1),
 )
   where
-    unpush : (ys : List ℕ) → all_apart (ys ++ b ∷ []) ≡ true → (all_apart ys ≡ true) × (has_number ys b ≡ false)
+    unpush : (ys : List ℕ) → are_apart (ys ++ b ∷ []) ≡ true → (are_apart ys ≡ true) × (has_number ys b ≡ false)
     unpush [] once = (refl, refl)
     unpush (y ∷ ys) once =
-        let parts = and_parts (not (has_number (ys ++ b ∷ []) y)) (all_apart (ys ++ b ∷ [])) once in
+        let parts = and_parts (not (has_number (ys ++ b ∷ []) y)) (are_apart (ys ++ b ∷ [])) once in
         let rest = unpush ys parts.1 in
         let out = or_parts (has_number ys y) (b == y) (sym (has-push ys b y) ∙ not-true (has_number (ys ++ b ∷ []) y) parts.0) in
-        (and_from (not (has_number ys y)) (all_apart ys) (ap not out.0) rest.0, or_from (y == b) (has_number ys b) (ne_eqb y b (λ e. both_ways (b == y) out.1 (eq-eqb b y (sym e)))) rest.1)
+        (and_from (not (has_number ys y)) (are_apart ys) (ap not out.0) rest.0, or_from (y == b) (has_number ys b) (ne_eqb y b (λ e. both_ways (b == y) out.1 (eq-eqb b y (sym e)))) rest.1)
 
 pub popped : (old : HeldTargets) (xs : List ℕ) (x : ℕ) → IsHeld old → old.blocks ≡ xs ++ x ∷ [] → IsHeld (record old { blocks = xs }) × IsPopped old (record old { blocks = xs }) x
 popped old xs x held last =
@@ -119,10 +118,10 @@ has-at (x ∷ xs) zero h = or_left (x == x) (has_number xs x) (eq-eqb x x refl)
 has-at (x ∷ xs) (suc i) h = or_right (x == get_or xs i 0) (has_number xs (get_or xs i 0)) (has-at xs i (omega arith))
 
 -- none twice: the one at a position isn't among those before it
-pub not_before : (xs : List ℕ) (i : ℕ) → all_apart xs ≡ true → i < length xs → has_number (take i xs) (get_or xs i 0) ≡ false
+pub not_before : (xs : List ℕ) (i : ℕ) → are_apart xs ≡ true → i < length xs → has_number (take i xs) (get_or xs i 0) ≡ false
 not_before [] i once h = absurd (omega arith)
 not_before (x ∷ xs) zero once h = refl
-not_before (x ∷ xs) (suc i) once h = let parts = and_parts (not (has_number xs x)) (all_apart xs) once in
+not_before (x ∷ xs) (suc i) once h = let parts = and_parts (not (has_number xs x)) (are_apart xs) once in
     or_from (x == get_or xs i 0) (has_number (take i xs) (get_or xs i 0))
     (ne_eqb x (get_or xs i 0) (λ e. both_ways (has_number xs x) (not-true (has_number xs x) parts.0) (subst (λ k. has_number xs k ≡ true) (sym e) (has-at xs i (omega arith)))))
     (not_before xs i parts.1 (omega arith))

@@ -3,8 +3,7 @@ use Rattle.std.proofs.Common.{◌≡◌, ℕ, zero, suc, ◌+◌, ◌<◌, Bool,
 use Rattle.std.proofs.lemmas.Bool.{eq-eqb, ne_eqb, cases_eq}
 use Rattle.std.proofs.lemmas.List.{get_or-set_same, get_or-set_other}
 use Rattle.std.specs.Prelude.{slice_index, slice_set, replicate}
-use Rattle.tsd_model.specs.World.{has_number}
-use Rattle.disk_laws.specs.Reclaiming.{all_apart}
+use Rattle.tsd_model.specs.World.{has_number, are_apart}
 use Rattle.reclaim.specs.Ahead.{is_gone}
 use Rattle.reclaim.proofs.HeldLaws.{not_before, has-take_more}
 
@@ -17,7 +16,7 @@ or_none true = refl
 or_none false = refl
 
 -- one place more is raised
-pub raised_next : (xs : List ℕ) (i : ℕ) (old now new : List ℕ) → all_apart xs ≡ true → i < length xs → get_or xs i 0 < length now
+pub raised_next : (xs : List ℕ) (i : ℕ) (old now new : List ℕ) → are_apart xs ≡ true → i < length xs → get_or xs i 0 < length now
     → ((b : ℕ) → slice_index now b ≡ cond (has_number (take i xs) b) 1 0 + slice_index old b)
     → new ≡ slice_set now (get_or xs i 0) (slice_index now (get_or xs i 0) + 1)
     → (b : ℕ) → slice_index new b ≡ cond (has_number (take (i + 1) xs) b) 1 0 + slice_index old b

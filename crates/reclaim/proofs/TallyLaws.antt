@@ -19,7 +19,7 @@ use Rattle.graph_laws.proofs.AheadLaws.{kept_deleted}
 use Rattle.tsd_model.proofs.CountLaws.{count-without_pair}
 use Rattle.graph_laws.proofs.MarkingLaws.{marking_of_deleted, marking_lowered, marking_ends, count_ends, off_ends, count_lowered, off_lowered}
 use Rattle.graph_laws.proofs.WeightLaws.{doomed_listed}
-use Rattle.reclaim.specs.Ahead.{Kept, is_gone, IsAheadOf, IsDeleting, kept}
+use Rattle.reclaim.specs.Ahead.{Kept, is_gone, IsAheadOf, IsDeleting, kept_ahead}
 use Rattle.reclaim.specs.Counting.{left_at, IsCounting}
 use Rattle.reclaim.proofs.CountingLaws.{IsLowered, counting_as, counted_off}
 use Rattle.reclaim.proofs.HeldLaws.{has-push}
@@ -173,7 +173,7 @@ counting_closed w counts gone waiting number pairs o from raw all counting = cou
 -- ---- the end
 
 pub counting_ended : (w : World) (counts : List ℕ) (gone : List Bool) (waiting : List ℕ) (number pairs : ℕ) → IsRawGraph w → length counts ≡ w.geometry.blocks → length gone ≡ w.geometry.blocks → waiting ≡ []
-    → IsCounting w counts gone waiting number pairs (left_at gone waiting w.geometry.blocks 0) → IsAheadOf w (kept counts gone number pairs)
+    → IsCounting w counts gone waiting number pairs (left_at gone waiting w.geometry.blocks 0) → IsAheadOf w (kept_ahead counts gone number pairs)
 counting_ended w counts gone waiting number pairs raw long marks none counting = record {
   counts_each = long;
   marks_each = marks;
@@ -194,7 +194,7 @@ counting_ended w counts gone waiting number pairs raw long marks none counting =
 -- ---- the start: a pair was deleted
 
 module _ (w v : World) (a t : ℕ) (counts new_counts : List ℕ) (gone new_gone : List Bool) (after : List ℕ) (number new_number pairs : ℕ)
-    (raw : IsRawGraph w) (deleting : IsDeleting v a t (kept counts gone number pairs)) (is : w ≡ without_pointer v a t)
+    (raw : IsRawGraph w) (deleting : IsDeleting v a t (kept_ahead counts gone number pairs)) (is : w ≡ without_pointer v a t)
     (lowered : IsLowered counts new_counts gone new_gone [] after number new_number t) where
   off_source : has_number (doomed v) a ≡ false
   off_source = sym (deleting.ahead.told a) ∙ deleting.source

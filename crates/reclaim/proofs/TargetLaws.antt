@@ -5,8 +5,7 @@ use Rattle.std.proofs.lemmas.List.{length-take, length-append, take_more, take-a
 use Rattle.std.specs.Prelude.{◌++◌, nat_lt, filter, map, get_or}
 use Rattle.tsd_model.specs.Pairs.{holds, is_below_first, is_rising}
 use Rattle.tsd_model.specs.Step.{targets_from}
-use Rattle.tsd_model.specs.World.{World, has_number}
-use Rattle.disk_laws.specs.Reclaiming.{all_apart}
+use Rattle.tsd_model.specs.World.{World, has_number, are_apart}
 use Rattle.graph_laws.specs.Steps.{AreTargets, IsStep, IsLost}
 use Rattle.graph_laws.proofs.StepLaws.{alone_then}
 use Rattle.tsd_model.proofs.PairLaws.{first_once}
@@ -24,11 +23,11 @@ has-targets (e ∷ es) a b = let rest = has-targets es a b in
       | false ↦ rest
     ]
 
-apart-targets : (es : List (ℕ × ℕ)) (a : ℕ) → is_rising es ≡ true → all_apart (all_targets es a) ≡ true
+apart-targets : (es : List (ℕ × ℕ)) (a : ℕ) → is_rising es ≡ true → are_apart (all_targets es a) ≡ true
 apart-targets [] a r = refl
 apart-targets (e ∷ es) a r = let parts = and_parts (is_below_first e es) (is_rising es) r in
-    elim ((e.0 == a) && nat_le 0 e.1) as (λ t. ((e.0 == a) && nat_le 0 e.1) ≡ t → all_apart (map (λ e. e.1) (cond t (e ∷ filter (λ e. (e.0 == a) && nat_le 0 e.1) es) (filter (λ e. (e.0 == a) && nat_le 0 e.1) es))) ≡ true) [
-      | true ↦ λ k. and_from (not (has_number (all_targets es a) e.1)) (all_apart (all_targets es a))
+    elim ((e.0 == a) && nat_le 0 e.1) as (λ t. ((e.0 == a) && nat_le 0 e.1) ≡ t → are_apart (map (λ e. e.1) (cond t (e ∷ filter (λ e. (e.0 == a) && nat_le 0 e.1) es) (filter (λ e. (e.0 == a) && nat_le 0 e.1) es))) ≡ true) [
+      | true ↦ λ k. and_from (not (has_number (all_targets es a) e.1)) (are_apart (all_targets es a))
           (ap not (has-targets es a e.1 ∙ first_once e es a e.1 parts.0 parts.1 (and_from (e.0 == a) (e.1 == e.1) (and_parts (e.0 == a) (nat_le 0 e.1) k).0 (eq-eqb e.1 e.1 refl))))
           (apart-targets es a parts.1)
       | false ↦ λ _. apart-targets es a parts.1
@@ -37,7 +36,7 @@ apart-targets (e ∷ es) a r = let parts = and_parts (is_below_first e es) (is_r
 -- ---- a step with the first 16 of the least 64
 
 module _ (w : World) (a : ℕ) (rising : is_rising w.pairs ≡ true) where
-  apart : all_apart (targets_from w.pairs a 0) ≡ true
+  apart : are_apart (targets_from w.pairs a 0) ≡ true
   apart = apart-take 64 (all_targets w.pairs a) (apart-targets w.pairs a rising)
 
   -- where there are no more than 16, it takes all

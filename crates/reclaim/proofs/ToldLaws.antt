@@ -20,7 +20,7 @@ use Rattle.graph_laws.proofs.CommuteLaws.{doomed-with_pointer}
 use Rattle.graph_laws.proofs.SameGraphLaws.{doomed_by_graph, doomed_pairs_by_graph, kept_by_graph}
 use Rattle.graph_laws.proofs.StepLaws.{geometry-without_pointers}
 use Rattle.graph_laws.proofs.WeightLaws.{step_lowers, step_keeps_counts, doomed_after_step}
-use Rattle.reclaim.specs.Ahead.{Kept, is_gone, IsAheadOf, IsAdding, IsGrowing, IsStepping, kept}
+use Rattle.reclaim.specs.Ahead.{Kept, is_gone, IsAheadOf, IsAdding, IsGrowing, IsStepping, kept_ahead}
 use Rattle.reclaim.specs.Stepping.{after_step}
 use Rattle.reclaim.specs.Tallies.{HasSameMarks}
 use Rattle.reclaim.specs.declared.tally.Tally.{Tally}
@@ -50,7 +50,7 @@ module _ (w : World) (none : doomed w ≡ []) where
 
   -- where nothing is doomed, counts are right that have no block marked and the counts of all pairs
   pub settled_ahead : (counts : List ℕ) (gone : List Bool) → length counts ≡ w.geometry.blocks → length gone ≡ w.geometry.blocks
-      → ((b : ℕ) → b < w.geometry.blocks → slice_index counts b ≡ kept_count w b) → ((b : ℕ) → is_gone gone b ≡ false) → IsAheadOf w (kept counts gone 0 0)
+      → ((b : ℕ) → b < w.geometry.blocks → slice_index counts b ≡ kept_count w b) → ((b : ℕ) → is_gone gone b ≡ false) → IsAheadOf w (kept_ahead counts gone 0 0)
   settled_ahead counts gone long marks counted clear = record {
     counts_each = long;
     marks_each = marks;
@@ -61,13 +61,13 @@ module _ (w : World) (none : doomed w ≡ []) where
   }
 
   pub reset_ahead : (table counts : List ℕ) (gone : List Bool) (n : ℕ) → w.geometry.blocks ≡ n → AreCounts table w → length counts ≡ n → length gone ≡ n
-      → ((b : ℕ) → b < n → slice_index counts b ≡ slice_index table b) → ((b : ℕ) → is_gone gone b ≡ false) → IsAheadOf w (kept counts gone 0 0)
+      → ((b : ℕ) → b < n → slice_index counts b ≡ slice_index table b) → ((b : ℕ) → is_gone gone b ≡ false) → IsAheadOf w (kept_ahead counts gone 0 0)
   reset_ahead table counts gone n size have long marks same clear = settled_ahead counts gone (long ∙ sym size) (marks ∙ sym size)
       (λ b below. same b (subst (λ k. b < k) size below) ∙ (have b below ∙ sym (kept_of_none w not_doomed b))) clear
 
 -- ---- a pair more
 
-pub raise_ahead : (w : World) (a t : ℕ) (k : Kept) (counts : List ℕ) → IsAdding w a t k → counts ≡ slice_set k.counts t (slice_index k.counts t + 1) → IsAheadOf (with_pointer w a t) (kept counts k.gone k.doomed k.pairs)
+pub raise_ahead : (w : World) (a t : ℕ) (k : Kept) (counts : List ℕ) → IsAdding w a t k → counts ≡ slice_set k.counts t (slice_index k.counts t + 1) → IsAheadOf (with_pointer w a t) (kept_ahead counts k.gone k.doomed k.pairs)
 raise_ahead w a t k counts adding is =
     let ahead = adding.ahead in
     let out = adding.raw.laid_out in
@@ -104,7 +104,7 @@ pub growing_within : (w : World) (bs : List ℕ) (k : Kept) → IsGrowing w bs k
 growing_within w bs k growing b is = subst (λ n. b < n) growing.raw.laid_out.each_block (ltb-true b (length w.blocks) (and_parts (nat_lt b (length w.blocks)) (is_none (contents w b)) (growing.free b is)).0)
 
 pub grow_ahead : (w : World) (a : ℕ) (bs : List ℕ) (k : Kept) (counts : List ℕ) → IsGrowing w bs k → length counts ≡ length k.counts
-    → ((b : ℕ) → slice_index counts b ≡ cond (has_number bs b) 1 0 + slice_index k.counts b) → IsAheadOf (with_new_blocks w a bs) (kept counts k.gone k.doomed k.pairs)
+    → ((b : ℕ) → slice_index counts b ≡ cond (has_number bs b) 1 0 + slice_index k.counts b) → IsAheadOf (with_new_blocks w a bs) (kept_ahead counts k.gone k.doomed k.pairs)
 grow_ahead w a bs k counts growing long raised =
     let law = kept-new_blocks w a bs growing.raw growing.none growing.once growing.free in
     let ahead = growing.ahead in
@@ -114,8 +114,8 @@ grow_ahead w a bs k counts growing long raised =
     (λ b below. raised b ∙ (ap (λ n. cond (has_number bs b) 1 0 + n) (ahead.counted b (subst (λ n. b < n) size below)) ∙ sym (law.1 b))) was in
     let nothing : k.doomed ≡ 0 = ahead.number ∙ ap length growing.none in
     let no_pairs : k.pairs ≡ 0 = ahead.off ∙ none_pass (λ e. has_number (doomed w) e.0) w.pairs (λ x y _. ap (λ xs. has_number xs x) growing.none) in
-    subst (λ n. IsAheadOf (with_new_blocks w a bs) (kept counts k.gone n k.pairs)) (sym nothing)
-    (subst (λ n. IsAheadOf (with_new_blocks w a bs) (kept counts k.gone 0 n)) (sym no_pairs) right)
+    subst (λ n. IsAheadOf (with_new_blocks w a bs) (kept_ahead counts k.gone n k.pairs)) (sym nothing)
+    (subst (λ n. IsAheadOf (with_new_blocks w a bs) (kept_ahead counts k.gone 0 n)) (sym no_pairs) right)
 
 -- ---- a step
 
@@ -132,7 +132,7 @@ geometry-stepped w a bs false = geometry-without_pointers a bs w
 
 pub step_ahead : (w : World) (s : OutStep) (k : Kept) (gone : List Bool) (number pairs : ℕ) → IsStepping w s k → length gone ≡ length k.gone
     → ((b : ℕ) → is_gone gone b ≡ (is_gone k.gone b && not (s.freed && (b == s.block)))) → k.doomed ≡ cond s.freed 1 0 + number → k.pairs ≡ length s.targets + pairs
-    → IsAheadOf (after_step w s) (kept k.counts gone number pairs)
+    → IsAheadOf (after_step w s) (kept_ahead k.counts gone number pairs)
 step_ahead w s k gone number pairs stepping long marks fewer taken =
     let ahead = stepping.ahead in
     let less = step_lowers w s.block s.targets stepping.laid_out stepping.lost s.freed stepping.step in
@@ -148,5 +148,5 @@ step_ahead w s k gone number pairs stepping long marks fewer taken =
 -- ---- counts that were raised
 
 -- with the marks that stayed
-pub marks_same : (w : World) (old new : Tally) → HasSameMarks old new → IsAheadOf w (kept new.counts.items old.gone old.doomed old.pairs) → IsAheadOf w (kept new.counts.items new.gone new.doomed new.pairs)
-marks_same w old new same ahead = subst (IsAheadOf w) (λ i. kept new.counts.items (sym same.gone i) (sym same.doomed i) (sym same.pairs i)) ahead
+pub marks_same : (w : World) (old new : Tally) → HasSameMarks old new → IsAheadOf w (kept_ahead new.counts.items old.gone old.doomed old.pairs) → IsAheadOf w (kept_ahead new.counts.items new.gone new.doomed new.pairs)
+marks_same w old new same ahead = subst (IsAheadOf w) (λ i. kept_ahead new.counts.items (sym same.gone i) (sym same.doomed i) (sym same.pairs i)) ahead

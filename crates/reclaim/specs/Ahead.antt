@@ -2,9 +2,8 @@
 use Rattle.std.specs.Prelude.{◌≡◌, ℕ, ◌<◌, ◌&&◌, not, Bool, false, List, [], length, slice_index, slice_index_or}
 use Rattle.std.specs.Prelude.{IsTrue}
 use Rattle.tsd_model.specs.Pairs.{holds}
-use Rattle.tsd_model.specs.World.{World, is_free, has_number}
+use Rattle.tsd_model.specs.World.{World, is_free, has_number, are_apart}
 use Rattle.tsd_model.specs.Doomed.{doomed}
-use Rattle.disk_laws.specs.Reclaiming.{all_apart}
 use Rattle.pointer_table.specs.declared.out_step.OutStep.{OutStep}
 use Rattle.block_alloc.specs.LiveMap.{LiveMap, is_live}
 use Rattle.graph_laws.specs.Counts.{kept_count, doomed_pairs}
@@ -20,8 +19,8 @@ pub record Kept : Type 0 where
   pub doomed : ℕ
   pub pairs : ℕ
 
-abbrev pub kept : List ℕ → List Bool → ℕ → ℕ → Kept
-kept counts gone number pairs = record { counts = counts; gone = gone; doomed = number; pairs = pairs }
+abbrev pub kept_ahead : List ℕ → List Bool → ℕ → ℕ → Kept
+kept_ahead counts gone number pairs = record { counts = counts; gone = gone; doomed = number; pairs = pairs }
 
 abbrev pub is_gone : List Bool → ℕ → Bool
 is_gone gone b = slice_index_or gone b false
@@ -54,7 +53,7 @@ pub record IsAdding (w : World) (a t : ℕ) (k : Kept) : Type 0 where
 pub record IsGrowing (w : World) (bs : List ℕ) (k : Kept) : Type 0 where
   pub raw : IsRawGraph w
   pub none : doomed w ≡ []
-  pub once : IsTrue (all_apart bs)
+  pub once : IsTrue (are_apart bs)
   pub free : (b : ℕ) → IsTrue (has_number bs b) → IsTrue (is_free w b)
   pub ahead : IsAheadOf w k
 

@@ -1,7 +1,6 @@
 -- Blocks that wait, in a list with room for all.
 use Rattle.std.specs.Prelude.{◌≡◌, ℕ, ◌<◌, false, List, [], ◌∷◌, ◌++◌, IsTrue}
-use Rattle.tsd_model.specs.World.{has_number}
-use Rattle.disk_laws.specs.Reclaiming.{all_apart}
+use Rattle.tsd_model.specs.World.{has_number, are_apart}
 
 pub record HeldTargets : Type 0 where
   -- how many blocks there are
@@ -10,7 +9,7 @@ pub record HeldTargets : Type 0 where
 
 -- each block once, and of these blocks
 pub record IsHeld (h : HeldTargets) : Type 0 where
-  pub once : IsTrue (all_apart h.blocks)
+  pub once : IsTrue (are_apart h.blocks)
   pub below : (b : ℕ) → IsTrue (has_number h.blocks b) → b < h.room
 
 -- The block that was held last is held no longer.

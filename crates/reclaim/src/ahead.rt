@@ -35,11 +35,11 @@ pub struct Ahead {
 
 impl Model for Ahead {
     ghost use Rattle.std.specs.Prelude.{◌≡◌, [], length};
-    ghost use Rattle.reclaim.specs.Ahead.{Kept, kept};
+    ghost use Rattle.reclaim.specs.Ahead.{Kept, kept_ahead};
 
     ghost Value = { Kept };
 
-    ghost view = { λ a. kept a.tally.counts.items a.tally.gone a.tally.doomed a.tally.pairs };
+    ghost view = { λ a. kept_ahead a.tally.counts.items a.tally.gone a.tally.doomed a.tally.pairs };
 
     // no block waits between calls
     ghost invariant = { λ a.

@@ -2,10 +2,9 @@
 
 ghost use Rattle.std.specs.Prelude.{◌≡◌, ℕ, ◌+◌, ◌-◌, ◌<◌, ◌≤◌, ◌||◌, ◌&&◌, ◌==◌};
 ghost use Rattle.std.specs.Prelude.{[], false, not, cond, length, slice_index, slice_set, IsTrue};
-ghost use Rattle.tsd_model.specs.World.{World, has_number};
+ghost use Rattle.tsd_model.specs.World.{World, has_number, are_apart};
 ghost use Rattle.tsd_model.specs.Step.{without_pointer};
-ghost use Rattle.reclaim.specs.Ahead.{is_gone, Hides, IsAheadOf, IsDeleting, kept};
-ghost use Rattle.disk_laws.specs.Reclaiming.{all_apart};
+ghost use Rattle.reclaim.specs.Ahead.{is_gone, Hides, IsAheadOf, IsDeleting, kept_ahead};
 ghost use Rattle.reclaim.specs.Counting.{left_at, IsCounting};
 ghost use Rattle.reclaim.specs.Tallies.{HasSameMarks};
 ghost use Rattle.reclaim.specs.Tables.{graph_of, AreTables};
@@ -65,7 +64,7 @@ impl Tally {
 
     /// One pair more leads to each of these blocks.
     pub(crate) fn raise_all(&mut self, targets: &[u32])
-        requires once { IsTrue (all_apart targets.now) }
+        requires once { IsTrue (are_apart targets.now) }
         requires within { (b : ℕ) → IsTrue (has_number targets.now b) → b < length self.old.counts.items }
         requires fits { (b : ℕ) → IsTrue (has_number targets.now b) → slice_index self.old.counts.items b
             < 4294967295 }
@@ -105,9 +104,9 @@ impl Tally {
         requires room { self.old.waiting.room ≡ pointers.now.geometry.blocks }
         requires none { self.old.waiting.blocks ≡ [] }
         requires hidden { Hides live.old (is_gone self.old.gone) }
-        requires deleted { (w : World) × (a : ℕ) × IsDeleting w a target (kept self.old.counts.items self.old.gone
+        requires deleted { (w : World) × (a : ℕ) × IsDeleting w a target (kept_ahead self.old.counts.items self.old.gone
             self.old.doomed self.old.pairs) × (graph_of pointers.now live.old ≡ without_pointer w a target) }
-        ensures ahead { IsAheadOf (graph_of pointers.now live.new) (kept self.new.counts.items self.new.gone
+        ensures ahead { IsAheadOf (graph_of pointers.now live.new) (kept_ahead self.new.counts.items self.new.gone
             self.new.doomed self.new.pairs) }
         ensures hidden { Hides live.new (is_gone self.new.gone) }
         ensures raw { live.new ≡ record live.old { unhidden = live.new.unhidden } }

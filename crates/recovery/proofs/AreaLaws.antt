@@ -10,7 +10,7 @@ use Rattle.tsd_model.specs.Geometry.{IsLawful}
 use Rattle.tsd_model.specs.Records.{kept}
 use Rattle.image_device.specs.Image.{Image, zeros}
 use Rattle.image_layout.specs.Areas.{sweep_flag, bitmap_start, slots_start}
-use Rattle.image_layout.specs.Image.{is_open}
+use Rattle.image_layout.specs.Image.{says_open}
 use Rattle.image_layout.specs.Offsets.{data_sector}
 use Rattle.block_alloc.specs.Bytes.{bitmap_sector_bytes}
 use Rattle.block_alloc.specs.Fresh.{fresh_live}
@@ -54,7 +54,7 @@ module _ (g : Geometry) (caps : List CapPair) where
   has_written x lawful each kept_are has = record {
     tables = fresh_sectors g caps x lawful (record {
       header = has.header;
-      flag = ap is_open (zero sweep_flag (omega arith) (omega arith) (λ a b. omega arith) (λ a b. omega arith));
+      flag = ap says_open (zero sweep_flag (omega arith) (omega arith) (λ a b. omega arith) (λ a b. omega arith));
       kept = written_records 1 (fresh_records caps) x (inl refl) few kept_are (λ part less.
           let first : part ≡ 0 = omega (arith, few, less) in
           subst (λ (n : ℕ). x (132 + n) ≡ caps_sector_bytes 1 (fresh_records caps) n) (sym first) (has.areas 132 (omega arith) (omega arith)));

@@ -14,7 +14,7 @@ use Rattle.image_device.specs.View.{View, IsSound}
 use Rattle.image_device.proofs.Confined.{confined_start, confined_write, confined_joined, confined_wider}
 use Rattle.image_layout.specs.Areas.{header_sector, format_gate, sweep_flag}
 use Rattle.image_layout.specs.Header.{IsHeaderReading}
-use Rattle.image_layout.specs.Image.{is_open}
+use Rattle.image_layout.specs.Image.{says_open}
 use Rattle.image_layout.specs.Ring.{gate_sector}
 use Rattle.image_world.specs.Fresh.{IsWrittenFresh, AreClosed}
 use Rattle.intent_journal.specs.Home.{is_journal}
@@ -97,7 +97,7 @@ all_written g caps v1 v2 v3 v4 lawful each kept header two closed three fresh fo
   header = subst (λ bytes. IsHeaderReading bytes (Ok (record { version = 1; geometry = g }))) (sym (there header_sector refl ∙ (three.reads header_sector refl ∙ two.reads header_sector refl))) header;
   closed = λ i h.
       let inside = gate_in i h in
-      ap is_open (there (gate_sector i) (no_gate (gate_sector i) (journal_high (gate_sector i) inside)) ∙ three.reads (gate_sector i) (below_flag (gate_sector i) (gate_low (gate_sector i) inside))) ∙ closed i h;
+      ap says_open (there (gate_sector i) (no_gate (gate_sector i) (journal_high (gate_sector i) inside)) ∙ three.reads (gate_sector i) (below_flag (gate_sector i) (gate_low (gate_sector i) inside))) ∙ closed i h;
   areas = λ n from to. there n (no_gate n (omega arith)) ∙ fresh n from to;
 })
   where

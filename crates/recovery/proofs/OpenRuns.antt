@@ -7,7 +7,7 @@ use Rattle.image_device.specs.View.{View, IsLeftNow, IsSound}
 use Rattle.image_device.proofs.Moments.{started, after_sync, after_read, joined, firm_image, uses_and}
 use Rattle.image_layout.specs.declared.header.Header.{Header}
 use Rattle.image_layout.specs.Header.{IsHeaderReading}
-use Rattle.image_layout.specs.Image.{Image, is_open}
+use Rattle.image_layout.specs.Image.{Image, says_open}
 use Rattle.image_world.specs.Alike.{ReadAlike}
 use Rattle.image_world.specs.Faults.{HasHeader, IsGood}
 use Rattle.image_world.specs.Fresh.{AreClosed}
@@ -216,11 +216,11 @@ unwritten old new uses = omega (arith, uses.writes, uses.most)
 pub right_head : (v0 v2 : View) (h : Header) → IsStill v0 v2 → HasHead v2.reads h → HasHeader (home v0.reads)
 right_head v0 v2 h still head = subst (λ (r : Image). HasHeader (home r)) still.reads (head_right (home v2.reads) h head.header)
 
-still_flag : (v0 v4 : View) (vol : Volume) → is_open (home v0.reads 131) ≡ false → IsReplayed v0 v4 → IsVolumeAt vol v4 → vol.tables.is_sweeping ≡ false
+still_flag : (v0 v4 : View) (vol : Volume) → says_open (home v0.reads 131) ≡ false → IsReplayed v0 v4 → IsVolumeAt vol v4 → vol.tables.is_sweeping ≡ false
 unfolding tables_of
 still_flag v0 v4 vol flag done at = ap (λ (t : Tables). t.is_sweeping) (same_tables v0 v4 vol done at) ∙ flag
 
-pub owed_finish : (v0 v4 v5 : View) (vol : Volume) → is_open (home v0.reads 131) ≡ false → LeavesOnly v0 v4 (OwesNoMore v0) → IsReplayed v0 v4 → IsVolumeAt vol v4 → (vol.tables.is_sweeping ≡ false → LeavesOwed v4 v5 (owed vol.tables)) → LeavesOnly v0 v5 (OwesNoMore v0)
+pub owed_finish : (v0 v4 v5 : View) (vol : Volume) → says_open (home v0.reads 131) ≡ false → LeavesOnly v0 v4 (OwesNoMore v0) → IsReplayed v0 v4 → IsVolumeAt vol v4 → (vol.tables.is_sweeping ≡ false → LeavesOwed v4 v5 (owed vol.tables)) → LeavesOnly v0 v5 (OwesNoMore v0)
 owed_finish v0 v4 v5 vol flag so_far done at leaves =
     joined v0 v4 v5 (OwesNoMore v0) (λ x f. owed (tables_of (home x)) ≤ owed vol.tables) so_far (leaves (still_flag v0 v4 vol flag done at))
     (λ x f left. omega (arith, left, ap owed (same_tables v0 v4 vol done at)))

@@ -9,7 +9,7 @@ ghost use Rattle.recovery.specs.Opening.{IsHead};
 
 use crate::fault::OpenFault;
 use image_device::Device;
-use image_layout::gate::is_open;
+use image_layout::gate::says_open;
 use image_layout::header::read_header;
 use image_layout::sectors::{FORMAT_GATE, HEADER_SECTOR, SECTOR_BYTES};
 use image_layout::{Header, ImageFault};
@@ -29,7 +29,7 @@ pub(crate) fn read_head<D: Device>(dev: &mut D, ring: &mut Ring) -> Result<Heade
 {
     let mut sector = [0; SECTOR_BYTES];
     dev.read(FORMAT_GATE, &mut sector)?;
-    if !is_open(&sector) {
+    if !says_open(&sector) {
         return Err(OpenFault::Image(ImageFault::NotFormatted));
     }
     ring.look(dev, HEADER_SECTOR, &mut sector)?;

@@ -5,7 +5,7 @@ ghost use Rattle.image_device.specs.Calls.{Uses};
 ghost use Rattle.image_device.specs.Counts.{CountsFaultOf};
 ghost use Rattle.image_device.specs.Runs.{IsFirm, LeavesOnly};
 ghost use Rattle.image_layout.specs.Areas.{sweep_flag};
-ghost use Rattle.image_layout.specs.Image.{is_open};
+ghost use Rattle.image_layout.specs.Image.{says_open};
 ghost use Rattle.image_world.specs.Stands.{world_of};
 ghost use Rattle.image_world.specs.Tables.{tables_of};
 ghost use Rattle.intent_journal.specs.Home.{home};
@@ -62,7 +62,7 @@ pub fn open_image<D: Device>(alloc: Global, dev: &mut D) -> Result<Volume, OpenF
         ≤ (D.view dev.old).writes) }
 
     // Where no sweep had begun, it never owes more than at the start.
-    ensures any_owed { D.told → IsFirm (D.view dev.old) → is_open (home (D.view dev.old).reads sweep_flag) ≡ false
+    ensures any_owed { D.told → IsFirm (D.view dev.old) → says_open (home (D.view dev.old).reads sweep_flag) ≡ false
         → LeavesOwed (D.view dev.old) (D.view dev.new) (owed (tables_of (home (D.view dev.old).reads))) }
 
     ensures works { Works (D.view dev.old) (D.view dev.new) }

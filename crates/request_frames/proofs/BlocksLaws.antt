@@ -6,7 +6,7 @@ use Rattle.std.proofs.lemmas.List.{length-append}
 use Rattle.byteorder.specs.Endian.{little_number, little_bytes}
 use Rattle.byteorder.specs.Numbers.{little_number-reads_back}
 use Rattle.request_frames.specs.Fields.{AllFit, bytes_of}
-use Rattle.request_frames.specs.Replies.{numbers}
+use Rattle.request_frames.specs.Replies.{number_fields}
 use Rattle.request_frames.specs.Reading.{num_of, numbers_of, list_of_blocks, ◌>>=◌}
 use Rattle.request_frames.proofs.FieldLaws.{AreBytes, Spelled, bytes-drop, number_is, some_is, bind_some, leaves, same_value, same_rest}
 
@@ -64,38 +64,38 @@ many_read bs blocks n (Some ns) e many =
     ∙ ap (λ t. cond t (Some (blocks ++ (n ∷ ns))) None) (lt-leb (length (blocks ++ (n ∷ ns))) 64 long)
 
 -- what is read as numbers is spelled by them
-pub numbers_sound : (bs ns : List ℕ) → AreBytes bs → numbers_of bs ≡ Some ns → Spelled (numbers ns) bs
-numbers_sound [] ns all e = subst (λ ms. Spelled (numbers ms) []) (some_is e) (tt, refl)
+pub numbers_sound : (bs ns : List ℕ) → AreBytes bs → numbers_of bs ≡ Some ns → Spelled (number_fields ns) bs
+numbers_sound [] ns all e = subst (λ ms. Spelled (number_fields ms) []) (some_is e) (tt, refl)
 numbers_sound (a ∷ []) ns all e = absurd (cc)
 numbers_sound (a ∷ b ∷ []) ns all e = absurd (cc)
 numbers_sound (a ∷ b ∷ c ∷ []) ns all e = absurd (cc)
 numbers_sound (a ∷ b ∷ c ∷ d ∷ bs) ns all e =
     let n : ℕ = little_number 4 (a ∷ b ∷ c ∷ d ∷ bs) in
     let first = number_is (a ∷ b ∷ c ∷ d ∷ bs) all (omega arith) in
-    elim (numbers_of bs) as (λ o. numbers_of bs ≡ o → option_map (λ ms. little_number 4 (a ∷ b ∷ c ∷ d ∷ bs) ∷ ms) o ≡ Some ns → Spelled (numbers ns) (a ∷ b ∷ c ∷ d ∷ bs)) [
+    elim (numbers_of bs) as (λ o. numbers_of bs ≡ o → option_map (λ ms. little_number 4 (a ∷ b ∷ c ∷ d ∷ bs) ∷ ms) o ≡ Some ns → Spelled (number_fields ns) (a ∷ b ∷ c ∷ d ∷ bs)) [
       | None ↦ λ p q. absurd (cc)
       | Some ms ↦ λ p q. let more = numbers_sound bs ms (bytes-drop 4 (a ∷ b ∷ c ∷ d ∷ bs) all) p in
-          subst (λ (xs : List ℕ). Spelled (numbers xs) (a ∷ b ∷ c ∷ d ∷ bs)) (some_is q) ((first.0, more.0), first.1 ∙ ap (λ xs. little_bytes 4 (little_number 4 (a ∷ b ∷ c ∷ d ∷ bs)) ++ xs) more.1)
+          subst (λ (xs : List ℕ). Spelled (number_fields xs) (a ∷ b ∷ c ∷ d ∷ bs)) (some_is q) ((first.0, more.0), first.1 ∙ ap (λ xs. little_bytes 4 (little_number 4 (a ∷ b ∷ c ∷ d ∷ bs)) ++ xs) more.1)
     ] refl e
 
-pub blocks_sound : (bs ns : List ℕ) → AreBytes bs → list_of_blocks bs ≡ Some ns → Spelled (numbers ns) bs × (length ns ≤ 64)
+pub blocks_sound : (bs ns : List ℕ) → AreBytes bs → list_of_blocks bs ≡ Some ns → Spelled (number_fields ns) bs × (length ns ≤ 64)
 unfolding list_of_blocks
 blocks_sound bs ns all e =
-    elim (numbers_of bs) as (λ o. numbers_of bs ≡ o → (o >>= λ ms. cond (nat_le (length ms) 64) (Some ms) None) ≡ Some ns → Spelled (numbers ns) bs × (length ns ≤ 64)) [
+    elim (numbers_of bs) as (λ o. numbers_of bs ≡ o → (o >>= λ ms. cond (nat_le (length ms) 64) (Some ms) None) ≡ Some ns → Spelled (number_fields ns) bs × (length ns ≤ 64)) [
       | None ↦ λ p q. absurd (cc)
-      | Some ms ↦ λ p q. elim (nat_le (length ms) 64) as (λ t. nat_le (length ms) 64 ≡ t → cond t (Some ms) None ≡ Some ns → Spelled (numbers ns) bs × (length ns ≤ 64)) [
-        | true ↦ λ r s. subst (λ (xs : List ℕ). Spelled (numbers xs) bs × (length xs ≤ 64)) (some_is s) (numbers_sound bs ms all p, leb-true (length ms) 64 r)
+      | Some ms ↦ λ p q. elim (nat_le (length ms) 64) as (λ t. nat_le (length ms) 64 ≡ t → cond t (Some ms) None ≡ Some ns → Spelled (number_fields ns) bs × (length ns ≤ 64)) [
+        | true ↦ λ r s. subst (λ (xs : List ℕ). Spelled (number_fields xs) bs × (length xs ≤ 64)) (some_is s) (numbers_sound bs ms all p, leb-true (length ms) 64 r)
         | false ↦ λ r s. absurd (cc)
       ] refl q
     ] refl e
 
 -- numbers that are spelled are read
-numbers_back : (ns : List ℕ) → AllFit (numbers ns) → numbers_of (bytes_of (numbers ns)) ≡ Some ns
+numbers_back : (ns : List ℕ) → AllFit (number_fields ns) → numbers_of (bytes_of (number_fields ns)) ≡ Some ns
 numbers_back [] h = refl
 numbers_back (n ∷ ns) h =
-    ap (option_map (λ ms. little_number 4 (little_bytes 4 n ++ bytes_of (numbers ns)) ∷ ms)) (numbers_back ns h.1)
-    ∙ ap (λ m. Some (m ∷ ns)) (little_number-reads_back 4 n (bytes_of (numbers ns)) h.0)
+    ap (option_map (λ ms. little_number 4 (little_bytes 4 n ++ bytes_of (number_fields ns)) ∷ ms)) (numbers_back ns h.1)
+    ∙ ap (λ m. Some (m ∷ ns)) (little_number-reads_back 4 n (bytes_of (number_fields ns)) h.0)
 
-pub blocks_back : (ns : List ℕ) → AllFit (numbers ns) → length ns ≤ 64 → list_of_blocks (bytes_of (numbers ns)) ≡ Some ns
+pub blocks_back : (ns : List ℕ) → AllFit (number_fields ns) → length ns ≤ 64 → list_of_blocks (bytes_of (number_fields ns)) ≡ Some ns
 unfolding list_of_blocks
 blocks_back ns h few = bind_some _ _ _ _ (numbers_back ns h) (ap (λ t. cond t (Some ns) None) (le-leb (length ns) 64 few))

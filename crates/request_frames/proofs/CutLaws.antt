@@ -6,7 +6,7 @@ use Rattle.std.proofs.Math.Seq.{take-add, drop-length, take-length}
 use Rattle.std.specs.Prelude.{MatchBool}
 use Rattle.byteorder.specs.Numbers.{little_from-append}
 use Rattle.request_frames.specs.Frames.{frame_size, has_frame, Cut, and_then, cut_some, cut, frames, unended}
-use Rattle.request_frames.specs.Cutting.{Cutting, body, rest, WasFed, Cuts, FollowOn, text_fed, bodies_held}
+use Rattle.request_frames.specs.Cutting.{Cutting, frame_body, rest, WasFed, Cuts, FollowOn, text_fed, bodies_held}
 
 -- nothing is cut off
 abbrev none_of : List ℕ → Cut
@@ -104,7 +104,7 @@ cuts_whole text more old new fed held w e =
     let all : cut (text ++ more) ≡ goes_on (cut text) more = glue text more in
     let part : cut (unended text ++ more) ≡ record { bodies = drop 2 new.held ∷ []; rest = [] } = ap (λ r. cut (r ++ more)) (sym fed) ∙ ap cut (sym held) ∙ one_frame new.held e in
     subst (λ t. MatchBool t
-    ((frames (text ++ more) ≡ frames text ++ body new ∷ []) × (unended (text ++ more) ≡ []))
+    ((frames (text ++ more) ≡ frames text ++ frame_body new ∷ []) × (unended (text ++ more) ≡ []))
     ((frames (text ++ more) ≡ frames text) × (unended (text ++ more) ≡ new.held))) (sym w)
     (ap (λ c. c.bodies) all ∙ ap (λ (c : Cut). frames text ++ c.bodies) part, ap (λ c. c.rest) all ∙ ap (λ (c : Cut). c.rest) part)
 
@@ -113,7 +113,7 @@ cuts_none text more old new fed held w e =
     let all : cut (text ++ more) ≡ goes_on (cut text) more = glue text more in
     let part : cut (unended text ++ more) ≡ none_of new.held = ap (λ r. cut (r ++ more)) (sym fed) ∙ ap cut (sym held) ∙ cut_none new.held e in
     subst (λ t. MatchBool t
-    ((frames (text ++ more) ≡ frames text ++ body new ∷ []) × (unended (text ++ more) ≡ []))
+    ((frames (text ++ more) ≡ frames text ++ frame_body new ∷ []) × (unended (text ++ more) ≡ []))
     ((frames (text ++ more) ≡ frames text) × (unended (text ++ more) ≡ new.held))) (sym w)
     (ap (λ c. c.bodies) all ∙ ap (λ (c : Cut). frames text ++ c.bodies) part ∙ append-nil (frames text), ap (λ c. c.rest) all ∙ ap (λ (c : Cut). c.rest) part)
 
@@ -121,7 +121,7 @@ cuts_none text more old new fed held w e =
 pub fed_more : (text more : List ℕ) (new : Cutting) → Cuts text more new → WasFed (text ++ more) new
 fed_more text more new h =
     elim new.whole as (λ t. MatchBool t
-    ((frames (text ++ more) ≡ frames text ++ body new ∷ []) × (unended (text ++ more) ≡ []))
+    ((frames (text ++ more) ≡ frames text ++ frame_body new ∷ []) × (unended (text ++ more) ≡ []))
     ((frames (text ++ more) ≡ frames text) × (unended (text ++ more) ≡ new.held)) → cond t [] new.held ≡ unended (text ++ more)) [
       | true ↦ λ g. sym g.1
       | false ↦ λ g. sym g.1
@@ -129,11 +129,11 @@ fed_more text more new h =
 
 -- ---- all feeds
 
-held_next : (text more : List ℕ) (new : Cutting) → Cuts text more new → frames text ++ cond new.whole (body new ∷ []) [] ≡ frames (text ++ more)
+held_next : (text more : List ℕ) (new : Cutting) → Cuts text more new → frames text ++ cond new.whole (frame_body new ∷ []) [] ≡ frames (text ++ more)
 held_next text more new h =
     elim new.whole as (λ t. MatchBool t
-    ((frames (text ++ more) ≡ frames text ++ body new ∷ []) × (unended (text ++ more) ≡ []))
-    ((frames (text ++ more) ≡ frames text) × (unended (text ++ more) ≡ new.held)) → frames text ++ cond t (body new ∷ []) [] ≡ frames (text ++ more)) [
+    ((frames (text ++ more) ≡ frames text ++ frame_body new ∷ []) × (unended (text ++ more) ≡ []))
+    ((frames (text ++ more) ≡ frames text) × (unended (text ++ more) ≡ new.held)) → frames text ++ cond t (frame_body new ∷ []) [] ≡ frames (text ++ more)) [
       | true ↦ λ g. sym g.0
       | false ↦ λ g. append-nil (frames text) ∙ sym g.0
     ] h
@@ -141,7 +141,7 @@ held_next text more new h =
 held_all : (text : List ℕ) (feeds : List (List ℕ × Cutting)) → FollowOn text feeds → frames text ++ bodies_held feeds ≡ frames (text ++ text_fed feeds)
 held_all text [] h = append-nil (frames text) ∙ ap frames (sym (append-nil text))
 held_all text (feed ∷ feeds) h =
-    sym (append_assoc (frames text) (cond feed.1.whole (body feed.1 ∷ []) []) (bodies_held feeds))
+    sym (append_assoc (frames text) (cond feed.1.whole (frame_body feed.1 ∷ []) []) (bodies_held feeds))
     ∙ ap (λ bs. bs ++ bodies_held feeds) (held_next text feed.0 feed.1 h.0)
     ∙ held_all (text ++ feed.0) feeds h.1
     ∙ ap frames (append_assoc text feed.0 (text_fed feeds))

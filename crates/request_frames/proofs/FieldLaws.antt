@@ -13,7 +13,7 @@ use Rattle.tsd_model.specs.declared.requests.Hint.TheVariants.{Null, At}
 use Rattle.tsd_model.specs.declared.requests.Level.{Level}
 use Rattle.tsd_model.specs.declared.requests.Level.TheVariants as level
 use Rattle.request_frames.specs.Fields.{Field, Number, Show, New, Near, Rank, Bytes, level_code, field_bytes, HasRoomFor, AllFit, bytes_of}
-use Rattle.request_frames.specs.Reading.{num_of, cap_of, shown_of, hint_of, level_of, data_of, within, flagged, ends, ◌>>=◌}
+use Rattle.request_frames.specs.Reading.{num_of, cap_of, shown_of, hint_of, level_of, data_of, wrapped, flagged, ends, ◌>>=◌}
 
 -- each is below 256
 abbrev pub AreBytes : List ℕ → Type 0
@@ -82,10 +82,10 @@ flagged_is : {A B : Type 0} (none : A) (some : B → A) (read : List ℕ → Opt
     → P x
 flagged_is none some read [] x rest P e one two = absurd (cc)
 flagged_is {A} {B} none some read (b ∷ bs) x rest P e one two =
-    elim (b == 0) as (λ t. (b == 0) ≡ t → cond t (leaves none bs) (cond (b == 1) (option_map (within some) (read bs)) None) ≡ leaves x rest → P x) [
+    elim (b == 0) as (λ t. (b == 0) ≡ t → cond t (leaves none bs) (cond (b == 1) (option_map (wrapped some) (read bs)) None) ≡ leaves x rest → P x) [
       | true ↦ λ p q. subst P (same_value q) (one (λ i. eqb-true b 0 p i ∷ same_rest q i))
-      | false ↦ λ p q. elim (b == 1) as (λ t. (b == 1) ≡ t → cond t (option_map (within some) (read bs)) None ≡ leaves x rest → P x) [
-        | true ↦ λ p1 q1. elim (read bs) as (λ o. read bs ≡ o → option_map (within some) o ≡ leaves x rest → P x) [
+      | false ↦ λ p q. elim (b == 1) as (λ t. (b == 1) ≡ t → cond t (option_map (wrapped some) (read bs)) None ≡ leaves x rest → P x) [
+        | true ↦ λ p1 q1. elim (read bs) as (λ o. read bs ≡ o → option_map (wrapped some) o ≡ leaves x rest → P x) [
           | None ↦ λ p2 q2. absurd (cc)
           | Some y ↦ λ p2 q2. subst P (same_value q2) (two y.0 bs (ap (λ c. c ∷ bs) (eqb-true b 1 p1)) (p2 ∙ ap (λ r. leaves y.0 r) (same_rest q2)))
         ] refl q1
@@ -183,11 +183,11 @@ cap_back cap rest h =
 
 pub shown_back : (shown : Shown) (rest : List ℕ) → HasRoomFor (Show shown) → shown_of (field_bytes (Show shown) ++ rest) ≡ Some (shown, rest)
 shown_back Nothing rest h = refl
-shown_back (Key cap) rest h = ap (option_map (within (λ cap. Key cap))) (cap_back cap rest h)
+shown_back (Key cap) rest h = ap (option_map (wrapped (λ cap. Key cap))) (cap_back cap rest h)
 
 pub hint_back : (hint : Hint) (rest : List ℕ) → HasRoomFor (Near hint) → hint_of (field_bytes (Near hint) ++ rest) ≡ Some (hint, rest)
 hint_back Null rest h = refl
-hint_back (At b) rest h = ap (option_map (within (λ b. At b))) (num_back b rest h)
+hint_back (At b) rest h = ap (option_map (wrapped (λ b. At b))) (num_back b rest h)
 
 pub data_back : (bytes : List ℕ) → length bytes ≤ 4096 → data_of (bytes ++ []) ≡ Some (bytes, [])
 data_back bytes h = ap data_of (append-nil bytes) ∙ ap (λ t. cond t (Some (bytes, [])) None) (le-leb (length bytes) 4096 h)

@@ -2,7 +2,7 @@
 use Rattle.std.proofs.Common.{◌≡◌, ◌≢◌, ℕ, ◌*◌, ◌^◌, ◌<◌, List, [], ◌∷◌, ◌++◌, length, refl, sym, ◌∙◌, ap, arith, append-nil}
 use Rattle.request_frames.specs.Fields.{bytes_of}
 use Rattle.request_frames.specs.Frames.{frame_of, IsBegun, Cut, cut, frames, unended}
-use Rattle.request_frames.specs.Replies.{numbers, reply_body}
+use Rattle.request_frames.specs.Replies.{number_fields, reply_body}
 use Rattle.request_frames.proofs.CutLaws.{glue}
 use Rattle.request_frames.proofs.FramesLaws.{cut_only}
 use Rattle.request_frames.proofs.ReplyLaws.{block_fits}
@@ -38,7 +38,7 @@ frame_part body front back h e some = ap (λ (c : Cut). c.bodies) (cut_only [] f
 
 -- ---- bodies of replies
 
-numbers_long : (ns : List ℕ) → length (bytes_of (numbers ns)) ≡ 4 * length ns
+numbers_long : (ns : List ℕ) → length (bytes_of (number_fields ns)) ≡ 4 * length ns
 numbers_long [] = refl
 numbers_long (n ∷ ns) = let rest = numbers_long ns in omega (arith, rest)
 

@@ -8,19 +8,19 @@ use Rattle.tsd_model.specs.declared.replies.Rule.{Rule}
 use Rattle.tsd_model.specs.declared.replies.Rule.TheVariants as rule
 use Rattle.tsd_model.specs.ReplyForm.{IsBlockSize, HasBody, AreNumbers, RuleHasNumbers, HasNumbers, HasForm}
 use Rattle.request_frames.specs.Fields.{Field, Code, Number, Rank, Bytes, AllFit, bytes_of}
-use Rattle.request_frames.specs.Replies.{rule_fields, numbers, reply_fields, reply_body, IsReply}
-use Rattle.request_frames.specs.Reading.{num_of, level_of, data_of, list_of_blocks, ends, chosen}
+use Rattle.request_frames.specs.Replies.{rule_fields, number_fields, reply_fields, reply_body, IsReply}
+use Rattle.request_frames.specs.Reading.{num_of, level_of, data_of, list_of_blocks, ends, dispatch}
 use Rattle.request_frames.specs.ReplyReading.{is_block_size, bytes_reply, blocks_reply, free_reply, gone_reply, targets_reply, bare, denied_reply, full_reply, no_run_reply, pointers_full_reply, rule_forms, ruled, refused_reply, reply_forms, answered, reply_of}
 use Rattle.request_frames.proofs.FieldLaws.{AreBytes, Spelled, some_is, bind_is, took, no_more, next, last, bind_some, num_sound, level_sound, data_sound, num_back, level_back, data_back}
 use Rattle.request_frames.proofs.BlocksLaws.{blocks_sound, blocks_back}
 
 -- ---- the form of a reply and its fields
 
-numbers_of : (ns : List ℕ) → AllFit (numbers ns) → AreNumbers ns
+numbers_of : (ns : List ℕ) → AllFit (number_fields ns) → AreNumbers ns
 numbers_of [] h = tt
 numbers_of (n ∷ ns) h = (h.0, numbers_of ns h.1)
 
-fits_of : (ns : List ℕ) → AreNumbers ns → AllFit (numbers ns)
+fits_of : (ns : List ℕ) → AreNumbers ns → AllFit (number_fields ns)
 fits_of [] h = tt
 fits_of (n ∷ ns) h = (h.0, fits_of ns h.1)
 
@@ -148,10 +148,10 @@ abbrev AllRefuses : List (ℕ × (List ℕ → Option Reply)) → Type 0
 AllRefuses [] = Unit {0}
 AllRefuses (f ∷ fs) = Refuses f.0 f.1 × AllRefuses fs
 
-chosen_rule : (fs : List (ℕ × (List ℕ → Option Reply))) → AllRefuses fs → (code : ℕ) (bs : List ℕ) (q : Reply) → AreBytes bs → chosen fs code bs ≡ Some q → IsReply (8 ∷ code ∷ bs) q
+chosen_rule : (fs : List (ℕ × (List ℕ → Option Reply))) → AllRefuses fs → (code : ℕ) (bs : List ℕ) (q : Reply) → AreBytes bs → dispatch fs code bs ≡ Some q → IsReply (8 ∷ code ∷ bs) q
 chosen_rule [] each code bs q all e = absurd (cc)
 chosen_rule (f ∷ fs) each code bs q all e =
-    elim (code == f.0) as (λ t. (code == f.0) ≡ t → cond t (f.1 bs) (chosen fs code bs) ≡ Some q → IsReply (8 ∷ code ∷ bs) q) [
+    elim (code == f.0) as (λ t. (code == f.0) ≡ t → cond t (f.1 bs) (dispatch fs code bs) ≡ Some q → IsReply (8 ∷ code ∷ bs) q) [
       | true ↦ λ p g. subst (λ c. IsReply (8 ∷ c ∷ bs) q) (sym (eqb-true code f.0 p)) (each.0 bs q all g)
       | false ↦ λ p g. chosen_rule fs each.1 code bs q all g
     ] refl e
@@ -199,7 +199,7 @@ blocks_is bs q all e =
     let s = blocks_sound bs o.0 all o.1 in
     elim (nat_le 1 (length o.0) && nat_le (length o.0) 32) as (λ t. (nat_le 1 (length o.0) && nat_le (length o.0) 32) ≡ t → cond t (Some (reply.Blocks o.0)) None ≡ Some q → IsReply (3 ∷ bs) q) [
       | true ↦ λ p g. let parts = and_parts (nat_le 1 (length o.0)) (nat_le (length o.0) 32) p in
-          spells q (reply.Blocks o.0) 3 (numbers o.0) bs refl (leb-true 1 (length o.0) parts.0, leb-true (length o.0) 32 parts.1) (some_is g) s.0
+          spells q (reply.Blocks o.0) 3 (number_fields o.0) bs refl (leb-true 1 (length o.0) parts.0, leb-true (length o.0) 32 parts.1) (some_is g) s.0
       | false ↦ λ p g. absurd (cc)
     ] refl o.2
 
@@ -222,16 +222,16 @@ unfolding targets_reply
 targets_is bs q all e =
     let o = bind_is (list_of_blocks bs) _ q e in
     let s = blocks_sound bs o.0 all o.1 in
-    spells q (reply.Targets o.0) 6 (numbers o.0) bs refl s.1 (some_is o.2) s.0
+    spells q (reply.Targets o.0) 6 (number_fields o.0) bs refl s.1 (some_is o.2) s.0
 
 abbrev AllAnswers : List (ℕ × (List ℕ → Option Reply)) → Type 0
 AllAnswers [] = Unit {0}
 AllAnswers (f ∷ fs) = Answers f.0 f.1 × AllAnswers fs
 
-chosen_is : (fs : List (ℕ × (List ℕ → Option Reply))) → AllAnswers fs → (code : ℕ) (bs : List ℕ) (q : Reply) → AreBytes bs → chosen fs code bs ≡ Some q → IsReply (code ∷ bs) q
+chosen_is : (fs : List (ℕ × (List ℕ → Option Reply))) → AllAnswers fs → (code : ℕ) (bs : List ℕ) (q : Reply) → AreBytes bs → dispatch fs code bs ≡ Some q → IsReply (code ∷ bs) q
 chosen_is [] each code bs q all e = absurd (cc)
 chosen_is (f ∷ fs) each code bs q all e =
-    elim (code == f.0) as (λ t. (code == f.0) ≡ t → cond t (f.1 bs) (chosen fs code bs) ≡ Some q → IsReply (code ∷ bs) q) [
+    elim (code == f.0) as (λ t. (code == f.0) ≡ t → cond t (f.1 bs) (dispatch fs code bs) ≡ Some q → IsReply (code ∷ bs) q) [
       | true ↦ λ p g. subst (λ c. IsReply (c ∷ bs) q) (sym (eqb-true code f.0 p)) (each.0 bs q all g)
       | false ↦ λ p g. chosen_is fs each.1 code bs q all g
     ] refl e
@@ -260,11 +260,11 @@ bytes_back : (bytes : List ℕ) → IsBlockSize (length bytes) → length bytes 
 unfolding bytes_reply
 bytes_back bytes size few = bind_some _ _ _ _ (data_back bytes few) (ap (λ t. cond t (Some (reply.Bytes bytes)) None) (size_back (length bytes) size))
 
-blocks_reply_back : (ns : List ℕ) → AllFit (numbers ns) → 1 ≤ length ns → length ns ≤ 32 → blocks_reply (bytes_of (numbers ns)) ≡ Some (reply.Blocks ns)
+blocks_reply_back : (ns : List ℕ) → AllFit (number_fields ns) → 1 ≤ length ns → length ns ≤ 32 → blocks_reply (bytes_of (number_fields ns)) ≡ Some (reply.Blocks ns)
 unfolding blocks_reply
 blocks_reply_back ns h some few = bind_some _ _ _ _ (blocks_back ns h (omega (arith, few))) (ap (λ t. cond t (Some (reply.Blocks ns)) None) (and_from (nat_le 1 (length ns)) (nat_le (length ns) 32) (le-leb 1 (length ns) some) (le-leb (length ns) 32 few)))
 
-targets_back : (ns : List ℕ) → AllFit (numbers ns) → length ns ≤ 64 → targets_reply (bytes_of (numbers ns)) ≡ Some (reply.Targets ns)
+targets_back : (ns : List ℕ) → AllFit (number_fields ns) → length ns ≤ 64 → targets_reply (bytes_of (number_fields ns)) ≡ Some (reply.Targets ns)
 unfolding targets_reply
 targets_back ns h few = bind_some _ _ _ _ (blocks_back ns h few) refl
 

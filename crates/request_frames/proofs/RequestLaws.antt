@@ -12,8 +12,8 @@ use Rattle.tsd_model.specs.declared.requests.Request.{Request}
 use Rattle.tsd_model.specs.declared.requests.Request.TheVariants as ask
 use Rattle.request_frames.specs.declared.reader.Access.{Access}
 use Rattle.request_frames.specs.Fields.{Field, Code, Number, Show, New, Near, Rank, Bytes, field_bytes, HasRoomFor, AllFit, bytes_of}
-use Rattle.request_frames.specs.Requests.{fields, body_of, IsBody}
-use Rattle.request_frames.specs.Reading.{num_of, cap_of, shown_of, hint_of, data_of, ◌>>=◌, access_of, begin_of, end_of, read_of, write_of, alloc_of, contig_of, free_of, create_of, delete_of, set_cap_of, sweep_of, list_of, chosen, forms, coded, asked, request_of}
+use Rattle.request_frames.specs.Requests.{fields, request_body, IsBody}
+use Rattle.request_frames.specs.Reading.{num_of, cap_of, shown_of, hint_of, data_of, ◌>>=◌, access_of, begin_of, end_of, read_of, write_of, alloc_of, contig_of, free_of, create_of, delete_of, set_cap_of, sweep_of, list_of, dispatch, forms, coded, asked, request_of}
 use Rattle.request_frames.proofs.FieldLaws.{AreBytes, Spelled, some_is, bind_is, took, no_more, next, last, bind_some, num_sound, cap_sound, shown_sound, hint_sound, data_sound, num_back, cap_back, shown_back, hint_back, data_back}
 
 -- the fields of a place, before others
@@ -148,10 +148,10 @@ abbrev AllAsk : List (ℕ × (List ℕ → Option Request)) → Type 0
 AllAsk [] = Unit {0}
 AllAsk (f ∷ fs) = Asks f.0 f.1 × AllAsk fs
 
-chosen_is : (fs : List (ℕ × (List ℕ → Option Request))) → AllAsk fs → (code : ℕ) (bs : List ℕ) (q : Request) → AreBytes bs → chosen fs code bs ≡ Some q → IsBody (code ∷ bs) q
+chosen_is : (fs : List (ℕ × (List ℕ → Option Request))) → AllAsk fs → (code : ℕ) (bs : List ℕ) (q : Request) → AreBytes bs → dispatch fs code bs ≡ Some q → IsBody (code ∷ bs) q
 chosen_is [] asks code bs q all e = absurd (cc)
 chosen_is (f ∷ fs) asks code bs q all e =
-    elim (code == f.0) as (λ t. (code == f.0) ≡ t → cond t (f.1 bs) (chosen fs code bs) ≡ Some q → IsBody (code ∷ bs) q) [
+    elim (code == f.0) as (λ t. (code == f.0) ≡ t → cond t (f.1 bs) (dispatch fs code bs) ≡ Some q → IsBody (code ∷ bs) q) [
       | true ↦ λ p g. subst (λ c. IsBody (c ∷ bs) q) (sym (eqb-true code f.0 p)) (asks.0 bs q all g)
       | false ↦ λ p g. chosen_is fs asks.1 code bs q all g
     ] refl e
@@ -228,7 +228,7 @@ list_back s a c b h = bind_some _ _ _ _ (place_back (record { session = s; block
 free_back : free_of [] ≡ Some ask.GetFree
 free_back = refl
 
-asked_back : (q : Request) → q ≢ ask.Bad → AllFit (fields q) → asked (body_of q) ≡ Some q
+asked_back : (q : Request) → q ≢ ask.Bad → AllFit (fields q) → asked (request_body q) ≡ Some q
 unfolding asked coded
 asked_back ask.Bad some h = absurd (some refl)
 asked_back (ask.Begin s) some h = begin_back s h

@@ -8,8 +8,8 @@ pub record Cutting : Type 0 where
   pub whole : Bool
 
 -- the bytes after the length
-abbrev pub body : Cutting → List ℕ
-body c = drop 2 c.held
+abbrev pub frame_body : Cutting → List ℕ
+frame_body c = drop 2 c.held
 
 -- what stands after the last whole frame: a whole frame is over, and the next byte begins a new one
 abbrev pub rest : Cutting → List ℕ
@@ -23,7 +23,7 @@ WasFed text c = rest c ≡ unended text
 -- it holds what stands after the last whole frame.
 abbrev pub Cuts : List ℕ → List ℕ → Cutting → Type 0
 Cuts text more new = MatchBool new.whole
-    ((frames (text ++ more) ≡ frames text ++ body new ∷ []) × (unended (text ++ more) ≡ []))
+    ((frames (text ++ more) ≡ frames text ++ frame_body new ∷ []) × (unended (text ++ more) ≡ []))
     ((frames (text ++ more) ≡ frames text) × (unended (text ++ more) ≡ new.held))
 
 -- Feeds that came one after another, the first of them after this text: the bytes that each used, and what the cutter
@@ -40,4 +40,4 @@ text_fed (feed ∷ feeds) = feed.0 ++ text_fed feeds
 -- the bodies of the frames that were whole after a feed
 abbrev pub bodies_held : List (List ℕ × Cutting) → List (List ℕ)
 bodies_held [] = []
-bodies_held (feed ∷ feeds) = cond feed.1.whole (body feed.1 ∷ []) [] ++ bodies_held feeds
+bodies_held (feed ∷ feeds) = cond feed.1.whole (frame_body feed.1 ∷ []) [] ++ bodies_held feeds

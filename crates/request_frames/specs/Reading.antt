@@ -32,14 +32,14 @@ abbrev pub cap_of : List ℕ → Option (Cap × List ℕ)
 cap_of bs = cond (nat_le 16 (length bs)) (Some (record { bytes = take 16 bs }, drop 16 bs)) None
 
 -- what was read, as part of something, and the bytes after it
-abbrev pub within : {A B : Type 0} → (B → A) → B × List ℕ → A × List ℕ
-within something x = (something x.0, x.1)
+abbrev pub wrapped : {A B : Type 0} → (B → A) → B × List ℕ → A × List ℕ
+wrapped something x = (something x.0, x.1)
 
 -- a byte 0 for nothing, or a byte 1 and something
 abbrev pub flagged : {A B : Type 0} → A → (B → A) → (List ℕ → Option (B × List ℕ)) → List ℕ → Option (A × List ℕ)
 flagged nothing something read [] = None
 flagged nothing something read (b ∷ bs) =
-    cond (b == 0) (Some (nothing, bs)) (cond (b == 1) (option_map (within something) (read bs)) None)
+    cond (b == 0) (Some (nothing, bs)) (cond (b == 1) (option_map (wrapped something) (read bs)) None)
 
 abbrev pub shown_of : List ℕ → Option (Shown × List ℕ)
 shown_of bs = flagged Nothing (λ cap. Key cap) cap_of bs
@@ -149,16 +149,16 @@ list_of bs = do
 -- ---- bodies
 
 -- the first of these codes that the byte is says how the bytes after it are read
-abbrev pub chosen : {A : Type 0} → List (ℕ × (List ℕ → Option A)) → ℕ → List ℕ → Option A
-chosen [] code bs = None
-chosen (form ∷ forms) code bs = cond (code == form.0) (form.1 bs) (chosen forms code bs)
+abbrev pub dispatch : {A : Type 0} → List (ℕ × (List ℕ → Option A)) → ℕ → List ℕ → Option A
+dispatch [] code bs = None
+dispatch (form ∷ forms) code bs = cond (code == form.0) (form.1 bs) (dispatch forms code bs)
 
 abbrev pub forms : List (ℕ × (List ℕ → Option Request))
 forms = (1, begin_of) ∷ (2, end_of) ∷ (3, read_of) ∷ (4, write_of) ∷ (5, alloc_of) ∷ (6, contig_of)
     ∷ (7, free_of) ∷ (8, create_of) ∷ (9, delete_of) ∷ (10, set_cap_of) ∷ (11, sweep_of) ∷ (12, list_of) ∷ []
 
 unfoldable pub coded : ℕ → List ℕ → Option Request
-coded code bs = chosen forms code bs
+coded code bs = dispatch forms code bs
 
 unfoldable pub asked : List ℕ → Option Request
 asked [] = None

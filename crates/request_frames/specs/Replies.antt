@@ -27,18 +27,18 @@ rule_fields (rule.NoRun free wanted) = Code 14 ∷ Number free ∷ Number wanted
 rule_fields (rule.PointersFull held most) = Code 15 ∷ Number held ∷ Number most ∷ []
 
 -- a number each
-abbrev pub numbers : List ℕ → List Field
-numbers [] = []
-numbers (n ∷ ns) = Number n ∷ numbers ns
+abbrev pub number_fields : List ℕ → List Field
+number_fields [] = []
+number_fields (n ∷ ns) = Number n ∷ number_fields ns
 
 -- the fields of each reply, a code first
 abbrev pub reply_fields : Reply → List Field
 reply_fields reply.Done = Code 1 ∷ []
 reply_fields (reply.Bytes bytes) = Code 2 ∷ Bytes bytes ∷ []
-reply_fields (reply.Blocks blocks) = Code 3 ∷ numbers blocks
+reply_fields (reply.Blocks blocks) = Code 3 ∷ number_fields blocks
 reply_fields (reply.Free n) = Code 4 ∷ Number n ∷ []
 reply_fields (reply.Gone n) = Code 5 ∷ Number n ∷ []
-reply_fields (reply.Targets blocks) = Code 6 ∷ numbers blocks
+reply_fields (reply.Targets blocks) = Code 6 ∷ number_fields blocks
 reply_fields reply.NoMemory = Code 7 ∷ []
 reply_fields (reply.Refused r) = Code 8 ∷ rule_fields r
 

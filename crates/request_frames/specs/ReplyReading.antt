@@ -4,7 +4,7 @@ use Rattle.tsd_model.specs.declared.replies.Reply.{Reply}
 use Rattle.tsd_model.specs.declared.replies.Reply.TheVariants as reply
 use Rattle.tsd_model.specs.declared.replies.Rule.{Rule}
 use Rattle.tsd_model.specs.declared.replies.Rule.TheVariants as rule
-use Rattle.request_frames.specs.Reading.{num_of, level_of, data_of, list_of_blocks, ends, chosen, ◌>>=◌}
+use Rattle.request_frames.specs.Reading.{num_of, level_of, data_of, list_of_blocks, ends, dispatch, ◌>>=◌}
 
 -- so many bytes has a block
 abbrev pub is_block_size : ℕ → Bool
@@ -65,7 +65,7 @@ rule_forms = (0, bare rule.BadRequest) ∷ (1, bare rule.BadSession) ∷ (2, bar
     ∷ (12, bare rule.NoPointer) ∷ (13, full_reply) ∷ (14, no_run_reply) ∷ (15, pointers_full_reply) ∷ []
 
 unfoldable pub ruled : ℕ → List ℕ → Option Reply
-ruled code bs = chosen rule_forms code bs
+ruled code bs = dispatch rule_forms code bs
 
 unfoldable pub refused_reply : List ℕ → Option Reply
 refused_reply [] = None
@@ -78,7 +78,7 @@ reply_forms = (1, λ bs. ends bs reply.Done) ∷ (2, bytes_reply) ∷ (3, blocks
     ∷ (6, targets_reply) ∷ (7, λ bs. ends bs reply.NoMemory) ∷ (8, refused_reply) ∷ []
 
 unfoldable pub answered : ℕ → List ℕ → Option Reply
-answered code bs = chosen reply_forms code bs
+answered code bs = dispatch reply_forms code bs
 
 -- the reply of a body, where it is one
 unfoldable pub reply_of : List ℕ → Option Reply

@@ -21,11 +21,11 @@ fields (ask.Sweep s shown) = Code 11 ∷ Number s ∷ Show shown ∷ []
 fields (ask.List s a shown start) = Code 12 ∷ Number s ∷ Number a ∷ Show shown ∷ Number start ∷ []
 
 -- the one body of a request
-abbrev pub body_of : Request → List ℕ
-body_of q = bytes_of (fields q)
+abbrev pub request_body : Request → List ℕ
+request_body q = bytes_of (fields q)
 
 -- The body spells the request, from its first byte to its last. No body spells Bad.
 pub record IsBody (body : List ℕ) (q : Request) : Type 0 where
   pub some : q ≢ ask.Bad
   pub fits : AllFit (fields q)
-  pub spelled : body ≡ body_of q
+  pub spelled : body ≡ request_body q

@@ -7,7 +7,8 @@ ghost use Rattle.std.specs.Prelude.{◌++◌, ℕ, List, [], ◌∷◌, length, 
 ghost use Rattle.std.specs.Prelude.{nat_le, true, false, IsTrue, IfOk};
 ghost use Rattle.std.specs.Vec.{vec_capacity};
 ghost use Rattle.request_frames.specs.Frames.{IsCut, frame_of, frames, unended, frame_size, has_frame};
-ghost use Rattle.request_frames.specs.Cutting.{Cutting, Cuts, FollowOn, WasFed, bodies_held, body, rest, text_fed};
+ghost use Rattle.request_frames.specs.Cutting.{Cutting, Cuts, FollowOn, WasFed, bodies_held, frame_body, rest};
+ghost use Rattle.request_frames.specs.Cutting.{text_fed};
 
 use crate::frame_buf::LENGTH_BYTES;
 use byteorder::{ByteOrder, LittleEndian};
@@ -85,7 +86,7 @@ impl FrameCutter {
 
     /// The body so far; after a whole frame its body, until the next feed.
     pub fn body(&self) -> &[u8]
-        ensures { result.now ≡ body self.now }
+        ensures { result.now ≡ frame_body self.now }
     {
         match self.held.get(LENGTH_BYTES..) {
             Some(bytes) => bytes,

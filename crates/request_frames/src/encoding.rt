@@ -2,7 +2,7 @@
 
 ghost use Rattle.std.specs.Prelude.{◌≡◌, ◌≢◌, ◌≤◌, [], ◌∷◌, length};
 ghost use Rattle.request_frames.specs.Fields.{Code, Number, Show, AllFit, bytes_of};
-ghost use Rattle.request_frames.specs.Requests.{IsBody, body_of, fields};
+ghost use Rattle.request_frames.specs.Requests.{IsBody, request_body, fields};
 ghost use Rattle.request_frames.specs.Frames.{frame_of};
 
 use crate::codes::{
@@ -18,8 +18,8 @@ const PLACE_ROOM: usize = 28;
 /// Replaces the bytes by the frame of a request.
 pub fn encode_request(request: &Request, into: &mut FrameBuf)
     requires { request.now ≢ Request.Bad }
-    ensures frame { into.new ≡ frame_of (body_of request.now) }
-    ensures spelled { IsBody (body_of request.now) request.now }
+    ensures frame { into.new ≡ frame_of (request_body request.now) }
+    ensures spelled { IsBody (request_body request.now) request.now }
 {
     into.begin();
     put_request(into, request);
@@ -30,7 +30,7 @@ pub fn encode_request(request: &Request, into: &mut FrameBuf)
 fn put_request(into: &mut FrameBuf, request: &Request)
     requires some { request.now ≢ Request.Bad }
     requires empty { into.old ≡ 0 ∷ 0 ∷ [] }
-    ensures body { into.new ≡ 0 ∷ 0 ∷ body_of request.now }
+    ensures body { into.new ≡ 0 ∷ 0 ∷ request_body request.now }
     ensures fits { AllFit (fields request.now) }
 {
     match request {

@@ -3,7 +3,7 @@
 ghost use Rattle.std.specs.Prelude.{◌≡◌, ◌+◌, ◌*◌, ◌≤◌, ◌++◌, length};
 ghost use Rattle.request_frames.specs.Fields.{Code, Number, Show, New, Near, Rank, field_bytes, bytes_of, HasRoomFor};
 ghost use Rattle.request_frames.specs.Fields.{AllFit};
-ghost use Rattle.request_frames.specs.Replies.{numbers};
+ghost use Rattle.request_frames.specs.Replies.{number_fields};
 
 use crate::codes::{ABSENT, LEVEL_NONE, LEVEL_READ, LEVEL_WRITE, PRESENT};
 use crate::frame_buf::Frame;
@@ -34,8 +34,8 @@ pub fn put_number<const N: usize>(into: &mut Frame<N>, n: u32)
 /// Numbers.
 pub fn put_numbers<const N: usize>(into: &mut Frame<N>, items: &[u32])
     requires { length into.old + NUMBER_BYTES * length items.now ≤ N }
-    ensures bytes { into.new ≡ into.old ++ bytes_of (numbers items.now) }
-    ensures fits { AllFit (numbers items.now) }
+    ensures bytes { into.new ≡ into.old ++ bytes_of (number_fields items.now) }
+    ensures fits { AllFit (number_fields items.now) }
 {
     for n in items {
         put_number(into, *n);

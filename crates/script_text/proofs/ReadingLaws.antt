@@ -4,7 +4,7 @@ use Rattle.std.specs.Prelude.{codes, bytes_eq, option_map}
 use Rattle.std.proofs.lemmas.Slice.Eq.{bytes_eq-Decides}
 use Rattle.tsd_model.specs.declared.requests.Request.{Request}
 use Rattle.script_text.specs.declared.words.Access.{Access}
-use Rattle.script_text.specs.Reading.{num_of, new_of, shown_of, hint_of, data_of, reads, ends, Words, ◌>>=◌, access_of, begin_of, end_of, read_of, write_of, alloc_of, contig_of, free_of, create_of, delete_of, set_cap_of, sweep_of, list_of, chosen, forms, named, asked}
+use Rattle.script_text.specs.Reading.{num_of, new_of, shown_of, hint_of, data_of, reads, ends, Words, ◌>>=◌, access_of, begin_of, end_of, read_of, write_of, alloc_of, contig_of, free_of, create_of, delete_of, set_cap_of, sweep_of, list_of, dispatch, forms, named, asked}
 use Rattle.script_text.specs.Grammar.{Field, Number, Show, New, Near, Bytes, fields, IsField, AreFields}
 use Rattle.script_text.proofs.WordLaws.{num_is, new_is, shown_is, hint_is, data_is}
 
@@ -158,10 +158,10 @@ abbrev AllSound : List (List ℕ × (Words → Option Request)) → Type 0
 AllSound [] = Unit {0}
 AllSound (f ∷ fs) = Sound f.0 f.1 × AllSound fs
 
-chosen_is : (fs : List (List ℕ × (Words → Option Request))) → AllSound fs → (w : List ℕ) (ws : Words) (q : Request) → chosen fs w ws ≡ Some q → AreFields (fields q) (w ∷ ws)
+chosen_is : (fs : List (List ℕ × (Words → Option Request))) → AllSound fs → (w : List ℕ) (ws : Words) (q : Request) → dispatch fs w ws ≡ Some q → AreFields (fields q) (w ∷ ws)
 chosen_is [] all w ws q e = absurd (cc)
 chosen_is (f ∷ fs) all w ws q e =
-    elim (bytes_eq w f.0) as (λ t. bytes_eq w f.0 ≡ t → cond t (f.1 ws) (chosen fs w ws) ≡ Some q → AreFields (fields q) (w ∷ ws)) [
+    elim (bytes_eq w f.0) as (λ t. bytes_eq w f.0 ≡ t → cond t (f.1 ws) (dispatch fs w ws) ≡ Some q → AreFields (fields q) (w ∷ ws)) [
       | true ↦ λ p g. subst (λ v. AreFields (fields q) (v ∷ ws)) (sym ((bytes_eq-Decides w f.0).0 p)) (all.0 ws q g)
       | false ↦ λ p g. chosen_is fs all.1 w ws q g
     ] refl e

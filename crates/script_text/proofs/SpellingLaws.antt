@@ -19,8 +19,8 @@ use Rattle.tsd_model.specs.declared.requests.Request.{Request}
 use Rattle.tsd_model.specs.declared.requests.Request.TheVariants as ask
 use Rattle.script_text.specs.declared.words.Access.{Access}
 use Rattle.script_text.specs.Pieces.{pieces}
-use Rattle.script_text.specs.Reading.{num_of, new_of, shown_of, hint_of, data_of, reads, ends, Words, ◌>>=◌, access_of, begin_of, end_of, read_of, write_of, alloc_of, contig_of, free_of, create_of, delete_of, set_cap_of, sweep_of, list_of, chosen, forms, named, asked, request_of}
-use Rattle.script_text.specs.Grammar.{Field, Name, Number, Show, New, Near, Bytes, fields, IsNumber, IsCapText, IsData, IsField, AreFields, IsLine}
+use Rattle.script_text.specs.Reading.{num_of, new_of, shown_of, hint_of, data_of, reads, ends, Words, ◌>>=◌, access_of, begin_of, end_of, read_of, write_of, alloc_of, contig_of, free_of, create_of, delete_of, set_cap_of, sweep_of, list_of, dispatch, forms, named, asked, request_of}
+use Rattle.script_text.specs.Grammar.{Field, Verb, Number, Show, New, Near, Bytes, fields, IsNumber, IsCapText, IsData, IsField, AreFields, IsLine}
 use Rattle.script_text.proofs.PiecesLaws.{take_all, join-pieces, pieces-join, lacks, some_pieces}
 use Rattle.script_text.proofs.WordLaws.{are_digits, num_back, new_back, shown_back, hint_back, data_back}
 use Rattle.script_text.proofs.ReadingLaws.{at_place, asked_is}
@@ -132,9 +132,9 @@ list_back s b c n ws g =
     let n1 = num_next n [] p.0 p.2 in
     bind_some _ _ _ _ p.1 (bind_some _ _ _ _ n1.1 (ends_back n1.0 _ n1.2))
 
-under_name : (name v : List ℕ) (ws : Words) (q : Request) → v ≡ name → chosen forms name ws ≡ Some q → asked (v ∷ ws) ≡ Some q
+under_name : (name v : List ℕ) (ws : Words) (q : Request) → v ≡ name → dispatch forms name ws ≡ Some q → asked (v ∷ ws) ≡ Some q
 unfolding asked named
-under_name name v ws q e f = ap (λ w. chosen forms w ws) e ∙ f
+under_name name v ws q e f = ap (λ w. dispatch forms w ws) e ∙ f
 
 asked_back : (q : Request) (ws : Words) → 1 ≤ length ws → AreFields (fields q) ws → asked ws ≡ Some q
 asked_back q [] some h = absurd (omega (arith, some))
@@ -169,7 +169,7 @@ hex_lacks : (w bytes : List ℕ) → decode_of w ≡ Ok bytes → lacks 32 w ≡
 hex_lacks w bytes e = weaker is_hex_digit (λ b. not (b == 32)) hex_no_space w (list_all-from_AllPass is_hex_digit w (decode_of-ok w bytes e).1)
 
 name_lacks : Field → Bool
-name_lacks (Name name) = lacks 32 name
+name_lacks (Verb name) = lacks 32 name
 name_lacks f = true
 
 new_lacks : (w : List ℕ) (cap : Cap) → IsCapText w cap → lacks 32 w ≡ true
@@ -186,7 +186,7 @@ data_lacks w bytes h = elim h [ inl none ↦ dash_lacks w none.0 | inr digits �
 
 field_lacks : (f : Field) (w : List ℕ) → name_lacks f ≡ true → IsField f w → lacks 32 w ≡ true
 unfolding name_lacks
-field_lacks (Name name) w n h = subst (λ v. lacks 32 v ≡ true) (sym h) n
+field_lacks (Verb name) w n h = subst (λ v. lacks 32 v ≡ true) (sym h) n
 field_lacks (Number m) w n h = num_lacks w m h
 field_lacks (Show Nothing) w n h = dash_lacks w h
 field_lacks (Show (Key cap)) w n h = new_lacks w cap h

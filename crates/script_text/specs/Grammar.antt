@@ -13,7 +13,7 @@ use Rattle.tsd_model.specs.declared.requests.Request.TheVariants as ask
 
 -- what one word of a line says
 pub data Field : Type 0 where
-  Name : List ℕ → Field
+  Verb : List ℕ → Field
   Number : ℕ → Field
   Show : Shown → Field
   New : Cap → Field
@@ -23,21 +23,21 @@ pub data Field : Type 0 where
 -- the line of each request, word by word, and no line for Bad
 abbrev pub fields : Request → List Field
 fields ask.Bad = []
-fields (ask.Begin s) = Name (codes "open") ∷ Number s ∷ []
-fields (ask.End s) = Name (codes "close") ∷ Number s ∷ []
-fields (ask.Read s b shown) = Name (codes "read") ∷ Number s ∷ Number b ∷ Show shown ∷ []
-fields (ask.Write s b shown bytes) = Name (codes "write") ∷ Number s ∷ Number b ∷ Show shown ∷ Bytes bytes ∷ []
+fields (ask.Begin s) = Verb (codes "open") ∷ Number s ∷ []
+fields (ask.End s) = Verb (codes "close") ∷ Number s ∷ []
+fields (ask.Read s b shown) = Verb (codes "read") ∷ Number s ∷ Number b ∷ Show shown ∷ []
+fields (ask.Write s b shown bytes) = Verb (codes "write") ∷ Number s ∷ Number b ∷ Show shown ∷ Bytes bytes ∷ []
 fields (ask.Alloc s a shown hint n) =
-    Name (codes "alloc") ∷ Number s ∷ Number a ∷ Show shown ∷ Near hint ∷ Number n ∷ []
+    Verb (codes "alloc") ∷ Number s ∷ Number a ∷ Show shown ∷ Near hint ∷ Number n ∷ []
 fields (ask.Contig s a shown hint n) =
-    Name (codes "contig") ∷ Number s ∷ Number a ∷ Show shown ∷ Near hint ∷ Number n ∷ []
-fields ask.GetFree = Name (codes "free") ∷ []
-fields (ask.Create s a shown b) = Name (codes "create") ∷ Number s ∷ Number a ∷ Show shown ∷ Number b ∷ []
-fields (ask.Delete s a shown b) = Name (codes "delete") ∷ Number s ∷ Number a ∷ Show shown ∷ Number b ∷ []
+    Verb (codes "contig") ∷ Number s ∷ Number a ∷ Show shown ∷ Near hint ∷ Number n ∷ []
+fields ask.GetFree = Verb (codes "free") ∷ []
+fields (ask.Create s a shown b) = Verb (codes "create") ∷ Number s ∷ Number a ∷ Show shown ∷ Number b ∷ []
+fields (ask.Delete s a shown b) = Verb (codes "delete") ∷ Number s ∷ Number a ∷ Show shown ∷ Number b ∷ []
 fields (ask.SetCap s b shown caps) =
-    Name (codes "setcap") ∷ Number s ∷ Number b ∷ Show shown ∷ New caps.read ∷ New caps.write ∷ []
-fields (ask.Sweep s shown) = Name (codes "sweep") ∷ Number s ∷ Show shown ∷ []
-fields (ask.List s a shown start) = Name (codes "list") ∷ Number s ∷ Number a ∷ Show shown ∷ Number start ∷ []
+    Verb (codes "setcap") ∷ Number s ∷ Number b ∷ Show shown ∷ New caps.read ∷ New caps.write ∷ []
+fields (ask.Sweep s shown) = Verb (codes "sweep") ∷ Number s ∷ Show shown ∷ []
+fields (ask.List s a shown start) = Verb (codes "list") ∷ Number s ∷ Number a ∷ Show shown ∷ Number start ∷ []
 
 -- one to ten decimal digits, of value n, at most 4,294,967,295; zeros may lead
 pub record IsNumber (w : List ℕ) (n : ℕ) : Type 0 where
@@ -66,7 +66,7 @@ IsData w bytes = ((w ≡ codes "-") × (bytes ≡ [])) ⊎ ((2 ≤ length w) × 
 
 -- the word spells this
 abbrev pub IsField : Field → List ℕ → Type 0
-IsField (Name name) w = w ≡ name
+IsField (Verb name) w = w ≡ name
 IsField (Number n) w = IsNumber w n
 IsField (Show shown) w = IsShownText w shown
 IsField (New cap) w = IsCapText w cap

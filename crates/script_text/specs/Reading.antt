@@ -135,9 +135,9 @@ list_of ws = do
 -- ---- lines
 
 -- the first of these names that the word is says how the words after it are read
-abbrev pub chosen : List (List ℕ × (Words → Option Request)) → List ℕ → Words → Option Request
-chosen [] name ws = None
-chosen (form ∷ forms) name ws = cond (bytes_eq name form.0) (form.1 ws) (chosen forms name ws)
+abbrev pub dispatch : List (List ℕ × (Words → Option Request)) → List ℕ → Words → Option Request
+dispatch [] name ws = None
+dispatch (form ∷ forms) name ws = cond (bytes_eq name form.0) (form.1 ws) (dispatch forms name ws)
 
 abbrev pub forms : List (List ℕ × (Words → Option Request))
 forms = (codes "open", begin_of) ∷ (codes "close", end_of) ∷ (codes "read", read_of) ∷ (codes "write", write_of)
@@ -146,7 +146,7 @@ forms = (codes "open", begin_of) ∷ (codes "close", end_of) ∷ (codes "read", 
     ∷ (codes "list", list_of) ∷ []
 
 unfoldable pub named : List ℕ → Words → Option Request
-named name ws = chosen forms name ws
+named name ws = dispatch forms name ws
 
 unfoldable pub asked : Words → Option Request
 asked [] = None

@@ -11,7 +11,7 @@ use Rattle.tsd_model.specs.declared.replies.Reply.{Reply}
 use Rattle.tsd_model.specs.declared.replies.Reply.TheVariants as reply
 use Rattle.tsd_model.specs.declared.replies.Rule.{Rule}
 use Rattle.tsd_model.specs.declared.replies.Rule.TheVariants as rule
-use Rattle.script_text.specs.Grammar.{Field, Name, Number, Show, New, Near, Bytes, fields}
+use Rattle.script_text.specs.Grammar.{Field, Verb, Number, Show, New, Near, Bytes, fields}
 
 -- a dash for no bytes, else two lower-case hexadecimal digits a byte
 abbrev pub data_text : List ℕ → List ℕ
@@ -22,7 +22,7 @@ data_text (b ∷ bs) = encode_lower (b ∷ bs)
 
 -- a number without leading zeros, hexadecimal digits in lower case
 abbrev pub field_text : Field → List ℕ
-field_text (Name name) = name
+field_text (Verb name) = name
 field_text (Number n) = decimal n
 field_text (Show Nothing) = codes "-"
 field_text (Show (Key cap)) = encode_lower cap.bytes

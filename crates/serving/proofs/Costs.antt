@@ -2,7 +2,7 @@
 use Rattle.std.proofs.Common.{◌≡◌, ℕ, ◌+◌, ◌≤◌, List, [], ◌∷◌, ◌++◌, All, length, get_or, length-append, refl, sym, ◌∙◌, ap, subst, arith, append_assoc, append-nil}
 use Rattle.std.proofs.lemmas.List.{get_or_append_left}
 use Rattle.serving.specs.Service.{Service, IsCounted}
-use Rattle.serving.specs.Work.{Work}
+use Rattle.serving.specs.Work.{WorkCount}
 use Rattle.serving.specs.Runs.{Run, texts}
 use Rattle.serving.specs.Costs.{costs, first_cost, IsPaidFor}
 use Rattle.serving.proofs.Runs.{run_next, acked_run, sent_next, sent_front}
@@ -35,7 +35,7 @@ module _ {Q : Type 0} (k : Service Q) (cost : k.States → Q → ℕ) where
   first_more s (q ∷ qs) more = omega arith
 
 -- after a run of these requests, whose answers make `now`
-module _ {Q : Type 0} (k : Service Q) (counted : IsCounted k) (w : Work Q k.States) (s : k.States) (before : List ℕ) (start : ℕ) (qs : List Q) (m : k.States) (xs : List (List ℕ)) (run : Run k s qs xs m) (now : List ℕ) (sent : now ≡ before ++ texts xs) where
+module _ {Q : Type 0} (k : Service Q) (counted : IsCounted k) (w : WorkCount Q k.States) (s : k.States) (before : List ℕ) (start : ℕ) (qs : List Q) (m : k.States) (xs : List (List ℕ)) (run : Run k s qs xs m) (now : List ℕ) (sent : now ≡ before ++ texts xs) where
   -- a proper front of the next answer is sent, or nothing of it
   pub paid_front : (rest : List Q) (f front : List ℕ) (writes : ℕ) → f ≡ now ++ front → k.acked front ≡ 0
       → (All w.bounded (qs ++ rest) → writes ≤ start + costs k w.cost s qs xs m run + first_cost k w.cost m rest) → IsPaidFor k w s before (qs ++ rest) f start writes
@@ -70,7 +70,7 @@ module _ {Q : Type 0} (k : Service Q) (counted : IsCounted k) (w : Work Q k.Stat
         paid = λ all. omega (arith, paid all, costs_next k w.cost s m t qs xs q a run given);
       }
 
-module _ {Q : Type 0} (k : Service Q) (w : Work Q k.States) (s : k.States) (before f : List ℕ) (start : ℕ) where
+module _ {Q : Type 0} (k : Service Q) (w : WorkCount Q k.States) (s : k.States) (before f : List ℕ) (start : ℕ) where
   pub paid_longer : (qs more : List Q) (later : ℕ) → IsPaidFor k w s before qs f start later → IsPaidFor k w s before (qs ++ more) f start later
   paid_longer qs more later was = record {
     answered = was.answered;

@@ -3,7 +3,7 @@ use Rattle.std.proofs.Common.{◌≡◌, inl, inr, ℕ, ◌+◌, ◌≤◌, List
 use Rattle.image_device.specs.Image.{Image}
 use Rattle.serving.specs.Service.{Service, IsCounted, IsInAnswer}
 use Rattle.serving.specs.Runs.{Run, texts}
-use Rattle.serving.specs.Debts.{Debt, more_debt, debt_after, debt_of, first_made, IsOwing}
+use Rattle.serving.specs.Debts.{Debt, more_debt, debt_after, debt_of, first_debt, IsOwing}
 use Rattle.serving.proofs.Runs.{run_next, acked_run, sent_next, sent_front, some_or_none, all_sent}
 
 module _ {Q : Type 0} (k : Service Q) (made : k.States → Q → ℕ) where
@@ -20,14 +20,14 @@ module _ {Q : Type 0} (k : Service Q) (made : k.States → Q → ℕ) where
   left_peak s t (q ∷ qs) [] run d h = h
   left_peak s t (q ∷ qs) (a ∷ xs) run d h = left_peak run.0 t qs xs run.2 (more_debt (made s q) d) (omega arith)
 
-  first_more : (s : k.States) (qs more : List Q) → first_made k made s qs ≤ first_made k made s (qs ++ more)
+  first_more : (s : k.States) (qs more : List Q) → first_debt k made s qs ≤ first_debt k made s (qs ++ more)
   first_more s [] more = omega arith
   first_more s (q ∷ qs) more = omega arith
 
 -- after a run of these requests, whose answers make `now`
 module _ {Q : Type 0} (k : Service Q) (counted : IsCounted k) (made : k.States → Q → ℕ) (s : k.States) (before : List ℕ) (start : ℕ) (qs : List Q) (m : k.States) (xs : List (List ℕ)) (run : Run k s qs xs m) (now : List ℕ) (sent : now ≡ before ++ texts xs) (debt : ℕ) (few : debt ≤ (debt_after k made s qs xs m run (debt_of start)).left) where
   -- a proper front of the next answer is sent, or nothing of it
-  pub owing_front : (rest : List Q) (f front : List ℕ) (d : ℕ) → f ≡ now ++ front → k.acked front ≡ 0 → d ≤ debt + first_made k made m rest → IsOwing k made s before start (qs ++ rest) d f
+  pub owing_front : (rest : List Q) (f front : List ℕ) (d : ℕ) → f ≡ now ++ front → k.acked front ≡ 0 → d ≤ debt + first_debt k made m rest → IsOwing k made s before start (qs ++ rest) d f
   owing_front rest f front d is none h = record {
     answered = qs;
     rest = rest;

@@ -9,8 +9,8 @@ use Rattle.serving.specs.declared.protocol.Ending.{Ending}
 use Rattle.serving.specs.declared.protocol.Ending.TheVariants as ending
 use Rattle.serving.specs.declared.intake.Intake.{Intake}
 use Rattle.serving.specs.declared.intake.Next.{Next}
-use Rattle.serving.specs.Goes.{held, left_in, Reads, Handed, Found, IsNextAtEnd}
-use Rattle.serving.specs.Input.{Spelling, IsSpelling, last, all_requests, asked}
+use Rattle.serving.specs.Goes.{unread, remaining, Reads, Handed, IsFoundNext, IsNextAtEnd}
+use Rattle.serving.specs.Input.{Spelling, IsSpelling, last, all_requests, completed}
 use Rattle.serving.specs.Ran.{AskedBy, Came, IsAtEnd}
 
 -- ---- bytes up to a limit
@@ -98,24 +98,24 @@ held_none : (room : List ℕ) (from to : ℕ) → from ≡ to → slice_range ro
 held_none room from to e = let n : to - from ≡ 0 = omega (arith, e) in ap (λ k. take k (drop from room)) n ∙ take_zero (drop from room)
 
 -- how much may still be handed out
-pub left_filled : (i i2 : Intake) (count : ℕ) → i2.limit ≡ i.limit → i2.taken ≡ i.taken + count → i2.from ≡ 0 → i2.to ≡ min count (i.limit - i.taken) → i2.over ≡ i.over → i.taken ≤ i.limit → left_in i2 ≤ left_in i
+pub left_filled : (i i2 : Intake) (count : ℕ) → i2.limit ≡ i.limit → i2.taken ≡ i.taken + count → i2.from ≡ 0 → i2.to ≡ min count (i.limit - i.taken) → i2.over ≡ i.over → i.taken ≤ i.limit → remaining i2 ≤ remaining i
 left_filled i i2 count limit taken from to over few = omega (arith, limit, taken, from, to, few, ap {B = ℕ} (λ b. cond b 0 1) over)
 
-pub left_read : (i i2 : Intake) → i2.limit ≡ i.limit → i2.taken ≡ i.taken → i2.over ≡ i.over → i2.to ≡ i.to → i.from ≤ i2.from → left_in i2 ≤ left_in i
+pub left_read : (i i2 : Intake) → i2.limit ≡ i.limit → i2.taken ≡ i.taken → i2.over ≡ i.over → i2.to ≡ i.to → i.from ≤ i2.from → remaining i2 ≤ remaining i
 left_read i i2 limit taken over to later = omega (arith, limit, taken, to, later, ap {B = ℕ} (λ b. cond b 0 1) over)
 
 module _ {Q : Type 0} (p : Spelling Q) where
   -- some of what is held was read, and with it at most one request
   pub reads_on : (fed fed2 : List ℕ → Type 0) (i i2 : Intake) (bytes : List ℕ) (qs : List Q) (o : Option Q) (used : ℕ) → Reads p fed i bytes qs
-      → i2.limit ≡ i.limit → i2.taken ≡ i.taken → slice_range i2.room i2.from i2.to ≡ slice_range i.room (i.from + used) i.to → i.from ≤ i.to → used ≤ length (held i)
-      → ((x : List ℕ) → fed x → fed2 (x ++ take used (held i))) → ((x : List ℕ) → fed x → p.requests (x ++ take used (held i)) ≡ p.requests x ++ asked o) → Reads p fed2 i2 bytes (qs ++ asked o)
+      → i2.limit ≡ i.limit → i2.taken ≡ i.taken → slice_range i2.room i2.from i2.to ≡ slice_range i.room (i.from + used) i.to → i.from ≤ i.to → used ≤ length (unread i)
+      → ((x : List ℕ) → fed x → fed2 (x ++ take used (unread i))) → ((x : List ℕ) → fed x → p.requests (x ++ take used (unread i)) ≡ p.requests x ++ completed o) → Reads p fed2 i2 bytes (qs ++ completed o)
   reads_on fed fed2 i i2 bytes qs o used was limit taken rest ordered fits fed_on asks = record {
     long = was.long ∙ sym taken;
-    x = was.x ++ take used (held i);
+    x = was.x ++ take used (unread i);
     was_fed = fed_on was.x was.was_fed;
-    parts = append_assoc was.x (take used (held i)) (held i2) ∙ ap (λ l. was.x ++ (take used (held i) ++ l)) rest
+    parts = append_assoc was.x (take used (unread i)) (unread i2) ∙ ap (λ l. was.x ++ (take used (unread i) ++ l)) rest
         ∙ ap (λ l. was.x ++ l) (sym (held_on i.room i.from i.to used fits ordered)) ∙ was.parts ∙ ap (λ n. take n bytes) (sym limit);
-    these = ap (λ l. l ++ asked o) was.these ∙ sym (asks was.x was.was_fed);
+    these = ap (λ l. l ++ completed o) was.these ∙ sym (asks was.x was.was_fed);
   }
 
   -- where nothing is held, what was read is what came, up to the limit
@@ -130,13 +130,13 @@ module _ {Q : Type 0} (p : Spelling Q) where
       → i2.limit ≡ i.limit → i2.taken ≡ i.taken + count → i2.from ≡ 0 → i2.to ≡ min count (i.limit - i.taken) → i2.room ≡ room → Reads p fed i2 (bytes ++ take count room) qs
   reads_more fed i i2 bytes room qs count was none few fits limit taken from to same =
       let x = all_came fed i bytes qs was none few in
-      let rest : held i2 ≡ take (min count (i.limit - i.taken)) room =
+      let rest : unread i2 ≡ take (min count (i.limit - i.taken)) room =
       (λ j. slice_range (same j) (from j) (to j)) ∙ (let e : min count (i.limit - i.taken) - 0 ≡ min count (i.limit - i.taken) = omega arith in ap (λ k. take k room) e) in
       record {
         long = length-append bytes (take count room) ∙ (let e = length-take count room in omega (arith, e, fits, was.long, taken));
         x = was.x;
         was_fed = was.was_fed;
-        parts = ap (λ l. l ++ held i2) x ∙ ap (λ l. bytes ++ l) rest ∙ sym (within_limit bytes room i.limit i.taken count was.long few) ∙ ap (λ n. take n (bytes ++ take count room)) (sym limit);
+        parts = ap (λ l. l ++ unread i2) x ∙ ap (λ l. bytes ++ l) rest ∙ sym (within_limit bytes room i.limit i.taken count was.long few) ∙ ap (λ n. take n (bytes ++ take count room)) (sym limit);
         these = was.these;
       }
 
@@ -163,20 +163,20 @@ module _ {Q : Type 0} (p : Spelling Q) where
 
   -- the end of the input was found
   found_end : (fed fed2 : List ℕ → Type 0) (ended : Type 0) (i i2 : Intake) (bytes : List ℕ) (qs : List Q) (e : Ending Q) (r : Next Q) (b was : Bool) → i2.over ≡ b → i2.limit ≡ i.limit → length bytes ≤ i.limit → ended
-      → qs ≡ p.requests bytes → e ≡ p.ending bytes → IsNextAtEnd e r b was → Found p fed2 ended i2 bytes qs r
+      → qs ≡ p.requests bytes → e ≡ p.ending bytes → IsNextAtEnd e r b was → IsFoundNext p fed2 ended i2 bytes qs r
   found_end fed fed2 ended i i2 bytes qs ending.Nothing r b was over limit long end these is found =
-      subst (λ n. Found p fed2 ended i2 bytes qs n) (sym found.0)
+      subst (λ n. IsFoundNext p fed2 ended i2 bytes qs n) (sym found.0)
       (omega (arith, long, limit), end, (λ cut. cc), sym (append-nil qs) ∙ no_more bytes qs ending.Nothing these is)
   found_end fed fed2 ended i i2 bytes qs ending.CutOff r b was over limit long end these is found =
-      subst (λ n. Found p fed2 ended i2 bytes qs n) (sym found.0)
+      subst (λ n. IsFoundNext p fed2 ended i2 bytes qs n) (sym found.0)
       (omega (arith, long, limit), end, sym is, sym (append-nil qs) ∙ no_more bytes qs ending.CutOff these is)
   found_end fed fed2 ended i i2 bytes qs (ending.One q) r b was over limit long end these is found =
-      subst (λ n. Found p fed2 ended i2 bytes qs n) (sym found.0)
+      subst (λ n. IsFoundNext p fed2 ended i2 bytes qs n) (sym found.0)
       (subst (λ t. MatchBool t (AskedBy status.Done p i2.limit bytes ended (qs ++ q ∷ [])) (Reads p fed2 i2 bytes (qs ++ q ∷ []))) (sym (over ∙ found.1))
       (omega (arith, long, limit), end, (λ cut. cc), no_more bytes qs (ending.One q) these is))
 
   pub found_at_end : (fed fed2 : List ℕ → Type 0) (ended : Type 0) (i i2 : Intake) (bytes : List ℕ) (qs : List Q) (e : Ending Q) (r : Next Q) (before : Bool) → Reads p fed i bytes qs → i.from ≡ i.to → i.taken ≤ i.limit → i2.limit ≡ i.limit → ended
-      → ((x : List ℕ) → fed x → e ≡ p.ending x) → IsNextAtEnd e r i2.over before → Found p fed2 ended i2 bytes qs r
+      → ((x : List ℕ) → fed x → e ≡ p.ending x) → IsNextAtEnd e r i2.over before → IsFoundNext p fed2 ended i2 bytes qs r
   found_at_end fed fed2 ended i i2 bytes qs e r before was none few limit end is found =
       let x = all_came fed i bytes qs was none few in
       found_end fed fed2 ended i i2 bytes qs e r i2.over before refl limit (omega (arith, was.long, few)) end (was.these ∙ ap p.requests x) (is was.x was.was_fed ∙ ap p.ending x) found
@@ -198,7 +198,7 @@ module _ {Q : Type 0} (p : Spelling Q) where
       ([], came_first tells taken left, subst (λ b. Reads p fed i b qs) (sym (append-nil bytes)) (reading fed ended i bytes qs over was))
 
   -- before the first take
-  pub handed_first : (fed : List ℕ → Type 0) (ended : Type 0) (i : Intake) → fed [] → p.requests [] ≡ [] → i.taken ≡ 0 → held i ≡ [] → i.over ≡ false → Handed p fed ended i [] []
+  pub handed_first : (fed : List ℕ → Type 0) (ended : Type 0) (i : Intake) → fed [] → p.requests [] ≡ [] → i.taken ≡ 0 → unread i ≡ [] → i.over ≡ false → Handed p fed ended i [] []
   handed_first fed ended i fresh none taken nothing over =
       handed_on fed ended i [] [] over (record { long = sym taken; x = []; was_fed = fresh; parts = nothing ∙ sym (take_nil i.limit); these = sym none })
 
@@ -207,7 +207,7 @@ module _ {Q : Type 0} (p : Spelling Q) where
   asked_some lawful fed ended i bytes qs true over was = let done = done_of fed ended i bytes qs over was in ([], inr (done.0, done.1, append-nil qs ∙ done.3))
   asked_some lawful fed ended i bytes qs false over was =
       let reads = reading fed ended i bytes qs over was in
-      let more = lawful.more reads.x (held i) in
+      let more = lawful.more reads.x (unread i) in
       (more.0, inl (ap (λ l. l ++ more.0) reads.these ∙ sym more.1 ∙ ap p.requests reads.parts))
 
   -- where a request stopped the run

@@ -1,12 +1,12 @@
 -- One prompt answer more.
 use Rattle.std.proofs.Common.{◌≡◌, ℕ, List, [], ◌∷◌, ◌++◌, refl, sym, ◌∙◌, ap, subst}
 use Rattle.serving.specs.Service.{Service}
-use Rattle.serving.specs.Work.{Work}
+use Rattle.serving.specs.Work.{WorkCount}
 use Rattle.serving.specs.Runs.{Run}
 use Rattle.serving.specs.Prompt.{ArePrompt, IsPrompt, Mark}
 use Rattle.serving.proofs.Runs.{run_next}
 
-module _ {Q : Type 0} (k : Service Q) (w : Work Q k.States) (port : Mark → Type 0) where
+module _ {Q : Type 0} (k : Service Q) (w : WorkCount Q k.States) (port : Mark → Type 0) where
   pub prompt_next : (s m t : k.States) (qs : List Q) (xs : List (List ℕ)) (q : Q) (a : List ℕ) (run : Run k s qs xs m) (given : k.gives m q a t) (old mid new : Mark)
       → ArePrompt k w port s qs xs m run old mid → port new → new.sent ≡ mid.sent ++ a → IsPrompt k w port m q mid new → ArePrompt k w port s (qs ++ q ∷ []) (xs ++ a ∷ []) t (run_next k s m t qs xs q a run given) old new
   unfolding run_next

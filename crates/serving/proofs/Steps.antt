@@ -7,7 +7,7 @@ use Rattle.image_device.proofs.Moments.{started, joined, weakened, leaves_both, 
 use Rattle.tsd_words.specs.declared.status.Status.{Status}
 use Rattle.tsd_words.specs.declared.status.Status.TheVariants as status
 use Rattle.serving.specs.Service.{Service, IsCounted, IsAnswering, IsInAnswer, LeftBy}
-use Rattle.serving.specs.Work.{Work, used}
+use Rattle.serving.specs.Work.{WorkCount, used}
 use Rattle.serving.specs.Costs.{IsPaidFor, costs}
 use Rattle.serving.specs.Debts.{Debt, HasDebt, debt_of}
 use Rattle.serving.specs.Prompt.{IsCutShort, IsPrompt, Mark, Promptly, mark}
@@ -27,7 +27,7 @@ not_cut : (why : Status) → (why ≡ status.DeviceFault) ⊎ (why ≡ status.Pu
 not_cut why (inl e) cut = subst IsCutShort e cut
 not_cut why (inr e) cut = subst IsCutShort e cut
 
-module _ {Q : Type 0} (k : Service Q) (w : Work Q k.States) (port : Mark → Type 0) (s : k.States) (due : ℕ) (v0 : View) where
+module _ {Q : Type 0} (k : Service Q) (w : WorkCount Q k.States) (port : Mark → Type 0) (s : k.States) (due : ℕ) (v0 : View) where
   -- the replies so far
   pub served_of : (qs : List Q) (m : k.States) (due1 : ℕ) (v : View) → Goes k w port s due v0 qs m due1 v → Served k s v0.sent qs m v.sent
   served_of qs m due1 v goes = record { answers = goes.answers; run = goes.run; sent = goes.sent }
@@ -71,7 +71,7 @@ module _ {Q : Type 0} (k : Service Q) (w : Work Q k.States) (port : Mark → Typ
     debt = goes.debt;
   }
 
-module _ {Q : Type 0} (k : Service Q) (counted : IsCounted k) (w : Work Q k.States) (port : Mark → Type 0) (s : k.States) (due : ℕ) (v0 : View) where
+module _ {Q : Type 0} (k : Service Q) (counted : IsCounted k) (w : WorkCount Q k.States) (port : Mark → Type 0) (s : k.States) (due : ℕ) (v0 : View) where
   -- before the first request
   pub goes_first : IsSound v0 → ((n : ℕ) → v0.loose n ≡ false) → k.stands s v0.reads → k.rests s v0.reads → Goes k w port s due v0 [] s due v0
   goes_first sound firm stands rests =
@@ -262,7 +262,7 @@ module _ {Q : Type 0} (k : Service Q) (counted : IsCounted k) (w : Work Q k.Stat
           (inl (subst (λ f. IsBroken k s v0.sent qs f) (sym sent) (subst (λ l. IsBroken k s v0.sent l v.sent) (append-nil qs) (broken k counted s v0.sent qs [] m v.sent (served_of k w port s due v0 qs m due1 v goes)).0)))
 
 -- more requests behind
-module _ {Q : Type 0} (k : Service Q) (w : Work Q k.States) (s final : k.States) (due : ℕ) (v0 v : View) (qs more : List Q) where
+module _ {Q : Type 0} (k : Service Q) (w : WorkCount Q k.States) (s final : k.States) (due : ℕ) (v0 v : View) (qs more : List Q) where
   by_longer : (why : Status) → (why ≡ status.DeviceFault) ⊎ (why ≡ status.PutFault) → ByStatus why k s v0.sent qs final v.sent → ByStatus why k s v0.sent (qs ++ more) final v.sent
   unfolding cut_off_longer
   by_longer why (inr e) left =
@@ -310,7 +310,7 @@ module _ {Q : Type 0} (k : Service Q) (w : Work Q k.States) (s final : k.States)
   }
 
 -- how promptly, where nothing of a further answer was sent
-pub prompt_done : {Q : Type 0} (r : Status) (k : Service Q) (counted : IsCounted k) (w : Work Q k.States) (port : Mark → Type 0) (s : k.States) (due : ℕ) (v0 : View) (qs : List Q) (m : k.States) (due1 : ℕ) (v new : View)
+pub prompt_done : {Q : Type 0} (r : Status) (k : Service Q) (counted : IsCounted k) (w : WorkCount Q k.States) (port : Mark → Type 0) (s : k.States) (due : ℕ) (v0 : View) (qs : List Q) (m : k.States) (due1 : ℕ) (v new : View)
     → Goes k w port s due v0 qs m due1 v → new.sent ≡ v.sent → (IsCutShort r → mark new ≡ mark v) → Promptly r k w port s (mark v0) (mark new)
 prompt_done r k counted w port s due v0 qs m due1 v new goes same still = record {
   answered = qs;
@@ -327,6 +327,6 @@ prompt_done r k counted w port s due v0 qs m due1 v new goes same still = record
 }
 
 -- a run as a whole
-pub ran_of : {Q : Type 0} (r : Status) (k : Service Q) (w : Work Q k.States) (p : Spelling Q) (s final : k.States) (limit counted : ℕ) (source : Taking) (due : ℕ) (port : Moments) (bytes : List ℕ) (qs : List Q)
+pub ran_of : {Q : Type 0} (r : Status) (k : Service Q) (w : WorkCount Q k.States) (p : Spelling Q) (s final : k.States) (limit counted : ℕ) (source : Taking) (due : ℕ) (port : Moments) (bytes : List ℕ) (qs : List Q)
     → counted ≡ limit → source.came bytes → AskedBy r p counted bytes source.at_end qs → (port.tells → Ends r k w s final due port.old port.new qs) → Ran r k w p s final limit source due port
 ran_of r k w p s final limit counted source due port bytes qs same came asked ends = record { bytes = bytes; came_in = came; asked = qs; these = subst (λ n. AskedBy r p n bytes source.at_end qs) same asked; ends = ends }

@@ -1,7 +1,7 @@
 -- What a run costs: each request by the state in which it comes.
 use Rattle.std.specs.Prelude.{◌≡◌, ℕ, ◌+◌, ◌≤◌, List, [], ◌∷◌, ◌++◌, length, All}
 use Rattle.serving.specs.Service.{Service}
-use Rattle.serving.specs.Work.{Work}
+use Rattle.serving.specs.Work.{WorkCount}
 use Rattle.serving.specs.Runs.{Run, texts}
 
 -- the sum of the costs of a run's requests
@@ -19,8 +19,8 @@ first_cost k cost s (q ∷ qs) = cost s q
 -- The first of these requests were answered: as many as there are whole answers among the bytes `f` sent after
 -- `before`. Where the work of each is bounded, no more was used than the costs of those, each in the state to which the
 -- answers sent led, and that of the next one.
-pub record IsPaidFor {Q : Type 0} (k : Service Q) (w : Work Q k.States) (s : k.States) (before : List ℕ) (qs : List Q)
-    (f : List ℕ) (start now : ℕ) : Type 0 where
+pub record IsPaidFor {Q : Type 0} (k : Service Q) (w : WorkCount Q k.States) (s : k.States) (before : List ℕ)
+    (qs : List Q) (f : List ℕ) (start now : ℕ) : Type 0 where
   pub answered : List Q
   pub rest : List Q
   pub parts : qs ≡ answered ++ rest

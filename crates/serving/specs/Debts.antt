@@ -2,7 +2,7 @@
 use Rattle.std.specs.Prelude.{◌≡◌, ℕ, ◌+◌, ◌-◌, ◌≤◌, List, [], ◌∷◌, ◌++◌, length}
 use Rattle.image_device.specs.Image.{Image}
 use Rattle.serving.specs.Service.{Service}
-use Rattle.serving.specs.Work.{Work}
+use Rattle.serving.specs.Work.{WorkCount}
 use Rattle.serving.specs.Runs.{Run, texts}
 
 -- how much is left after a run, and how much was left just after its last answer
@@ -25,9 +25,9 @@ abbrev pub debt_of : ℕ → Debt
 debt_of start = record { left = start; peak = start }
 
 -- what the first of these makes, if there is one
-abbrev pub first_made : {Q : Type 0} → (k : Service Q) → (k.States → Q → ℕ) → k.States → List Q → ℕ
-first_made k made s [] = 0
-first_made k made s (q ∷ qs) = made s q
+abbrev pub first_debt : {Q : Type 0} → (k : Service Q) → (k.States → Q → ℕ) → k.States → List Q → ℕ
+first_debt k made s [] = 0
+first_debt k made s (q ∷ qs) = made s q
 
 -- A crash left an image in which so much is left to be done, with these bytes sent. With a the number of whole answers
 -- among those after `before`, that is at most what was left just after the last of them, besides what request a+1
@@ -43,9 +43,9 @@ pub record IsOwing {Q : Type 0} (k : Service Q) (made : k.States → Q → ℕ) 
   pub front : List ℕ
   pub sent : f ≡ before ++ (texts answers ++ front)
   pub count : k.acked (texts answers ++ front) ≡ length answered
-  pub few : debt ≤ (debt_after k made s answered answers state run (debt_of start)).peak + first_made k made state rest
+  pub few : debt ≤ (debt_after k made s answered answers state run (debt_of start)).peak + first_debt k made state rest
 
 -- the same of an image
-abbrev pub HasDebt : {Q : Type 0} → (k : Service Q) → Work Q k.States → k.States → List ℕ → ℕ → List Q → Image
+abbrev pub HasDebt : {Q : Type 0} → (k : Service Q) → WorkCount Q k.States → k.States → List ℕ → ℕ → List Q → Image
     → List ℕ → Type 0
 HasDebt k w s before start qs x f = IsOwing k w.made s before start qs (w.debt x) f

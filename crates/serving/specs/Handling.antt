@@ -1,11 +1,10 @@
 -- A disk that carries out requests one after another, said apart from any code.
-use Rattle.std.specs.Prelude.{◌≡◌, ◌≤◌, ◌⊎◌, Bool, true, false}
+use Rattle.std.specs.Prelude.{◌≡◌, ◌≤◌, ◌⊎◌}
 use Rattle.image_device.specs.Image.{Image}
 use Rattle.image_device.specs.View.{View}
 use Rattle.image_device.specs.Runs.{IsFirm}
 use Rattle.tsd_model.specs.declared.requests.Request.{Request}
 use Rattle.tsd_model.specs.declared.replies.Reply.{Reply}
-use Rattle.tsd_model.specs.declared.replies.Reply.TheVariants as replied
 
 -- A disk by its rules: its states, the replies to requests, and the images that stand for a state.
 pub record DiskRules : Type 1 where
@@ -21,12 +20,6 @@ FitsDevice holds v = IsFirm v × holds v.reads
 -- the image stands for the state, or for the one that a reply to the request leads to
 abbrev pub StandsBeforeOrAfter : (k : DiskRules) → k.States → Request → Image → Type 0
 StandsBeforeOrAfter k s q x = k.stands s x ⊎ ((r : Reply) × (t : k.States) × k.gives s q r t × k.stands t x)
-
--- the request is refused, by a rule or for want of memory
-abbrev pub is_refusal : Reply → Bool
-is_refusal (replied.Refused rule) = true
-is_refusal replied.NoMemory = true
-is_refusal r = false
 
 -- the counts of failures over calls that put nothing
 pub record CountsRise (old new : View) : Type 0 where

@@ -25,6 +25,6 @@ abbrev pub all_requests : {Q : Type 0} → Spelling Q → List ℕ → List Q
 all_requests p x = p.requests x ++ last (p.ending x)
 
 -- the request that was made whole, if one was
-abbrev pub asked : {Q : Type 0} → Option Q → List Q
-asked None = []
-asked (Some q) = q ∷ []
+abbrev pub completed : {Q : Type 0} → Option Q → List Q
+completed None = []
+completed (Some q) = q ∷ []

@@ -5,7 +5,7 @@ use Rattle.image_device.specs.View.{View}
 use Rattle.tsd_words.specs.declared.status.Status.{Status}
 use Rattle.tsd_words.specs.declared.status.Status.TheVariants as status
 use Rattle.serving.specs.Service.{Service}
-use Rattle.serving.specs.Work.{Work}
+use Rattle.serving.specs.Work.{WorkCount}
 use Rattle.serving.specs.Runs.{Run}
 
 -- what is seen of a port between two calls
@@ -23,8 +23,8 @@ IsOfPort {P = P} view m = (p : P) × (mark (view p) ≡ m)
 
 -- A request was answered from the one moment to the other. At a moment between, its answer was sent whole, and by then
 -- so often was written, where its work is bounded; behind it no more was written than is behind an answer.
-pub record IsPrompt {Q : Type 0} (k : Service Q) (w : Work Q k.States) (port : Mark → Type 0) (s : k.States) (q : Q)
-    (old new : Mark) : Type 0 where
+pub record IsPrompt {Q : Type 0} (k : Service Q) (w : WorkCount Q k.States) (port : Mark
+    → Type 0) (s : k.States) (q : Q) (old new : Mark) : Type 0 where
   pub replied : Mark
   pub of_port : port replied
   pub sent : replied.sent ≡ new.sent
@@ -32,7 +32,7 @@ pub record IsPrompt {Q : Type 0} (k : Service Q) (w : Work Q k.States) (port : M
   pub behind : new.writes ≤ replied.writes + w.behind_answer
 
 -- Each request of a run was answered so, one after another, from the one moment to the other.
-abbrev pub ArePrompt : {Q : Type 0} → (k : Service Q) → Work Q k.States → (Mark → Type 0)
+abbrev pub ArePrompt : {Q : Type 0} → (k : Service Q) → WorkCount Q k.States → (Mark → Type 0)
     → (s : k.States) (qs : List Q) (xs : List (List ℕ)) (t : k.States) → Run k s qs xs t → Mark → Mark → Type 0
 ArePrompt k w port s [] xs t run old new = new ≡ old
 ArePrompt k w port s (q ∷ qs) [] t run old new = ⊥
@@ -50,7 +50,7 @@ IsCutShort r = ⊥
 -- How promptly a run answered that ended so. These requests were answered, each promptly. Behind their answers a front
 -- of one more may be sent, and all of that only where the device failed behind it. Where the input was cut short,
 -- nothing is done behind the last answer and what is behind an answer.
-pub record Promptly {Q : Type 0} (r : Status) (k : Service Q) (w : Work Q k.States) (port : Mark → Type 0)
+pub record Promptly {Q : Type 0} (r : Status) (k : Service Q) (w : WorkCount Q k.States) (port : Mark → Type 0)
     (s : k.States) (old new : Mark) : Type 0 where
   pub answered : List Q
   pub answers : List (List ℕ)

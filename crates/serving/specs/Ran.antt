@@ -11,7 +11,7 @@ use Rattle.serving.specs.Input.{Spelling, all_requests}
 use Rattle.serving.specs.Runs.{Served, IsBroken, IsCutOff, IsAcknowledged}
 use Rattle.serving.specs.Seen.{IsSeenRun}
 use Rattle.serving.specs.Service.{Service}
-use Rattle.serving.specs.Work.{Work, used}
+use Rattle.serving.specs.Work.{WorkCount, used}
 
 -- These bytes came in between two moments, where the source tells.
 pub record Came (tells : Type 0) (taken_before taken_now left_before left_now bytes : List ℕ) : Type 0 where
@@ -79,7 +79,7 @@ ByStatus r k s before qs final now = Served k s before qs final now
 -- How a run over these requests ended: what was sent; what a crash may have left at any moment; how often a write was
 -- called, where so many writes were due before; and how much is left to be done in each of those images. The states of
 -- a run with these answers were all seen; where the device failed, the last one may not be.
-pub record Ends {Q : Type 0} (r : Status) (k : Service Q) (w : Work Q k.States) (s final : k.States) (due : ℕ)
+pub record Ends {Q : Type 0} (r : Status) (k : Service Q) (w : WorkCount Q k.States) (s final : k.States) (due : ℕ)
     (old new : View) (qs : List Q) : Type 0 where
   pub sent : ByStatus r k s old.sent qs final new.sent
   pub any_moment : LeavesOnly old new (IsAcknowledged k s old.sent qs)
@@ -90,8 +90,8 @@ pub record Ends {Q : Type 0} (r : Status) (k : Service Q) (w : Work Q k.States) 
   pub all_seen : r ≢ status.DeviceFault → (t : ℕ) (le : t ≤ old.clock) → k.acked (seen t le).front ≡ 0
 
 -- Bytes that came in, the requests that they hold, and how the run over these ended, where the port tells.
-pub record Ran {Q : Type 0} (r : Status) (k : Service Q) (w : Work Q k.States) (p : Spelling Q) (s final : k.States)
-    (limit : ℕ) (source : Taking) (due : ℕ) (port : Moments) : Type 0 where
+pub record Ran {Q : Type 0} (r : Status) (k : Service Q) (w : WorkCount Q k.States) (p : Spelling Q)
+    (s final : k.States) (limit : ℕ) (source : Taking) (due : ℕ) (port : Moments) : Type 0 where
   pub bytes : List ℕ
   pub came_in : source.came bytes
   pub asked : List Q

@@ -4,7 +4,7 @@ use Rattle.image_device.specs.Image.{Image}
 use Rattle.image_device.specs.View.{View}
 
 -- How the work of requests is counted, where it is bounded.
-pub record Work (Q States : Type 0) : Type 1 where
+pub record WorkCount (Q States : Type 0) : Type 1 where
   -- the work of this request is bounded
   pub bounded : Q → Type 0
   -- how many writes it costs in a state

@@ -5,11 +5,11 @@ ghost use Rattle.std.specs.Prelude.{IsTrue, true};
 ghost use Rattle.image_device.specs.Counts.{CountsFault};
 ghost use Rattle.image_device.specs.Image.{Image};
 ghost use Rattle.image_device.specs.Runs.{LeavesOnly, LeavesPart};
-ghost use Rattle.tsd_model.specs.ReplyForm.{HasForm};
+ghost use Rattle.tsd_model.specs.ReplyForm.{HasForm, is_refusal};
 ghost use Rattle.tsd_model.specs.declared.requests.Request.{Request as Asked};
 ghost use Rattle.tsd_model.specs.declared.replies.Reply.{Reply as Answered};
-ghost use Rattle.serving.specs.Handling.{DiskRules, FitsDevice, StandsBeforeOrAfter, CountsRise, is_refusal};
-ghost use Rattle.serving.specs.Work.{Work, used};
+ghost use Rattle.serving.specs.Handling.{DiskRules, FitsDevice, StandsBeforeOrAfter, CountsRise};
+ghost use Rattle.serving.specs.Work.{WorkCount, used};
 
 use image_device::{Device, Failed};
 use tsd_model::{Reply, Request};
@@ -20,7 +20,7 @@ pub trait Handler {
     ghost rules: { DiskRules };
 
     /// How its work is counted.
-    ghost work: { Work Asked rules.States };
+    ghost work: { WorkCount Asked rules.States };
 
     /// It may be used.
     ghost is_ready: { Self → Type 0 };

@@ -3,8 +3,8 @@
 ghost use Rattle.std.specs.Prelude.{◌≡◌, ◌≢◌, ◌≤◌, ◌<◌, ◌+◌, ◌-◌, ◌^◌, ◌++◌, []};
 ghost use Rattle.std.specs.Prelude.{ℕ, true, false, cond, List, min, IsSome, IsNone};
 ghost use Rattle.image_device.specs.Counts.{Rose};
-ghost use Rattle.serving.specs.Goes.{SameCounts, held, left_in, ends_left, IsNextAtEnd, Handed, Reads, Found};
-ghost use Rattle.serving.specs.Input.{asked};
+ghost use Rattle.serving.specs.Goes.{SameCounts, unread, remaining, ends_left, IsNextAtEnd, Handed, Reads, IsFoundNext};
+ghost use Rattle.serving.specs.Input.{completed};
 ghost use Rattle.serving.specs.Ran.{IsAtEnd, taking};
 ghost use Rattle.serving.specs.declared.protocol.Ending.{Ending as EndingOf};
 
@@ -18,7 +18,7 @@ impl Intake {
         requires { limit ≤ INPUT_MAX }
         ensures limit { result.limit ≡ limit }
         ensures taken { result.taken ≡ 0 }
-        ensures held { held result ≡ [] }
+        ensures held { unread result ≡ [] }
         ensures over { result.over ≡ false }
         ensures ends { ends_left result ≡ 1 }
     {
@@ -44,8 +44,8 @@ impl Intake {
             (IsAtEnd S.told (S.ended source.old) (S.left_bytes source.old)) self.old bytes qs
             → let took = taking S.told S.taken S.left_bytes S.ended source.old source.new in
             (more : List ℕ) × took.came more
-            × Found R.spelling (λ x. R.was_fed x protocol.new) took.at_end self.new (bytes ++ more) qs result }
-        ensures less { (q : R.Request) → result ≡ Next.Request q → left_in self.new < left_in self.old }
+            × IsFoundNext R.spelling (λ x. R.was_fed x protocol.new) took.at_end self.new (bytes ++ more) qs result }
+        ensures less { (q : R.Request) → result ≡ Next.Request q → remaining self.new < remaining self.old }
         // The end is found once at most, and where a request was handed out before it, it may be found later.
         ensures once { S.ends source.new ≤ S.ends source.old + ends_left self.old }
         ensures later { (q : R.Request) → result ≡ Next.Request q
@@ -84,7 +84,7 @@ impl Intake {
         ensures later { self.old.from ≤ self.new.from }
         ensures handed { (bytes : List ℕ) (qs : List R.Request) → Reads R.spelling (λ x. R.was_fed x protocol.old)
             self.old bytes qs →
-            Reads R.spelling (λ x. R.was_fed x protocol.new) self.new bytes (qs ++ asked result) }
+            Reads R.spelling (λ x. R.was_fed x protocol.new) self.new bytes (qs ++ completed result) }
     {
         let fed = protocol.feed(&self.room[self.from..self.to]);
         self.from += fed.used;

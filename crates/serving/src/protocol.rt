@@ -1,7 +1,7 @@
 //! How requests come.
 
 ghost use Rattle.std.specs.Prelude.{◌≡◌, ◌<◌, ◌≤◌, ◌++◌, ℕ, List, length, take, IsSome, IsNone};
-ghost use Rattle.serving.specs.Input.{Spelling, IsSpelling, asked};
+ghost use Rattle.serving.specs.Input.{Spelling, IsSpelling, completed};
 
 /// What stands at the end of the input.
 #[derive(Drop)]
@@ -44,7 +44,7 @@ pub trait Protocol {
         ensures all { IsNone result.request → result.used ≡ length piece.now }
         ensures fed { (x : List ℕ) → was_fed x self.old → was_fed (x ++ take result.used piece.now) self.new }
         ensures asked { (x : List ℕ) → was_fed x self.old → spelling.requests (x ++ take result.used piece.now)
-            ≡ spelling.requests x ++ asked result.request };
+            ≡ spelling.requests x ++ completed result.request };
 
     /// What stands after the last whole request, the input having come to its end.
     fn ending(&self) -> Ending<Self::Request>

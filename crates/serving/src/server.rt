@@ -8,7 +8,7 @@ ghost use Rattle.image_device.specs.Runs.{LeavesOnly, LeavesPart};
 ghost use Rattle.serving.specs.Handling.{FitsDevice, CountsRise};
 ghost use Rattle.serving.specs.Prompt.{IsOfPort, IsPrompt, mark};
 ghost use Rattle.serving.specs.Service.{Service, IsCounted, IsInAnswer, LeftBy};
-ghost use Rattle.serving.specs.Work.{Work, used};
+ghost use Rattle.serving.specs.Work.{WorkCount, used};
 
 use crate::protocol::Protocol;
 use image_device::{Device, Failed, Port};
@@ -21,7 +21,7 @@ pub trait Server<R: Protocol> {
     ghost service: { Service R.Request };
 
     /// How its work is counted.
-    ghost work: { Work R.Request service.States };
+    ghost work: { WorkCount R.Request service.States };
 
     /// It may be used.
     ghost is_ready: { Self → Type 0 };

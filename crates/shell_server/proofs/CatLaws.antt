@@ -19,7 +19,8 @@ use Rattle.fs_trees.specs.declared.ask.ShellAsk.{ShellAsk}
 use Rattle.fs_trees.specs.declared.ask.ShellAsk.TheVariants as ask
 use Rattle.fs_trees.specs.declared.refusal.FsRefusal.{FsRefusal}
 use Rattle.fs_port.specs.Files.{TellsPart}
-use Rattle.shell_text.specs.Texts.{answer_text, data_head, is_empty}
+use Rattle.tsd_model.specs.Verdict.{is_empty}
+use Rattle.shell_text.specs.Texts.{answer_text, data_head}
 use Rattle.shell_server.specs.Shell.{ShellState, AnswersByLine, IsInParts, IsKeptSince, files_after, heard, shell_step, tree_in}
 
 -- ---- digits

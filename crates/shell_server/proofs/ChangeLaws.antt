@@ -13,7 +13,7 @@ use Rattle.fs_trees.specs.Names.{Name, Path}
 use Rattle.fs_trees.specs.Tree.{nothing, a_file, a_dir, Tree, at, bytes_in, is_there, with_at}
 use Rattle.fs_trees.specs.Answer.{Answer, done, refused}
 use Rattle.fs_trees.specs.Needs.{need_of}
-use Rattle.fs_trees.specs.Refusals.{Need, refusal}
+use Rattle.fs_trees.specs.Refusals.{RoomNeed, refusal}
 use Rattle.fs_trees.specs.Step.{AskOutcome, empty_tree, judged}
 use Rattle.fs_trees.specs.Outside.{OthersStay}
 use Rattle.fs_trees.specs.Layouts.{tree_at, step_in}
@@ -140,7 +140,7 @@ rm_changes t free path (Some r) = inr (r, refl)
 rm_changes t free path None = inl refl
 
 -- the root isn't taken away
-rm_root : (kind : ShellKind) (g : Geometry) (t : Tree) (free held : ℕ) (need : Need) → IsTrue (is_there t) → (r : FsRefusal) × (refusal kind g t free held need (ask.Rm []) ≡ Some r)
+rm_root : (kind : ShellKind) (g : Geometry) (t : Tree) (free held : ℕ) (need : RoomNeed) → IsTrue (is_there t) → (r : FsRefusal) × (refusal kind g t free held need (ask.Rm []) ≡ Some r)
 rm_root kind g nothing free held need there = absurd (cc)
 rm_root kind g (a_file x) free held need there = (no.IsDir, refl)
 rm_root kind g (a_dir d es) free held need there = (no.IsDir, refl)

@@ -7,7 +7,7 @@ use Rattle.fs_trees.specs.Names.{Name, Path}
 use Rattle.fs_trees.specs.Tree.{nothing, a_file, a_dir, Tree, at, is_there, with_at}
 use Rattle.fs_trees.specs.Answer.{done, refused}
 use Rattle.fs_trees.specs.Needs.{need_of}
-use Rattle.fs_trees.specs.Refusals.{Need, refusal, first_of, not_mounted, lost_on_the_way, missing, no_file, dir_full, no_room}
+use Rattle.fs_trees.specs.Refusals.{RoomNeed, refusal, first_of, not_mounted, lost_on_the_way, missing, no_file, dir_full, no_room}
 use Rattle.fs_trees.specs.Step.{judged}
 use Rattle.fs_trees.specs.Layouts.{tree_at, step_in}
 use Rattle.fs_trees.specs.declared.ask.ShellAsk.TheVariants as ask
@@ -32,7 +32,7 @@ some_first (None ∷ os) r more = some_first os r more
 some_first (Some s ∷ os) r more = (s, refl)
 
 -- the root is there, so nothing is copied to it
-copy_root : (kind : ShellKind) (g : Geometry) (t : Tree) (free held : ℕ) (need : Need) (path : Path) → IsTrue (is_there t) → (r : FsRefusal) × (refusal kind g t free held need (ask.Copy path []) ≡ Some r)
+copy_root : (kind : ShellKind) (g : Geometry) (t : Tree) (free held : ℕ) (need : RoomNeed) (path : Path) → IsTrue (is_there t) → (r : FsRefusal) × (refusal kind g t free held need (ask.Copy path []) ≡ Some r)
 copy_root kind g nothing free held need path there = absurd (cc)
 copy_root kind g (a_file x) free held need path there =
     some_first (not_mounted (a_file x) ∷ lost_on_the_way (a_file x) path ∷ missing (a_file x) path ∷ no_file (a_file x) path ∷ None ∷ []) no.Exists (dir_full kind g (a_file x) [] ∷ no_room g free held need)

@@ -7,7 +7,7 @@ use Rattle.image_device.specs.Runs.{PutsAll}
 use Rattle.image_device.proofs.Moments.{weakened}
 use Rattle.script_text.specs.Pieces.{line_feeds}
 use Rattle.script_text.proofs.FeedLaws.{feeds-append}
-use Rattle.fs_trees.specs.Answer.{Answer, free_blocks, refused}
+use Rattle.fs_trees.specs.Answer.{Answer, available, refused}
 use Rattle.fs_trees.specs.declared.ask.ShellAsk.TheVariants as ask
 use Rattle.fs_trees.specs.declared.refusal.FsRefusal.{FsRefusal}
 use Rattle.fs_trees.specs.declared.refusal.FsRefusal.TheVariants as no
@@ -24,22 +24,22 @@ use Rattle.shell_text.proofs.RefusalLaws.{number_none}
 use Rattle.shell_server.proofs.SendLaws.{line_served}
 
 abbrev pub free_line : ℕ → List ℕ
-free_line n = answer_text (free_blocks n) ++ 10 ∷ []
+free_line n = answer_text (available n) ++ 10 ∷ []
 
 -- what is answered with a number of free blocks
 abbrev pub TellsFree : ℕ → Answer → Type 0
-TellsFree n answer = answer ≡ free_blocks n
+TellsFree n answer = answer ≡ available n
 
 -- what a count of the free blocks tells, whatever is mounted
 pub free_told : (f : FilesView) (v : BlocksView) (result : Result ℕ FsRefusal) → IfOk result (λ n. n ≡ free_count v.world) → IfOk result (λ n. TellsFree n (step_on f v ask.Df).answer)
-free_told f v (Ok n) is = ap free_blocks (sym is)
+free_told f v (Ok n) is = ap available (sym is)
 free_told f v (Err e) is = tt
 
 pub free_refused : (a : Answer) (result : Result ℕ FsRefusal) → IfErr result (λ e. e ≡ no.Device) → IfErr result (λ e. e ≢ no.Device → a ≡ refused e)
 free_refused a (Ok n) only = tt
 free_refused a (Err e) only = λ other. absurd (other only)
 
-free_one_line : (n : ℕ) → n < 2 ^ 32 → line_feeds (answer_text (free_blocks n)) ≡ 0
+free_one_line : (n : ℕ) → n < 2 ^ 32 → line_feeds (answer_text (available n)) ≡ 0
 free_one_line n few = omega (arith, feeds-append (codes "free") (32 ∷ decimal n), number_none n few)
 
 free_answers : (start : World) (s : ShellState) (n : ℕ) → n < 2 ^ 32 → TellsFree n (shell_step s ask.Df).answer → IsKeptSince start s → AnswersByLine start s ask.Df (free_line n) s

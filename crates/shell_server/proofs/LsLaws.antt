@@ -21,7 +21,8 @@ use Rattle.fs_trees.specs.declared.ask.ShellAsk.{ShellAsk}
 use Rattle.fs_trees.specs.declared.ask.ShellAsk.TheVariants as ask
 use Rattle.fs_trees.specs.declared.refusal.FsRefusal.{FsRefusal}
 use Rattle.fs_port.specs.Files.{TellsNext, above}
-use Rattle.shell_text.specs.Texts.{answer_text, names_head, is_empty}
+use Rattle.tsd_model.specs.Verdict.{is_empty}
+use Rattle.shell_text.specs.Texts.{answer_text, names_head}
 use Rattle.shell_text.proofs.AnswerLaws.{names_in_parts}
 use Rattle.shell_server.specs.Shell.{ShellState, AnswersByLine, IsInParts, IsKeptSince, files_after, heard, shell_step, tree_in}
 use Rattle.fs_laws.specs.Small.{IsNameListing}

@@ -18,7 +18,7 @@ use Rattle.fs_trees.specs.declared.ask.ShellKind.{ShellKind}
 use Rattle.fs_port.specs.Files.{FilesView, has_dirs, mounted_now}
 use Rattle.shell_text.specs.Texts.{answer_text}
 use Rattle.serving.specs.Service.{Service}
-use Rattle.serving.specs.Work.{Work}
+use Rattle.serving.specs.Work.{WorkCount}
 use Rattle.image_world.specs.Debt.{debt}
 
 -- ---- states
@@ -122,7 +122,7 @@ shell_service start = record {
 }
 
 -- how its work is counted: no ask has a bound
-abbrev pub shell_work : Work ShellAsk ShellState
+abbrev pub shell_work : WorkCount ShellAsk ShellState
 shell_work = record {
   bounded = λ q. ⊥;
   cost = λ s q. 0;

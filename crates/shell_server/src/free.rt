@@ -1,7 +1,7 @@
 //! The number of free blocks, answered.
 
 ghost use Rattle.std.specs.Prelude.{◌≡◌};
-ghost use Rattle.fs_trees.specs.Answer.{free_blocks};
+ghost use Rattle.fs_trees.specs.Answer.{available};
 ghost use Rattle.fs_trees.specs.declared.ask.ShellAsk.TheVariants as ask;
 ghost use Rattle.serving.specs.Handling.{FitsDevice};
 ghost use Rattle.shell_server.specs.Carried.{IsLooked, IsServed};
@@ -25,7 +25,7 @@ pub fn free_on<F: Files, D: Device, L: Placing, K: Started>(
     requires ready { AreReady (F.view files.now) core.old }
     requires at { D.told → FitsDevice (FitsShell K.start (F.view files.now) core.old) (D.view dev.old) }
     ensures { IsLooked D.told K.start ask.Df (F.view files.now) (F.view files.now) core.old core.new (D.view dev.old)
-        (D.view dev.new) (λ n answer. answer ≡ free_blocks n) result }
+        (D.view dev.new) (λ n answer. answer ≡ available n) result }
 {
     let mut blocks = CoreBlocks::new(core, placement, dev);
     free_blocks(&mut blocks)

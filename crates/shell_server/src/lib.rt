@@ -33,7 +33,7 @@ pub use answer::{
 };
 pub use free::{answer_df, free_on};
 pub use laws::answers_tell_the_tree;
-pub use lines::{ChainLayout, InodeLayout, Layout, ShellLines};
+pub use lines::{ChainLayout, InodeLayout, ShellLines, TreeLayout};
 pub use listing::answer_ls;
 pub use look::{next_on, part_on, size_on};
 pub use put::{append_on, copy_on, make_dir_on, make_on, put_on, remove_on};

@@ -14,7 +14,7 @@ ghost use Rattle.shell_server.specs.Kept.{AreReady, FitsShell, shell_state};
 ghost use Rattle.shell_server.specs.Lines.{shell_spelling};
 ghost use Rattle.shell_server.specs.Shell.{ShellState, shell_service, shell_work};
 
-use crate::lines::{Layout, ShellLines};
+use crate::lines::{ShellLines, TreeLayout};
 use crate::server::ShellServer;
 use crate::started::Started;
 use core_blocks::Placing;
@@ -26,7 +26,7 @@ use tsd_core::Core;
 use tsd_words::Status;
 
 /// Serves the asks of an input by a file system on a core until it ends, as `serving::serve` does.
-pub fn serve_shell<F: Files, L: Placing, K: Started, Y: Layout, S: Source, P: Port>(
+pub fn serve_shell<F: Files, L: Placing, K: Started, Y: TreeLayout, S: Source, P: Port>(
     files: &mut F,
     core: &mut Core,
     placement: &L,

@@ -1,7 +1,7 @@
 //! The answer of an ask that changes the tree, as it is sent.
 
 ghost use Rattle.std.specs.Prelude.{◌≡◌, ◌≢◌, [], ◌∷◌, ◌++◌, IfErr};
-ghost use Rattle.fs_trees.specs.Answer.{bad, done, free_blocks, refused};
+ghost use Rattle.fs_trees.specs.Answer.{bad, done, available, refused};
 ghost use Rattle.script_text.specs.Pieces.{line_feeds};
 ghost use Rattle.shell_text.specs.Texts.{answer_text};
 ghost use Rattle.image_device.specs.Runs.{PutsAll};
@@ -55,7 +55,7 @@ fn send_refusal<P: Port>(port: &mut P, why: &FsRefusal) -> Result<(), Status>
 /// Sends the line of a number of free blocks.
 pub(crate) fn send_free<P: Port>(port: &mut P, count: u32) -> Result<(), Status>
     ensures stops { IfErr result (λ why. why ≡ Status.PutFault) }
-    ensures puts { PutsAll P.told (answer_text (free_blocks count) ++ 10 ∷ []) (P.view port.old) (P.view port.new)
+    ensures puts { PutsAll P.told (answer_text (available count) ++ 10 ∷ []) (P.view port.old) (P.view port.new)
         result }
 {
     let mut line = OutBuf::new();

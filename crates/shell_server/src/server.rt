@@ -12,7 +12,7 @@ ghost use Rattle.shell_server.specs.Shell.{shell_service, shell_work};
 ghost use Rattle.shell_server.specs.ShellLaws.{shell_counted};
 
 use crate::answer::answer_ask;
-use crate::lines::{Layout, ShellLines};
+use crate::lines::{ShellLines, TreeLayout};
 use crate::started::Started;
 use core_blocks::Placing;
 use fs_port::Files;
@@ -40,7 +40,7 @@ pub struct ShellServer<'a, F: Files, L: Placing, K: Started> {
     pub of: PhantomData<K>,
 }
 
-impl<'a, F: Files, L: Placing, K: Started, Y: Layout> Server<ShellLines<Y>>
+impl<'a, F: Files, L: Placing, K: Started, Y: TreeLayout> Server<ShellLines<Y>>
     for ShellServer<'a, F, L, K> {
     ghost service = { shell_service K.start };
 

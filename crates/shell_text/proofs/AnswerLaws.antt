@@ -5,7 +5,8 @@ use Rattle.std.specs.List.{join_with_byte}
 use Rattle.hex.specs.Hex.{encode_with, encode_lower, lower_digits}
 use Rattle.fs_trees.specs.Names.{Name}
 use Rattle.fs_trees.specs.Answer.{bytes, listed}
-use Rattle.shell_text.specs.Texts.{answer_text, data_head, names_head, is_empty}
+use Rattle.tsd_model.specs.Verdict.{is_empty}
+use Rattle.shell_text.specs.Texts.{answer_text, data_head, names_head}
 
 -- digits of bytes, one behind the other
 digits-append : (t xs ys : List ℕ) → encode_with t (xs ++ ys) ≡ encode_with t xs ++ encode_with t ys

@@ -9,7 +9,7 @@ use Rattle.fs_trees.specs.declared.ask.ShellAsk.{ShellAsk}
 use Rattle.fs_trees.specs.declared.ask.ShellKind.{ShellKind}
 use Rattle.fs_trees.specs.declared.ask.ShellKind.TheVariants.{Inode, Chain}
 use Rattle.shell_text.specs.Grammar.{Field, PathWord, Bytes, fields, IsField, AreFields}
-use Rattle.shell_text.specs.Reading.{path_of, make_of, put_of, append_of, cat_of, ls_of, rm_of, make_dir_of, copy_of, df_of, of_inodes, chosen, forms, named, asked}
+use Rattle.shell_text.specs.Reading.{path_of, make_of, put_of, append_of, cat_of, ls_of, rm_of, make_dir_of, copy_of, df_of, of_inodes, dispatch, forms, named, asked}
 use Rattle.shell_text.proofs.PathLaws.{path_is}
 
 -- the first word and the others spell the first field and the others
@@ -91,10 +91,10 @@ abbrev AllSound : ShellKind → List (List ℕ × (Words → Option ShellAsk)) �
 AllSound kind [] = Unit {0}
 AllSound kind (f ∷ fs) = Sound kind f.0 f.1 × AllSound kind fs
 
-chosen_is : (kind : ShellKind) (fs : List (List ℕ × (Words → Option ShellAsk))) → AllSound kind fs → (w : List ℕ) (ws : Words) (a : ShellAsk) → chosen fs w ws ≡ Some a → AreFields (fields kind a) (w ∷ ws)
+chosen_is : (kind : ShellKind) (fs : List (List ℕ × (Words → Option ShellAsk))) → AllSound kind fs → (w : List ℕ) (ws : Words) (a : ShellAsk) → dispatch fs w ws ≡ Some a → AreFields (fields kind a) (w ∷ ws)
 chosen_is kind [] all w ws a e = absurd (cc)
 chosen_is kind (f ∷ fs) all w ws a e =
-    elim (bytes_eq w f.0) as (λ t. bytes_eq w f.0 ≡ t → cond t (f.1 ws) (chosen fs w ws) ≡ Some a → AreFields (fields kind a) (w ∷ ws)) [
+    elim (bytes_eq w f.0) as (λ t. bytes_eq w f.0 ≡ t → cond t (f.1 ws) (dispatch fs w ws) ≡ Some a → AreFields (fields kind a) (w ∷ ws)) [
       | true ↦ λ p g. subst (λ v. AreFields (fields kind a) (v ∷ ws)) (sym ((bytes_eq-Decides w f.0).0 p)) (all.0 ws a g)
       | false ↦ λ p g. chosen_is kind fs all.1 w ws a g
     ] refl e

@@ -19,8 +19,8 @@ use Rattle.fs_trees.specs.declared.ask.ShellAsk.{ShellAsk}
 use Rattle.fs_trees.specs.declared.ask.ShellAsk.TheVariants as ask
 use Rattle.fs_trees.specs.declared.ask.ShellKind.{ShellKind}
 use Rattle.fs_trees.specs.declared.ask.ShellKind.TheVariants.{Inode, Chain}
-use Rattle.shell_text.specs.Grammar.{Field, Command, PathWord, Bytes, fields, IsField, AreFields, IsShellLine}
-use Rattle.shell_text.specs.Reading.{path_of, put_of, append_of, cat_of, ls_of, rm_of, make_dir_of, copy_of, chosen, forms, named, asked, ask_of}
+use Rattle.shell_text.specs.Grammar.{Field, Verb, PathWord, Bytes, fields, IsField, AreFields, IsShellLine}
+use Rattle.shell_text.specs.Reading.{path_of, put_of, append_of, cat_of, ls_of, rm_of, make_dir_of, copy_of, dispatch, forms, named, asked, ask_of}
 use Rattle.shell_text.proofs.PathLaws.{path_back, path_lacks}
 use Rattle.shell_text.proofs.AskedLaws.{asked_is}
 
@@ -75,9 +75,9 @@ copy_back p q ws g =
     let q1 = path_next q [] p1.0 p1.2 in
     bind_some _ _ _ _ p1.1 (bind_some _ _ _ _ q1.1 (ends_back q1.0 _ q1.2))
 
-under_name : (kind : ShellKind) (name v : List ℕ) (ws : Words) (a : ShellAsk) → v ≡ name → chosen (forms kind) name ws ≡ Some a → asked kind (v ∷ ws) ≡ Some a
+under_name : (kind : ShellKind) (name v : List ℕ) (ws : Words) (a : ShellAsk) → v ≡ name → dispatch (forms kind) name ws ≡ Some a → asked kind (v ∷ ws) ≡ Some a
 unfolding asked named
-under_name kind name v ws a e f = ap (λ w. chosen (forms kind) w ws) e ∙ f
+under_name kind name v ws a e f = ap (λ w. dispatch (forms kind) w ws) e ∙ f
 
 asked_back : (kind : ShellKind) (a : ShellAsk) (ws : Words) → 1 ≤ length ws → AreFields (fields kind a) ws → asked kind ws ≡ Some a
 asked_back kind a [] some h = absurd (omega (arith, some))
@@ -97,12 +97,12 @@ asked_back kind ask.Df (v ∷ ws) some g = under_name kind (codes "df") v ws ask
 -- ---- no word has a space in it
 
 command_lacks : Field → Bool
-command_lacks (Command name) = lacks 32 name
+command_lacks (Verb name) = lacks 32 name
 command_lacks f = true
 
 field_lacks : (f : Field) (w : List ℕ) → command_lacks f ≡ true → IsField f w → lacks 32 w ≡ true
 unfolding command_lacks
-field_lacks (Command name) w n h = subst (λ v. lacks 32 v ≡ true) (sym h) n
+field_lacks (Verb name) w n h = subst (λ v. lacks 32 v ≡ true) (sym h) n
 field_lacks (PathWord p) w n h = path_lacks w p h
 field_lacks (Bytes bytes) w n h = data_lacks w bytes h
 

@@ -10,7 +10,7 @@ use Rattle.fs_trees.specs.declared.ask.ShellKind.TheVariants.{Inode, Chain}
 
 -- what one word of a line says
 pub data Field : Type 0 where
-  Command : List ℕ → Field
+  Verb : List ℕ → Field
   PathWord : Path → Field
   Bytes : List ℕ → Field
 
@@ -22,15 +22,15 @@ inodes_alone Chain fs = []
 -- the line of each ask, word by word, and no line for Bad
 abbrev pub fields : ShellKind → ShellAsk → List Field
 fields kind ask.Bad = []
-fields kind ask.Make = Command (codes "mkfs") ∷ []
-fields kind (ask.Put path bytes) = Command (codes "put") ∷ PathWord path ∷ Bytes bytes ∷ []
-fields kind (ask.Append path bytes) = Command (codes "append") ∷ PathWord path ∷ Bytes bytes ∷ []
-fields kind (ask.Cat path) = Command (codes "cat") ∷ PathWord path ∷ []
-fields kind (ask.Ls path) = Command (codes "ls") ∷ PathWord path ∷ []
-fields kind (ask.MakeDir path) = inodes_alone kind (Command (codes "mkdir") ∷ PathWord path ∷ [])
-fields kind (ask.Rm path) = Command (codes "rm") ∷ PathWord path ∷ []
-fields kind (ask.Copy path new) = inodes_alone kind (Command (codes "cp") ∷ PathWord path ∷ PathWord new ∷ [])
-fields kind ask.Df = Command (codes "df") ∷ []
+fields kind ask.Make = Verb (codes "mkfs") ∷ []
+fields kind (ask.Put path bytes) = Verb (codes "put") ∷ PathWord path ∷ Bytes bytes ∷ []
+fields kind (ask.Append path bytes) = Verb (codes "append") ∷ PathWord path ∷ Bytes bytes ∷ []
+fields kind (ask.Cat path) = Verb (codes "cat") ∷ PathWord path ∷ []
+fields kind (ask.Ls path) = Verb (codes "ls") ∷ PathWord path ∷ []
+fields kind (ask.MakeDir path) = inodes_alone kind (Verb (codes "mkdir") ∷ PathWord path ∷ [])
+fields kind (ask.Rm path) = Verb (codes "rm") ∷ PathWord path ∷ []
+fields kind (ask.Copy path new) = inodes_alone kind (Verb (codes "cp") ∷ PathWord path ∷ PathWord new ∷ [])
+fields kind ask.Df = Verb (codes "df") ∷ []
 
 -- a slash, and the names with a slash between each two
 abbrev pub path_text : Path → List ℕ
@@ -42,7 +42,7 @@ IsPathWord w path = (is_path path ≡ true) × (w ≡ path_text path)
 
 -- the word spells this
 abbrev pub IsField : Field → List ℕ → Type 0
-IsField (Command name) w = w ≡ name
+IsField (Verb name) w = w ≡ name
 IsField (PathWord path) w = IsPathWord w path
 IsField (Bytes bytes) w = IsData w bytes
 

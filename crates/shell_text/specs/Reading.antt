@@ -78,9 +78,9 @@ of_inodes Chain form ws = None
 -- ---- lines
 
 -- the first of these names that the word is says how the words after it are read
-abbrev pub chosen : List (List ℕ × (Words → Option ShellAsk)) → List ℕ → Words → Option ShellAsk
-chosen [] name ws = None
-chosen (form ∷ forms) name ws = cond (bytes_eq name form.0) (form.1 ws) (chosen forms name ws)
+abbrev pub dispatch : List (List ℕ × (Words → Option ShellAsk)) → List ℕ → Words → Option ShellAsk
+dispatch [] name ws = None
+dispatch (form ∷ forms) name ws = cond (bytes_eq name form.0) (form.1 ws) (dispatch forms name ws)
 
 abbrev pub forms : ShellKind → List (List ℕ × (Words → Option ShellAsk))
 forms kind = (codes "mkfs", make_of) ∷ (codes "put", put_of) ∷ (codes "append", append_of) ∷ (codes "cat", cat_of)
@@ -88,7 +88,7 @@ forms kind = (codes "mkfs", make_of) ∷ (codes "put", put_of) ∷ (codes "appen
     ∷ (codes "cp", of_inodes kind copy_of) ∷ (codes "df", df_of) ∷ []
 
 unfoldable pub named : ShellKind → List ℕ → Words → Option ShellAsk
-named kind name ws = chosen (forms kind) name ws
+named kind name ws = dispatch (forms kind) name ws
 
 unfoldable pub asked : ShellKind → Words → Option ShellAsk
 asked kind [] = None

@@ -3,7 +3,7 @@ use Rattle.std.specs.Prelude.{ℕ, Bool, true, false, List, [], ◌∷◌, codes
 use Rattle.std.specs.List.{join_with_byte}
 use Rattle.script_text.specs.Texts.{data_text}
 use Rattle.fs_trees.specs.Names.{Name}
-use Rattle.fs_trees.specs.Answer.{Answer, done, bytes, listed, free_blocks, bad, refused}
+use Rattle.fs_trees.specs.Answer.{Answer, done, bytes, listed, available, bad, refused}
 use Rattle.fs_trees.specs.declared.refusal.FsRefusal.{FsRefusal}
 use Rattle.fs_trees.specs.declared.refusal.FsRefusal.TheVariants as no
 
@@ -30,7 +30,7 @@ abbrev pub answer_words : Answer → List (List ℕ)
 answer_words done = codes "ok" ∷ []
 answer_words (bytes x) = codes "data" ∷ data_text x ∷ []
 answer_words (listed ns) = codes "names" ∷ name_words ns
-answer_words (free_blocks n) = codes "free" ∷ decimal n ∷ []
+answer_words (available n) = codes "free" ∷ decimal n ∷ []
 answer_words bad = codes "no" ∷ codes "bad-request" ∷ []
 answer_words (refused e) = codes "no" ∷ refusal_words e
 
@@ -49,8 +49,3 @@ data_head false = codes "data "
 abbrev pub names_head : Bool → List ℕ
 names_head true = codes "names -"
 names_head false = codes "names"
-
--- there is nothing to send
-abbrev pub is_empty : {A : Type 0} → List A → Bool
-is_empty [] = true
-is_empty (x ∷ xs) = false

@@ -5,10 +5,11 @@ ghost use Rattle.std.specs.Prelude.{◌++◌, length, flat_map, codes, decimal};
 ghost use Rattle.std.specs.List.{join_with_byte};
 ghost use Rattle.hex.specs.Hex.{encode_lower};
 ghost use Rattle.fs_trees.specs.Names.{Name};
-ghost use Rattle.fs_trees.specs.Answer.{bad, bytes, done, free_blocks, listed, refused};
+ghost use Rattle.fs_trees.specs.Answer.{bad, bytes, done, available, listed, refused};
 ghost use Rattle.fs_trees.specs.declared.refusal.FsRefusal.{FsRefusal};
 ghost use Rattle.script_text.specs.Pieces.{line_feeds};
-ghost use Rattle.shell_text.specs.Texts.{answer_text, data_head, names_head, refusal_words, is_empty};
+ghost use Rattle.tsd_model.specs.Verdict.{is_empty};
+ghost use Rattle.shell_text.specs.Texts.{answer_text, data_head, names_head, refusal_words};
 
 use fs_trees::{FsRefusal, Name};
 use script_text::OutBuf;
@@ -38,7 +39,7 @@ pub fn print_bad(into: &mut OutBuf)
 
 /// Replaces the bytes by the line of a number of free blocks.
 pub fn print_free(count: u32, into: &mut OutBuf)
-    ensures { into.new ≡ answer_text (free_blocks count) ++ 10 ∷ [] }
+    ensures { into.new ≡ answer_text (available count) ++ 10 ∷ [] }
 {
     into.clear();
     into.put(b"free".as_slice());

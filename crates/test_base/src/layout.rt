@@ -1,7 +1,7 @@
 //! The format's worked places and bytes, and each fault of a header.
 
 ghost use Rattle.std.specs.Prelude.{◌≡◌, true, false, [], ◌∷◌, replicate};
-ghost use Rattle.image_layout.specs.Image.{is_open, stored_count, is_marked, source_field, target_field};
+ghost use Rattle.image_layout.specs.Image.{says_open, stored_count, is_bit_set, source_field, target_field};
 ghost use Rattle.image_layout.specs.Image.{kept_for_reading, kept_for_writing, data_bytes};
 ghost use Rattle.image_layout.specs.Worked.{worked, worked_size};
 
@@ -154,11 +154,11 @@ fn header_faults(rt: HostRuntime) {
 
 /// What the words for an image's bytes say of a worked one.
 fn worked_words()
-    ensures open_gate { is_open (worked 2) ≡ true }
-    ensures closed_gate { is_open (worked 117) ≡ false }
+    ensures open_gate { says_open (worked 2) ≡ true }
+    ensures closed_gate { says_open (worked 117) ≡ false }
     ensures count { stored_count worked worked_size 1 ≡ 50332161 }
-    ensures live { (is_marked worked worked_size 3 ≡ true) × (is_marked worked worked_size 8 ≡ true) }
-    ensures free { (is_marked worked worked_size 2 ≡ false) × (is_marked worked worked_size 4 ≡ false) }
+    ensures live { (is_bit_set worked worked_size 3 ≡ true) × (is_bit_set worked worked_size 8 ≡ true) }
+    ensures free { (is_bit_set worked worked_size 2 ≡ false) × (is_bit_set worked worked_size 4 ≡ false) }
     ensures empty_slot { source_field worked worked_size 0 ≡ 0 }
     ensures slot { (source_field worked worked_size 1 ≡ 4) × (target_field worked worked_size 1 ≡ 8) }
     ensures caps { (kept_for_reading 1 worked 0 ≡ replicate 16 161)

@@ -8,7 +8,7 @@ use Rattle.tsd_model.specs.declared.caps.Cap.{Cap}
 use Rattle.tsd_model.specs.declared.geometry.Geometry.{Geometry}
 use Rattle.tsd_model.specs.declared.requests.Level.TheVariants as level
 use Rattle.fs_port.specs.Files.{FilesView, IsClientReady}
-use Rattle.fixtures_fs.specs.Ours.{cap_of}
+use Rattle.fixtures_fs.specs.Ours.{cap_of_byte}
 use Rattle.test_copy.specs.Two.{IsAt, two_view}
 
 -- at the first root, where the disk isn't spent and has two
@@ -21,7 +21,7 @@ is_from_ready f g faults spent at unspent two =
       begun = subst (λ s. IsTrue (is_open v.sessions s)) (sym at.session) refl;
       primary = subst (λ r. r < g.primaries) (sym at.root) (omega arith);
       attains = subst (λ (c : Cap). record_level (slice_get v.records f.root) (kept_of 1 c) ≡ level.Write) (sym at.cap)
-          (subst (λ r. record_level (slice_get v.records r) (kept_of 1 (cap_of 187)) ≡ level.Write) (sym at.root) refl);
+          (subst (λ r. record_level (slice_get v.records r) (kept_of 1 (cap_of_byte 187)) ≡ level.Write) (sym at.root) refl);
     }
 
 -- at the second
@@ -34,5 +34,5 @@ is_into_ready f g faults spent at unspent two =
       begun = subst (λ s. IsTrue (is_open v.sessions s)) (sym at.session) refl;
       primary = subst (λ r. r < g.primaries) (sym at.root) two;
       attains = subst (λ (c : Cap). record_level (slice_get v.records f.root) (kept_of 1 c) ≡ level.Write) (sym at.cap)
-          (subst (λ r. record_level (slice_get v.records r) (kept_of 1 (cap_of 187)) ≡ level.Write) (sym at.root) refl);
+          (subst (λ r. record_level (slice_get v.records r) (kept_of 1 (cap_of_byte 187)) ≡ level.Write) (sym at.root) refl);
     }

@@ -6,13 +6,13 @@ use Rattle.tsd_model.specs.declared.geometry.Geometry.{Geometry}
 use Rattle.tsd_model.specs.declared.requests.PlaceKind.TheVariants.{Near}
 use Rattle.fs_port.specs.Files.{FilesView}
 use Rattle.fs_port.specs.View.{DiskView}
-use Rattle.fixtures_fs.specs.Ours.{cap_of}
+use Rattle.fixtures_fs.specs.Ours.{cap_of_byte}
 use Rattle.fixtures_fs.specs.Untold.{caps}
 
 -- one of session s at block b
 pub record IsAt (b s : ℕ) (f : FilesView) : Type 0 where
   pub root : f.root ≡ b
-  pub cap : f.cap ≡ cap_of 187
+  pub cap : f.cap ≡ cap_of_byte 187
   pub session : f.session ≡ s
 
 -- Sessions 1 and 2 are open, and of version 1 is what is kept of the capabilities. The world counts for nothing, as it

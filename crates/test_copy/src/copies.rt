@@ -2,7 +2,7 @@
 
 use crate::site::{Rooted, TwoSites};
 use chain_fs::ChainFs;
-use fixtures_fs::{Named, name_path};
+use fixtures_fs::{NamedPath, name_path};
 use fs_copy::{Copied, CopyRefusal};
 use fs_trees::{FsRefusal, Name};
 use inode_fs::InodeFs;
@@ -11,7 +11,7 @@ use std::process::Abort;
 use tsd_model::Data;
 
 /// The path that a word spells.
-fn path_of(rt: &impl Abort, word: &[u8]) -> Named {
+fn path_of(rt: &impl Abort, word: &[u8]) -> NamedPath {
     name_path(word).expect(rt, "a path")
 }
 

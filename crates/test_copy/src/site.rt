@@ -5,7 +5,7 @@ ghost use Rattle.test_copy.specs.Two.{IsAt};
 
 use crate::disk::TwoRoots;
 use chain_fs::ChainFs;
-use fixtures_fs::{Named, WRITE};
+use fixtures_fs::{NamedPath, WRITE};
 use fs_copy::{Copied, CopyRefusal, copy_tree};
 use fs_port::{Blocks, Files};
 use fs_trees::{FsRefusal, Name, Path};
@@ -83,7 +83,7 @@ impl<A: Rooted, B: Rooted> TwoSites<A, B> {
     }
 
     /// A file of these bytes there.
-    pub fn put(&mut self, path: &Named, bytes: &Data) -> Result<(), FsRefusal> {
+    pub fn put(&mut self, path: &NamedPath, bytes: &Data) -> Result<(), FsRefusal> {
         if !self.is_from_ready() {
             return Err(FsRefusal::Device);
         }
@@ -91,7 +91,7 @@ impl<A: Rooted, B: Rooted> TwoSites<A, B> {
     }
 
     /// A new directory there; NotThisFs where the layout has none.
-    pub fn make_dir(&mut self, path: &Named) -> Result<(), FsRefusal> {
+    pub fn make_dir(&mut self, path: &NamedPath) -> Result<(), FsRefusal> {
         if !self.is_from_ready() {
             return Err(FsRefusal::Device);
         }
@@ -124,7 +124,7 @@ impl<A: Rooted, B: Rooted> TwoSites<A, B> {
     }
 
     /// The bytes of a file of at most 4,096 there.
-    pub fn read(&mut self, path: &Named) -> Result<Data, FsRefusal> {
+    pub fn read(&mut self, path: &NamedPath) -> Result<Data, FsRefusal> {
         if !self.is_into_ready() {
             return Err(FsRefusal::Device);
         }

@@ -1,6 +1,6 @@
 // Calls of two stations in memory and what they leave.
 use image_device::{Device, Failed, MemStation, Pick};
-use mirror_device::{MemSides, Seen, Side, Sides};
+use mirror_device::{MemSides, Side, SideCounts, Sides};
 use std::alloc::Global;
 use std::test::Fail;
 
@@ -36,8 +36,8 @@ fn answers(sides: &mut MemSides, call: Call) -> bool {
     }
 }
 
-fn seen(faults: u64, syncs: u64) -> Seen {
-    Seen { faults, syncs }
+fn seen(faults: u64, syncs: u64) -> SideCounts {
+    SideCounts { faults, syncs }
 }
 
 #[test]

@@ -6,7 +6,7 @@ use Rattle.tsd_model.specs.World.{free_count}
 use Rattle.fs_trees.specs.Answer.{done, bytes}
 use Rattle.fs_trees.specs.Names.{Name, Path}
 use Rattle.fs_trees.specs.Needs.{need_of}
-use Rattle.fs_trees.specs.Refusals.{Need, refusal, first_of, when}
+use Rattle.fs_trees.specs.Refusals.{RoomNeed, refusal, first_of, when}
 use Rattle.fs_trees.specs.Step.{empty_tree, judged, tree_step}
 use Rattle.fs_trees.specs.Tree.{Tree, none, file, nothing, a_file, a_dir, entry, is_there, is_dir, bytes_in}
 use Rattle.fs_trees.specs.declared.ask.ShellAsk.TheVariants as ask
@@ -23,12 +23,12 @@ alone : (n : Name) (x : List ℕ) → ◌≡◌ {A = Tree} (entry n (file n x no
 alone n x = ap (λ t. cond t nothing (cond t nothing (a_file x))) (lt_irreflexive n)
 
 -- the file that stands alone is read
-read_alone : (kind : ShellKind) (g : Geometry) (free held : ℕ) (need : Need) (n : Name) (x : List ℕ) → (tree_step kind g (a_dir tt (file n x none)) (ask.Cat (n ∷ [])) free held need).answer ≡ bytes x
+read_alone : (kind : ShellKind) (g : Geometry) (free held : ℕ) (need : RoomNeed) (n : Name) (x : List ℕ) → (tree_step kind g (a_dir tt (file n x none)) (ask.Cat (n ∷ [])) free held need).answer ≡ bytes x
 read_alone kind g free held need n x =
     let granted = ap (λ (y : Tree). first_of (when (not (is_there y)) no.NoEntry ∷ when (is_dir y) no.IsDir ∷ [])) (alone n x) in
     ap (λ o. (judged (a_dir tt (file n x none)) free (ask.Cat (n ∷ [])) o).answer) granted ∙ ap (λ (y : Tree). bytes (bytes_in y)) (alone n x)
 
-module _ (kind : ShellKind) (g h : Geometry) (free held free_then held_then : ℕ) (need need_then : Need) (x : List ℕ) where
+module _ (kind : ShellKind) (g h : Geometry) (free held free_then held_then : ℕ) (need need_then : RoomNeed) (x : List ℕ) where
   pub read_back : (p : Path) → (tree_step kind g empty_tree (ask.Put p x) free held need).answer ≡ done
       → (tree_step kind h (tree_step kind g empty_tree (ask.Put p x) free held need).tree (ask.Cat p) free_then held_then need_then).answer ≡ bytes x
   read_back [] put = absurd (cc)

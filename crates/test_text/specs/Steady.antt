@@ -5,12 +5,12 @@ use Rattle.tsd_model.specs.declared.requests.Request.{Request}
 use Rattle.tsd_model.specs.declared.replies.Reply.{Reply}
 use Rattle.tsd_model.specs.declared.replies.Reply.TheVariants as reply
 use Rattle.serving.specs.Handling.{DiskRules}
-use Rattle.serving.specs.Work.{Work}
+use Rattle.serving.specs.Work.{WorkCount}
 
 abbrev pub steady_rules : DiskRules
 steady_rules = record { States = Unit {0}; gives = λ s q r t. r ≡ reply.Done; stands = λ s x. Unit {0} }
 
-abbrev pub steady_work : Work Request (Unit {0})
+abbrev pub steady_work : WorkCount Request (Unit {0})
 steady_work = record {
   bounded = λ q. Unit {0};
   cost = λ s q. 0;

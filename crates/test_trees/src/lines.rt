@@ -1,7 +1,9 @@
 //! Lines of the shell, each with its answer, and what tests need of a site.
 
 use chain_fs::ChainFs;
-use fixtures_fs::{Named, Site, Tested, again, answer_to, begun, bytes_of, expanded, name_path};
+use fixtures_fs::{
+    NamedPath, Site, Tested, again, answer_to, begun, bytes_of, expanded, name_path,
+};
 use inode_fs::InodeFs;
 use std::alloc::Global;
 use std::process::Abort;
@@ -30,7 +32,7 @@ pub fn mounted_again<F: Tested>(rt: &impl Abort, alloc: Global, site: Site<F>) -
 }
 
 /// The path that a word spells.
-pub fn path_of(rt: &impl Abort, word: &[u8]) -> Named {
+pub fn path_of(rt: &impl Abort, word: &[u8]) -> NamedPath {
     name_path(word).expect(rt, "a path")
 }
 

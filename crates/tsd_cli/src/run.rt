@@ -8,7 +8,8 @@ use crate::help::{HELP, VERSION, text_of};
 use crate::usage::Misread;
 use crate::words::{WordFault, meant, opening_of};
 use file_stations::{
-    FileSides, FileStation, ImageFile, Kind, Named, Opening, Progress, Trouble, are_one, tell_image,
+    FileSides, FileStation, ImageFile, Kind, NamedImage, Opening, Progress, Trouble, are_one,
+    tell_image,
 };
 use image_device::{MemStation, Source};
 use place_policy::{PlaceBook, Placement, ZONE_TURNS, low_rank, near_rank, spread_rank, zone_rank};
@@ -349,8 +350,8 @@ fn serve_sides<S: Source, O: Write, E: Write>(
     let (image, copy) = open_sides(rt, first.as_str(), second.as_str(), command);
     tell_readers(errors, first.as_str(), &image);
     tell_readers(errors, second.as_str(), &copy);
-    let first = Named { path: first, image };
-    let second = Named {
+    let first = NamedImage { path: first, image };
+    let second = NamedImage {
         path: second,
         image: copy,
     };

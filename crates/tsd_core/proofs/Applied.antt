@@ -37,13 +37,14 @@ use Rattle.volume_laws.specs.Writes.{due}
 use Rattle.tsd_core.specs.Core.{Core, IsCoreReady, IsCoreAt, told_world, sessions_of, state_on}
 use Rattle.tsd_core.specs.Work.{made_by, made_in, cost_of, LeavesDebt}
 use Rattle.tsd_core.specs.Carrying.{IsKnown, IsChanged, IsCarriedOut}
-use Rattle.tsd_core.specs.Applying.{IsToldAnswer, told_verdict, is_refusal, asks_nothing, next_world, IsApplied}
+use Rattle.tsd_model.specs.ReplyForm.{is_refusal}
+use Rattle.tsd_core.specs.Applying.{IsToldAnswer, told_verdict, asks_nothing, next_world, IsApplied}
 use Rattle.tsd_core.proofs.AtLaws.{at_volume, at_core, like_at}
 use Rattle.tsd_core.proofs.Likes.{like_itself}
 use Rattle.tsd_core.proofs.Operations.{then_ok, if_map, if_kept, and_ok, and_ok3}
 use Rattle.tsd_core.proofs.BehindLaws.{AreInside, leaves_behind, given_inside}
 use Rattle.tsd_core.proofs.Quiet.{still_stands, still_owes, rests_none}
-use Rattle.tsd_core.specs.Journal.{bytes_given, homes_of}
+use Rattle.tsd_core.specs.Journal.{bytes_given, most_homes}
 use Rattle.volume_laws.proofs.DataLaws.{data_none}
 use Rattle.volume_laws.proofs.RingLaws.{batch_none}
 
@@ -120,7 +121,7 @@ refused_applied told kind q c v r ready known table sound at refusal = record {
   sent = λ t. refl;
   data_kept = λ t. data_none c.volume.tables.geometry (bytes_given kind (told_world c) q) v (reply.Refused r) (sound t) (at t).0;
   behind = λ t. part_stays (behind c.volume.tables.geometry) v (sound t) (at t).0;
-  once = λ b. record { ring = batch_none (homes_of c.volume.tables.geometry q) c.volume.ring; most = omega arith };
+  once = λ b. record { ring = batch_none (most_homes c.volume.tables.geometry q) c.volume.ring; most = omega arith };
   owes = λ e. absurd (cc);
   grown = λ b e. absurd (cc);
   rests = λ t b. rests_none v;

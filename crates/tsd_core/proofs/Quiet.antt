@@ -20,7 +20,7 @@ use Rattle.image_world.specs.Debt.{owed}
 use Rattle.volume_laws.specs.Moments.{StandsForEither, LeavesEither, LeavesOwed}
 use Rattle.tsd_core.specs.Core.{Core, IsCoreReady, IsCoreAt, told_world}
 use Rattle.tsd_core.specs.Work.{made_by}
-use Rattle.tsd_core.specs.Journal.{bytes_given, homes_of, owed_then, makes_blocks}
+use Rattle.tsd_core.specs.Journal.{bytes_given, most_homes, owed_then, makes_blocks}
 use Rattle.image_device.specs.Calls.{Rests}
 use Rattle.volume_laws.proofs.DataLaws.{data_none}
 use Rattle.volume_laws.proofs.RingLaws.{batch_none}
@@ -69,7 +69,7 @@ still_there told kind q vol v r same idle sound at ready unspent = record {
   version = refl;
   like = like_as (told_by vol) (world_after kind (told_by vol) q) (sym (same (told_by vol)));
   ready = ready;
-  once = λ b. record { ring = batch_none (homes_of vol.tables.geometry q) vol.ring; most = omega arith };
+  once = λ b. record { ring = batch_none (most_homes vol.tables.geometry q) vol.ring; most = omega arith };
   owes = sym idle.owes;
   grown = λ b. absurd (clash (sym idle.none ∙ b));
   rests = λ t b. rests_none v;

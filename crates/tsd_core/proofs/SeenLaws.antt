@@ -6,7 +6,7 @@ use Rattle.std.proofs.lemmas.List.FromFn.{length-map-range_with_len, get_or-map-
 use Rattle.std.specs.Prelude.{map, replicate, slice_index_or, slice_set, option_map, is_some, IfSome}
 use Rattle.std.specs.List.{range_with_len}
 use Rattle.tsd_model.specs.World.{has_number}
-use Rattle.tsd_model.specs.Sessions.{Levels, Held, Sessions, held_by, with_held, is_open, raised_level, raised_held, raised, dropped_from, greater}
+use Rattle.tsd_model.specs.Sessions.{Levels, Held, Sessions, held_by, with_held, is_open, raised_level, raised_held, raised_sessions, dropped_from, greater}
 use Rattle.tsd_model.specs.declared.requests.Level.{Level}
 use Rattle.tsd_model.specs.declared.requests.Level.TheVariants as level
 use Rattle.tsd_model.proofs.SessionLaws.{held-map}
@@ -195,14 +195,14 @@ pub held_shape : (t : Table) (s : ℕ) → IsTable t → IfSome (held_by t.sessi
 held_shape t s table = elim (s == 0) as (λ z. IfSome (cond z None (slice_index_or t.sessions (s - 1) None)) (IsHeldAt t.blocks t.primaries)) [ true ↦ tt | false ↦ table.held (s - 1) ]
 
 -- raising at a block that is seen
-pub raised_seen : (p : ℕ → Bool) (t : Table) (s b : ℕ) (f : ℕ → Level) → IsTable t → p b ≡ true → b < t.blocks → seen p t.blocks (raised t.sessions s b f) ≡ raised (seen p t.blocks t.sessions) s b f
+pub raised_seen : (p : ℕ → Bool) (t : Table) (s b : ℕ) (f : ℕ → Level) → IsTable t → p b ≡ true → b < t.blocks → seen p t.blocks (raised_sessions t.sessions s b f) ≡ raised_sessions (seen p t.blocks t.sessions) s b f
 raised_seen p t s b f table live within =
     map-with_held (map (levels_seen p t.blocks)) t.sessions s (option_map (raised_held b f) (held_by t.sessions s))
     ∙ ap (with_held (seen p t.blocks t.sessions) s)
     (option_raised_seen p t.blocks t.primaries b f (held_by t.sessions s) live within (held_shape t s table)
     ∙ ap (option_map (raised_held b f)) (sym (held-map (map (levels_seen p t.blocks)) t.sessions s)))
 
-pub table_raised : (t : Table) (s b : ℕ) (f : ℕ → Level) → IsTable t → IsTable (with_sessions t (raised t.sessions s b f))
+pub table_raised : (t : Table) (s b : ℕ) (f : ℕ → Level) → IsTable t → IsTable (with_sessions t (raised_sessions t.sessions s b f))
 table_raised t s b f table =
     elim (s == 0) as (λ z. IsTable (with_sessions t (cond z t.sessions (slice_set t.sessions (s - 1) (option_map (raised_held b f) (held_by t.sessions s)))))) [
       | true ↦ table

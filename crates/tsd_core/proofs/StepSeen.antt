@@ -10,7 +10,7 @@ use Rattle.tsd_model.specs.World.{World, contents, is_live, is_free, has_number}
 use Rattle.tsd_model.specs.Reach.{reach, restricted, swept}
 use Rattle.tsd_model.specs.Doomed.{doomed, settle}
 use Rattle.tsd_model.specs.Placing.{chosen, chosen_run}
-use Rattle.tsd_model.specs.Sessions.{Sessions, with_held, raised, levels_at_live, fitted, dropped_from}
+use Rattle.tsd_model.specs.Sessions.{Sessions, with_held, raised_sessions, levels_at_live, fitted, dropped_from}
 use Rattle.tsd_model.specs.Attained.{attained_from}
 use Rattle.tsd_model.specs.Needs.{session_of, needs}
 use Rattle.tsd_model.specs.Verdict.{verdict}
@@ -36,9 +36,9 @@ use Rattle.tsd_core.proofs.VerdictSeen.{ComesFrom, attained_from-fitted, verdict
 
 -- ---- levels rise alike
 
-raised_fitted : (t : World) (g : Table) (s b : ℕ) (f : ℕ → Level) → IsTable g → g.blocks ≡ length t.blocks → is_live t b ≡ true → fitted t (raised g.sessions s b f) ≡ raised (fitted t g.sessions) s b f
+raised_fitted : (t : World) (g : Table) (s b : ℕ) (f : ℕ → Level) → IsTable g → g.blocks ≡ length t.blocks → is_live t b ≡ true → fitted t (raised_sessions g.sessions s b f) ≡ raised_sessions (fitted t g.sessions) s b f
 raised_fitted t g s b f table long live =
-    subst (λ n. seen (is_live t) n (raised g.sessions s b f) ≡ raised (seen (is_live t) n g.sessions) s b f) long (raised_seen (is_live t) g s b f table live (omega (arith, long, live_below t.blocks b live)))
+    subst (λ n. seen (is_live t) n (raised_sessions g.sessions s b f) ≡ raised_sessions (seen (is_live t) n g.sessions) s b f) long (raised_seen (is_live t) g s b f table live (omega (arith, long, live_below t.blocks b live)))
 
 -- each need is at a live block
 abbrev NeedsLive : World → List Need → Type 0
@@ -50,9 +50,9 @@ raised_at_fitted : (w t : World) → ComesFrom w t → (v : Sessions) (s : ℕ) 
 raised_at_fitted w t from v s [] g table long live = refl
 raised_at_fitted w t from v s (n ∷ ns) g table long live =
     let f : ℕ → Level = attained_from w v s n.block n.shown in
-    (λ i. raised_at w (fitted t v) s ns (raised (fitted t g.sessions) s n.block (λ o. attained_from-fitted w t from v s n.block n.shown o i)))
+    (λ i. raised_at w (fitted t v) s ns (raised_sessions (fitted t g.sessions) s n.block (λ o. attained_from-fitted w t from v s n.block n.shown o i)))
     ∙ (ap (raised_at w (fitted t v) s ns) (sym (raised_fitted t g s n.block f table long live.0))
-    ∙ raised_at_fitted w t from v s ns (with_sessions g (raised g.sessions s n.block f)) (table_raised g s n.block f table) long live.1)
+    ∙ raised_at_fitted w t from v s ns (with_sessions g (raised_sessions g.sessions s n.block f)) (table_raised g s n.block f table) long live.1)
 
 raised_for_fitted : (w t : World) → ComesFrom w t → (g : Table) → IsTable g → g.blocks ≡ length t.blocks → (x : Option ℕ) (ns : List Need) → NeedsLive t ns
     → raised_for w (fitted t g.sessions) x ns ≡ fitted t (raised_for w g.sessions x ns)
@@ -62,8 +62,8 @@ raised_for_fitted w t from g table long (Some s) ns live = raised_at_fitted w t 
 raised_at_like : (t w : World) → AreLike t w → (v : Sessions) (s : ℕ) (ns : List Need) (now : Sessions) → raised_at w v s ns now ≡ raised_at t v s ns now
 raised_at_like t w like v s [] now = refl
 raised_at_like t w like v s (n ∷ ns) now =
-    sym (λ i. raised_at w v s ns (raised now s n.block (λ o. attained_from_like t w like v s n.block n.shown o i)))
-    ∙ raised_at_like t w like v s ns (raised now s n.block (attained_from t v s n.block n.shown))
+    sym (λ i. raised_at w v s ns (raised_sessions now s n.block (λ o. attained_from_like t w like v s n.block n.shown o i)))
+    ∙ raised_at_like t w like v s ns (raised_sessions now s n.block (attained_from t v s n.block n.shown))
 
 raised_for_like : (t w : World) → AreLike t w → (v : Sessions) (x : Option ℕ) (ns : List Need) → raised_for w v x ns ≡ raised_for t v x ns
 raised_for_like t w like v None ns = refl

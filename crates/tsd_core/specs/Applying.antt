@@ -2,7 +2,7 @@
 use Rattle.std.specs.Prelude.{◌≡◌, ◌⊎◌, ℕ, ◌+◌, ◌≤◌, Bool, true, false, List, Option, Result, Ok, IsOk, OnOk, OnErr}
 use Rattle.std.specs.Prelude.{IfOk, IfSome}
 use Rattle.tsd_model.specs.World.{World}
-use Rattle.tsd_model.specs.ReplyForm.{HasForm}
+use Rattle.tsd_model.specs.ReplyForm.{HasForm, is_refusal}
 use Rattle.tsd_model.specs.Step.{State, step}
 use Rattle.tsd_model.specs.Run.{answer}
 use Rattle.tsd_model.specs.Verdict.{verdict}
@@ -22,7 +22,7 @@ use Rattle.volume.specs.Sweeping.{sweep_cost}
 use Rattle.volume_laws.specs.Moments.{LeavesEither}
 use Rattle.volume_laws.specs.Writes.{due, Works}
 use Rattle.tsd_core.specs.Core.{Core, IsCoreReady, IsCoreAt, told_world, told_state, sessions_of, state_on}
-use Rattle.tsd_core.specs.Journal.{bytes_given, waits, homes_of, owed_then, makes_blocks, HasGrown}
+use Rattle.tsd_core.specs.Journal.{bytes_given, waits, most_homes, owed_then, makes_blocks, HasGrown}
 use Rattle.tsd_core.specs.Seen.{writes_nothing}
 use Rattle.volume_laws.specs.Data.{KeepsData}
 use Rattle.volume_laws.specs.Rings.{CommitsOnce}
@@ -43,12 +43,6 @@ pub record IsToldAnswer (kind : PlaceKind) (old : Core) (q : Request) (r : Reply
   pub reply : IsReplyLike r (answer kind (told_state old) q want).reply
   pub world : AreLike (told_world new) (answer kind (told_state old) q want).state.world
   pub sessions : sessions_of new ≡ (answer kind (told_state old) q want).state.sessions
-
--- it is refused, by a rule or for want of memory
-abbrev pub is_refusal : Reply → Bool
-is_refusal (reply.Refused r) = true
-is_refusal reply.NoMemory = true
-is_refusal r = false
 
 -- the rule that refuses a request, if one does: memory tells it
 abbrev pub told_verdict : Core → Request → Option Rule
@@ -84,7 +78,7 @@ pub record IsApplied (told : Type 0) (kind : PlaceKind) (q : Request) (old new :
   pub data_kept : told → KeepsData old.volume.tables.geometry (bytes_given kind (told_world old) q) v w result
   pub behind : told → LeavesPart (behind old.volume.tables.geometry) v w
   pub once : waits old.volume q ≡ false
-      → CommitsOnce (homes_of old.volume.tables.geometry q) old.volume new.volume v w result
+      → CommitsOnce (most_homes old.volume.tables.geometry q) old.volume new.volume v w result
   pub owes : IfOk result (λ r. is_refusal r ≡ false → owed new.volume.tables ≡ owed_then old.volume q)
   pub grown : makes_blocks q ≡ true → IfOk result (λ r. is_refusal r ≡ false → HasGrown kind q old.volume new.volume)
   pub rests : told → writes_nothing q ≡ true → Rests v w

@@ -23,7 +23,7 @@ use Rattle.volume_laws.specs.Moments.{LeavesOwed}
 use Rattle.volume_laws.specs.Writes.{due, IsPaid}
 use Rattle.tsd_core.specs.Core.{Core, told_world}
 use Rattle.tsd_core.specs.Work.{made_by, cost_of, write_limit}
-use Rattle.tsd_core.specs.Journal.{bytes_given, waits, homes_of, owed_then, makes_blocks, HasGrown}
+use Rattle.tsd_core.specs.Journal.{bytes_given, waits, most_homes, owed_then, makes_blocks, HasGrown}
 use Rattle.volume_laws.specs.Rings.{CommitsOnce}
 use Rattle.image_device.specs.Calls.{Rests}
 
@@ -44,7 +44,7 @@ pub record DoesRequest {T : Type 0} (told : Type 0) (kind : PlaceKind) (q : Requ
   pub operation : IsOperation told (bytes_given kind (told_by old) q) (λ u. world_after kind u q) old new v w result
   -- it commits one batch, where it needn't wait for what is doomed; what is owed then; and what new blocks leave of the
   -- journal
-  pub once : waits old q ≡ false → CommitsOnce (homes_of old.tables.geometry q) old new v w result
+  pub once : waits old q ≡ false → CommitsOnce (most_homes old.tables.geometry q) old new v w result
   pub owes : OnOk result (owed new.tables ≡ owed_then old q)
   pub grown : makes_blocks q ≡ true → OnOk result (HasGrown kind q old new)
   pub rests : told → writes_nothing q ≡ true → Rests v w

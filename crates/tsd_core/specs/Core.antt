@@ -8,7 +8,7 @@ use Rattle.image_device.specs.Runs.{IsFirm}
 use Rattle.image_layout.specs.Image.{Image}
 use Rattle.image_layout.specs.Ring.{records}
 use Rattle.intent_journal.specs.Home.{home}
-use Rattle.intent_journal.specs.Records.{open_records, is_open_gate}
+use Rattle.intent_journal.specs.Records.{open_records, is_gate_open}
 use Rattle.image_world.specs.Faults.{IsGood}
 use Rattle.image_world.specs.Stands.{world_of}
 use Rattle.image_world.specs.Tables.{tables_of}
@@ -48,7 +48,7 @@ pub record IsCoreReady (c : Core) : Type 0 where
 -- place.
 pub record FitsReads (c : Core) (x : Image) : Type 0 where
   pub shows : open_records x ≡ c.volume.ring
-  pub others_closed : (index : ℕ) → length c.volume.ring ≤ index → index < records → is_open_gate x index ≡ false
+  pub others_closed : (index : ℕ) → length c.volume.ring ≤ index → index < records → is_gate_open x index ≡ false
   pub good : IsGood x
   pub tables : tables_of (home x) ≡ c.volume.tables
 

@@ -1,7 +1,7 @@
 -- A request that is granted, once levels have risen.
 use Rattle.std.specs.Prelude.{◌≡◌, Option, Some, None}
 use Rattle.tsd_model.specs.World.{World}
-use Rattle.tsd_model.specs.Sessions.{Sessions, raised}
+use Rattle.tsd_model.specs.Sessions.{Sessions, raised_sessions}
 use Rattle.tsd_model.specs.Attained.{attained_from}
 use Rattle.tsd_model.specs.Verdict.{verdict}
 use Rattle.tsd_model.specs.Step.{raised_by}
@@ -19,4 +19,4 @@ pub record IsRaised (w : World) (q : Request) (now : Sessions) : Type 0 where
 -- what is held once it has risen where one level is needed
 abbrev pub raised_need : World → Sessions → ℕ → Option Need → Sessions → Sessions
 raised_need w v s None now = now
-raised_need w v s (Some n) now = raised now s n.block (attained_from w v s n.block n.shown)
+raised_need w v s (Some n) now = raised_sessions now s n.block (attained_from w v s n.block n.shown)

@@ -1,5 +1,6 @@
 -- Which blocks get bytes by a request that is granted, what it commits, and what is owed then.
 use Rattle.std.specs.Prelude.{ℕ, ◌+◌, ◌-◌, ◌==◌, ◌||◌, Bool, true, false, cond, List, [], ◌∷◌, length}
+use Rattle.disk_laws.specs.Reclaiming.{is_sweep}
 use Rattle.tsd_model.specs.Placing.{chosen, chosen_run}
 use Rattle.tsd_model.specs.Step.{run_at}
 use Rattle.tsd_model.specs.World.{World}
@@ -7,7 +8,7 @@ use Rattle.tsd_model.specs.declared.geometry.Geometry.{Geometry}
 use Rattle.tsd_model.specs.declared.requests.PlaceKind.{PlaceKind}
 use Rattle.tsd_model.specs.declared.requests.Request.{Request}
 use Rattle.tsd_model.specs.declared.requests.Request.TheVariants as ask
-use Rattle.intent_journal.specs.Records.{Record}
+use Rattle.intent_journal.specs.Records.{JournalRecord}
 use Rattle.image_world.specs.Debt.{owed}
 use Rattle.image_world.specs.Tables.{pairs_of}
 use Rattle.volume_laws.specs.Rings.{HasBatches, HasNewBlocks}
@@ -32,22 +33,17 @@ abbrev pub finds_no_slot : Volume → Request → Bool
 finds_no_slot v (ask.Create s a shown b) = length (pairs_of v.tables) == v.tables.geometry.slots
 finds_no_slot v q = false
 
--- it is a sweep
-abbrev pub sweeps : Request → Bool
-sweeps (ask.Sweep s shown) = true
-sweeps q = false
-
 -- whether all that is doomed is reclaimed before it
 abbrev pub waits : Volume → Request → Bool
-waits v q = makes_blocks q || (finds_no_slot v q || sweeps q)
+waits v q = makes_blocks q || (finds_no_slot v q || is_sweep q)
 
 -- how many homes its batch has at most
-abbrev pub homes_of : Geometry → Request → ℕ
-homes_of g (ask.Write s b shown bytes) = g.sectors
-homes_of g (ask.SetCap s b shown caps) = 1
-homes_of g (ask.Create s a shown b) = 2
-homes_of g (ask.Delete s a shown b) = 2
-homes_of g q = 0
+abbrev pub most_homes : Geometry → Request → ℕ
+most_homes g (ask.Write s b shown bytes) = g.sectors
+most_homes g (ask.SetCap s b shown caps) = 1
+most_homes g (ask.Create s a shown b) = 2
+most_homes g (ask.Delete s a shown b) = 2
+most_homes g q = 0
 
 -- What is owed then: nothing where it waits, and else what was owed and what a deletion dooms, but for the pointer that
 -- goes at once.
@@ -57,5 +53,5 @@ owed_then v q = cond (waits v q) 0 (owed v.tables + (made_by (told_by v) q - 1))
 -- What new blocks leave of the journal: behind the records of what was reclaimed comes one batch.
 abbrev pub HasGrown : PlaceKind → Request → Volume → Volume → Type 0
 HasGrown kind q old new =
-    (mid : List Record) × HasBatches (owed old.tables) 33 old.ring mid
+    (mid : List JournalRecord) × HasBatches (owed old.tables) 33 old.ring mid
     × HasNewBlocks old.tables.geometry (bytes_given kind (told_by old) q) mid new.ring

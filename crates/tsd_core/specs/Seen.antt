@@ -3,7 +3,7 @@ use Rattle.std.specs.Prelude.{◌≡◌, ℕ, Bool, true, false, cond, List, [],
 use Rattle.std.specs.List.{range_with_len}
 use Rattle.tsd_model.specs.Pairs.{holds}
 use Rattle.tsd_model.specs.World.{World, is_live}
-use Rattle.tsd_model.specs.Sessions.{Levels, Sessions, begun, ended, dropped_from, fitted, no_sessions}
+use Rattle.tsd_model.specs.Sessions.{Levels, Sessions, session_begun, session_ended, dropped_from, fitted, no_sessions}
 use Rattle.tsd_model.specs.Placing.{chosen, chosen_run}
 use Rattle.tsd_model.specs.Step.{State, change, raised_by, run_at}
 use Rattle.tsd_model.specs.Verdict.{is_begin}
@@ -39,8 +39,8 @@ dropped_each (b ∷ bs) v = dropped_each bs (dropped_at b v)
 -- What becomes of the levels, which have risen where one was needed: blocks that are given out again lose the levels
 -- that were left at them, and levels at blocks that become free stay until then.
 abbrev pub table_change : PlaceKind → World → Sessions → Request → Sessions
-table_change kind w v (ask.Begin s) = begun w v s
-table_change kind w v (ask.End s) = ended v s
+table_change kind w v (ask.Begin s) = session_begun w v s
+table_change kind w v (ask.End s) = session_ended v s
 table_change kind w v (ask.Alloc s a shown h count) = dropped_each (chosen kind w h count) v
 table_change kind w v (ask.Contig s a shown h count) = dropped_each (run_at (chosen_run kind w h count) count) v
 table_change kind w v (ask.SetCap s b shown caps) = dropped_from w.geometry.blocks b v

@@ -3,7 +3,7 @@
 ghost use Rattle.std.specs.Prelude.{◌≡◌, ◌+◌, ◌≤◌, ◌||◌, true, false, Ok, IsOk, OnOk, OnErr, IfOk};
 ghost use Rattle.std.specs.Prelude.{IfSome};
 ghost use Rattle.image_device.specs.Counts.{CountsFault};
-ghost use Rattle.tsd_model.specs.ReplyForm.{HasForm};
+ghost use Rattle.tsd_model.specs.ReplyForm.{HasForm, is_refusal};
 ghost use Rattle.tsd_model.specs.declared.replies.Reply.TheVariants as reply;
 ghost use Rattle.disk_laws.specs.Reclaiming.{is_sweep};
 ghost use Rattle.tsd_model.specs.Run.{IsAnswer};
@@ -11,7 +11,7 @@ ghost use Rattle.volume.specs.Sweeping.{sweep_cost};
 ghost use Rattle.volume_laws.specs.Moments.{LeavesEither};
 ghost use Rattle.volume_laws.specs.Writes.{due, Works};
 ghost use Rattle.tsd_core.specs.Core.{IsCoreReady, IsCoreAt, state_on, told_world};
-ghost use Rattle.tsd_core.specs.Journal.{bytes_given, waits, homes_of, owed_then, makes_blocks, HasGrown};
+ghost use Rattle.tsd_core.specs.Journal.{bytes_given, waits, most_homes, owed_then, makes_blocks, HasGrown};
 ghost use Rattle.tsd_core.specs.Seen.{writes_nothing};
 ghost use Rattle.volume_laws.specs.Data.{KeepsData};
 ghost use Rattle.volume_laws.specs.Rings.{CommitsOnce};
@@ -20,7 +20,7 @@ ghost use Rattle.image_device.specs.Runs.{LeavesPart};
 ghost use Rattle.image_world.specs.Behind.{behind};
 ghost use Rattle.image_world.specs.Debt.{owed};
 ghost use Rattle.tsd_core.specs.Work.{made_in, cost_in, write_limit, LeavesDebt, SameSize};
-ghost use Rattle.tsd_core.specs.Applying.{IsToldAnswer, told_verdict, is_refusal, asks_nothing, next_world, IsApplied};
+ghost use Rattle.tsd_core.specs.Applying.{IsToldAnswer, told_verdict, asks_nothing, next_world, IsApplied};
 
 use crate::disk::Core;
 use crate::outcome::refused;
@@ -72,7 +72,7 @@ impl Core {
         // Where it needn't wait, it commits one batch and writes nothing else. What is owed then is said exactly, and
         // of new blocks when the journal is emptied for them.
         ensures once { waits self.old.volume request.now ≡ false → CommitsOnce
-            (homes_of self.old.volume.tables.geometry request.now) self.old.volume self.new.volume (D.view dev.old)
+            (most_homes self.old.volume.tables.geometry request.now) self.old.volume self.new.volume (D.view dev.old)
             (D.view dev.new) result }
         ensures owes { IfOk result (λ r. is_refusal r ≡ false → owed self.new.volume.tables ≡ owed_then
             self.old.volume request.now) }

@@ -11,7 +11,7 @@ ghost use Rattle.tsd_model.specs.declared.requests.Request.TheVariants as ask;
 ghost use Rattle.tsd_core.specs.Core.{IsCoreReady, IsCoreAt, told_world};
 ghost use Rattle.tsd_core.specs.Carrying.{IsKnown, IsCarriedOut};
 ghost use Rattle.tsd_model.specs.Verdict.{first_rule, session_rules};
-ghost use Rattle.tsd_model.specs.Sessions.{begun, ended};
+ghost use Rattle.tsd_model.specs.Sessions.{session_begun, session_ended};
 ghost use Rattle.tsd_model.specs.World.{free_count};
 ghost use Rattle.tsd_model.specs.Step.{targets_from};
 ghost use Rattle.tsd_model.specs.declared.replies.Reply.TheVariants as reply;
@@ -33,8 +33,8 @@ impl Core {
         requires ready { IsCoreReady self.old }
         ensures volume { self.new.volume ≡ self.old.volume }
         ensures answer { ((result ≡ Ok reply.Done)
-            × (self.new.grants ≡ with_sessions self.old.grants (begun (told_world self.old) self.old.grants.sessions
-            session))) ⊎ ((result ≡ Ok reply.NoMemory) × (self.new.grants ≡ self.old.grants)) }
+            × (self.new.grants ≡ with_sessions self.old.grants (session_begun (told_world self.old)
+            self.old.grants.sessions session))) ⊎ ((result ≡ Ok reply.NoMemory) × (self.new.grants ≡ self.old.grants)) }
     {
         match self.grants.begin(session) {
             Ok(()) => done(Ok(())),
@@ -50,7 +50,7 @@ impl Core {
         requires granted { end_verdict self.old.grants.sessions session ≡ None }
         ensures volume { self.new.volume ≡ self.old.volume }
         ensures answer { (result ≡ Ok reply.Done)
-            × (self.new.grants ≡ with_sessions self.old.grants (ended self.old.grants.sessions session)) }
+            × (self.new.grants ≡ with_sessions self.old.grants (session_ended self.old.grants.sessions session)) }
     {
         match self.grants.end(session) {
             Ok(()) => done(Ok(())),

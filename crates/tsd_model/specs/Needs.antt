@@ -1,10 +1,17 @@
 -- What a request names and needs.
-use Rattle.std.specs.Prelude.{ℕ, List, [], ◌∷◌, Option, Some, None}
+use Rattle.std.specs.Prelude.{ℕ, Bool, true, false, List, [], ◌∷◌, Option, Some, None}
 use Rattle.tsd_model.specs.declared.needs.Need.{Need}
 use Rattle.tsd_model.specs.declared.requests.Level.TheVariants as level
 use Rattle.tsd_model.specs.declared.caps.Shown.TheVariants.{Nothing}
 use Rattle.tsd_model.specs.declared.requests.Request.{Request}
 use Rattle.tsd_model.specs.declared.requests.Request.TheVariants as ask
+
+-- it neither opens nor closes a session, nor sets a capability
+abbrev pub is_steady : Request → Bool
+is_steady (ask.Begin s) = false
+is_steady (ask.End s) = false
+is_steady (ask.SetCap s b shown caps) = false
+is_steady q = true
 
 -- whose it is
 abbrev pub session_of : Request → Option ℕ

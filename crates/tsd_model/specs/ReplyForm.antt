@@ -1,9 +1,15 @@
 -- The form of a reply: which replies have a text and a body.
-use Rattle.std.specs.Prelude.{◌≡◌, ℕ, ◌^◌, ◌<◌, ◌≤◌, ◌⊎◌, List, [], ◌∷◌, length}
+use Rattle.std.specs.Prelude.{◌≡◌, ℕ, Bool, true, false, ◌^◌, ◌<◌, ◌≤◌, ◌⊎◌, List, [], ◌∷◌, length}
 use Rattle.tsd_model.specs.declared.replies.Reply.{Reply}
 use Rattle.tsd_model.specs.declared.replies.Reply.TheVariants as reply
 use Rattle.tsd_model.specs.declared.replies.Rule.{Rule}
 use Rattle.tsd_model.specs.declared.replies.Rule.TheVariants as rule
+
+-- the request is refused, by a rule or for want of memory
+abbrev pub is_refusal : Reply → Bool
+is_refusal (reply.Refused r) = true
+is_refusal reply.NoMemory = true
+is_refusal r = false
 
 -- so many bytes has a block
 abbrev pub IsBlockSize : ℕ → Type 0

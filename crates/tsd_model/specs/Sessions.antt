@@ -61,8 +61,8 @@ abbrev pub level_from : Sessions → ℕ → ℕ → ℕ → Level
 level_from v s o b = slice_index_or (levels_from v s o) b level.Bare
 
 -- the greatest over all origins
-abbrev pub level_of : Sessions → ℕ → ℕ → Level
-level_of v s b = greatest (map (λ levels. slice_index_or levels b level.Bare) (unwrap_or (held_by v s) []))
+abbrev pub greatest_level : Sessions → ℕ → ℕ → Level
+greatest_level v s b = greatest (map (λ levels. slice_index_or levels b level.Bare) (unwrap_or (held_by v s) []))
 
 -- ---- changes
 
@@ -71,11 +71,11 @@ abbrev pub with_held : Sessions → ℕ → Option Held → Sessions
 with_held v s held = cond (s == 0) v (slice_set v (s - 1) held)
 
 -- a session that holds nothing, and one that is closed
-abbrev pub begun : World → Sessions → ℕ → Sessions
-begun w v s = with_held v s (Some (replicate w.geometry.primaries (replicate (length w.blocks) level.Bare)))
+abbrev pub session_begun : World → Sessions → ℕ → Sessions
+session_begun w v s = with_held v s (Some (replicate w.geometry.primaries (replicate (length w.blocks) level.Bare)))
 
-abbrev pub ended : Sessions → ℕ → Sessions
-ended v s = with_held v s None
+abbrev pub session_ended : Sessions → ℕ → Sessions
+session_ended v s = with_held v s None
 
 abbrev pub raised_level : ℕ → Level → List Level → List Level
 raised_level b l levels = slice_set levels b (greater (slice_index_or levels b level.Bare) l)
@@ -84,8 +84,8 @@ raised_level b l levels = slice_set levels b (greater (slice_index_or levels b l
 abbrev pub raised_held : ℕ → (ℕ → Level) → Held → Held
 raised_held b attained_from held = map (λ p. raised_level b (attained_from p.0) p.1) (enumerate_from 0 held)
 
-abbrev pub raised : Sessions → ℕ → ℕ → (ℕ → Level) → Sessions
-raised v s b attained_from = with_held v s (option_map (raised_held b attained_from) (held_by v s))
+abbrev pub raised_sessions : Sessions → ℕ → ℕ → (ℕ → Level) → Sessions
+raised_sessions v s b attained_from = with_held v s (option_map (raised_held b attained_from) (held_by v s))
 
 -- without what came from this origin, in every session
 abbrev pub dropped_from : ℕ → ℕ → Sessions → Sessions

@@ -9,7 +9,7 @@ use Rattle.tsd_model.specs.Records.{kept}
 use Rattle.tsd_model.specs.Reach.{swept}
 use Rattle.tsd_model.specs.Doomed.{settle}
 use Rattle.tsd_model.specs.Placing.{chosen, chosen_run}
-use Rattle.tsd_model.specs.Sessions.{Sessions, begun, ended, raised, dropped_from, fitted}
+use Rattle.tsd_model.specs.Sessions.{Sessions, session_begun, session_ended, raised_sessions, dropped_from, fitted}
 use Rattle.tsd_model.specs.Attained.{attained_from}
 use Rattle.tsd_model.specs.Needs.{session_of, needs}
 use Rattle.tsd_model.specs.Verdict.{verdict}
@@ -39,7 +39,7 @@ gives w v r = record { state = record { world = w; sessions = v }; reply = r }
 -- before the request
 abbrev pub raised_at : World → Sessions → ℕ → List Need → Sessions → Sessions
 raised_at w v s [] now = now
-raised_at w v s (n ∷ ns) now = raised_at w v s ns (raised now s n.block (attained_from w v s n.block n.shown))
+raised_at w v s (n ∷ ns) now = raised_at w v s ns (raised_sessions now s n.block (attained_from w v s n.block n.shown))
 
 abbrev pub raised_for : World → Sessions → Option ℕ → List Need → Sessions
 raised_for w v None ns = v
@@ -57,6 +57,10 @@ filled len bytes = bytes ++ replicate (len - length bytes) 0
 -- block b contains these bytes
 abbrev pub with_contents : World → ℕ → List ℕ → World
 with_contents w b bytes = record w { blocks = slice_set w.blocks b (Some bytes) }
+
+-- block b contains these bytes, and zeros behind them
+abbrev pub written : World → ℕ → List ℕ → World
+written w b bytes = with_contents w b (filled (block_len w.geometry) bytes)
 
 -- the pair (a, b) is held
 abbrev pub with_pointer : World → ℕ → ℕ → World
@@ -103,8 +107,8 @@ targets_from es a start = take targets_max (map (λ e. e.1) (filter (λ e. (e.0 
 -- what a granted request changes, and its reply; what is no request is never granted
 abbrev pub change : PlaceKind → World → Sessions → Request → Outcome
 change kind w v ask.Bad = done w v
-change kind w v (ask.Begin s) = done w (begun w v s)
-change kind w v (ask.End s) = done w (ended v s)
+change kind w v (ask.Begin s) = done w (session_begun w v s)
+change kind w v (ask.End s) = done w (session_ended v s)
 change kind w v (ask.Read s b shown) = gives w v (reply.Bytes (unwrap_or (contents w b) []))
 change kind w v (ask.Write s b shown bytes) = done (with_contents w b (filled (block_len w.geometry) bytes)) v
 change kind w v (ask.Alloc s a shown h count) = allocated w v a (chosen kind w h count)

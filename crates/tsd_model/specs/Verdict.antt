@@ -89,7 +89,7 @@ deletes_missing_pair w q = false
 abbrev pub wants_too_many : World → Request → Bool
 wants_too_many w q = option_map_or (nat_lt (free_count w)) (wanted_blocks q) false
 
-abbrev pub is_empty : List ℕ → Bool
+abbrev pub is_empty : {A : Type 0} → List A → Bool
 is_empty [] = true
 is_empty (x ∷ xs) = false
 

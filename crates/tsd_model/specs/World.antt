@@ -1,7 +1,7 @@
 -- The disk as a value: how large it is, which blocks are live and what they contain, the pointers, and what is kept of
 -- the capabilities.
-use Rattle.std.specs.Prelude.{ℕ, Bool, ◌&&◌, ◌==◌, nat_lt, List, length, count_by, slice_index_or, Option, None}
-use Rattle.std.specs.Prelude.{is_some, is_none}
+use Rattle.std.specs.Prelude.{ℕ, Bool, true, not, ◌&&◌, ◌==◌, nat_lt, List, [], ◌∷◌, length, count_by, slice_index_or}
+use Rattle.std.specs.Prelude.{Option, None, is_some, is_none}
 use Rattle.std.specs.List.{list_any, range_with_len}
 use Rattle.tsd_model.specs.declared.geometry.Geometry.{Geometry}
 use Rattle.tsd_model.specs.declared.records.Record.{Record}
@@ -43,3 +43,8 @@ is_primary w b = nat_lt b w.geometry.primaries
 
 abbrev pub has_number : List ℕ → ℕ → Bool
 has_number xs b = list_any (λ x. x == b) xs
+
+-- none twice
+abbrev pub are_apart : List ℕ → Bool
+are_apart [] = true
+are_apart (b ∷ bs) = not (has_number bs b) && are_apart bs

@@ -25,7 +25,7 @@ use Rattle.serving.specs.Ran.{Moments, Taking}
 use Rattle.image_runs.specs.Fresh.{single_world}
 use Rattle.tsd_serve.specs.Did.{Did}
 use Rattle.tsd_serve.specs.Headline.{AreOf, IsPrefixLeft}
-use Rattle.tsd_serve.specs.MirrorStatus.{answered}
+use Rattle.tsd_serve.specs.MirrorStatus.{own_status}
 use Rattle.tsd_serve.specs.declared.mirror_status.MirrorStatus.{MirrorStatus}
 use Rattle.tsd_serve.specs.declared.mirror_status.MirrorStatus.TheVariants.{Ended, SideLost}
 
@@ -86,7 +86,7 @@ pub record EndedAs (old new : SidesView) (c : Serving) (ended : View) : Type 0 w
 -- The command did over both sides, as one port, what it does over one image.
 pub record DidOver (words : Option Command) (r : MirrorStatus) (source : Taking) (old new : SidesView) (c : Serving)
     (port : Moments) : Type 0 where
-  pub did : Did words (answered r) source port
+  pub did : Did words (own_status r) source port
   pub begins : port.tells → BeganAs old port.old
   pub ends : port.tells → EndedAs old new c port.new
 

@@ -9,9 +9,9 @@ use Rattle.tsd_serve.specs.declared.mirror_status.MirrorStatus.{MirrorStatus}
 use Rattle.tsd_serve.specs.declared.mirror_status.MirrorStatus.TheVariants.{Ended, SideLost}
 
 -- what the command itself answered: with a side lost too it did all its work
-abbrev pub answered : MirrorStatus → Status
-answered (Ended r) = r
-answered (SideLost side) = status.Done
+abbrev pub own_status : MirrorStatus → Status
+own_status (Ended r) = r
+own_status (SideLost side) = status.Done
 
 -- Of a command that ended so, over sides of which this one is lost: that is told where all was done.
 abbrev pub ended_with : Status → Option Side → MirrorStatus

@@ -9,7 +9,7 @@ ghost use Rattle.mirror_device.specs.declared.side.Serving.{Serving};
 ghost use Rattle.serving.specs.Ran.{EndsOnce, moments, taking};
 ghost use Rattle.tsd_serve.specs.MirrorDid.{AreSoundAtEnd, DidCopy, DidOver, HasFailed, MirrorHeadline, NoSideIsLeft};
 ghost use Rattle.tsd_serve.specs.MirrorDid.{lost_of};
-ghost use Rattle.tsd_serve.specs.MirrorStatus.{answered};
+ghost use Rattle.tsd_serve.specs.MirrorStatus.{own_status};
 ghost use Rattle.tsd_words.specs.Words.{command_of};
 ghost use Rattle.tsd_words.specs.declared.commands.Command.{Command as Words};
 
@@ -55,7 +55,7 @@ pub fn tsd_mirror<S: Source, P: Sides + Drop, K: Began>(
     // By the status: which sides are sound at the end, and which one failed.
     ensures sound { AreSoundAtEnd result.0 (P.view sides) (P.view result.1) }
     ensures lost { (side : Side) → (result.0 ≡ MirrorStatus.SideLost side)
-        ↔ ((answered result.0 ≡ Status.Done) × HasFailed side (P.view sides) (P.view result.1)) }
+        ↔ ((own_status result.0 ≡ Status.Done) × HasFailed side (P.view sides) (P.view result.1)) }
     ensures device_fault { result.0 ≡ MirrorStatus.Ended Status.DeviceFault
         → NoSideIsLeft (P.view sides) (P.view result.1) }
     // Nothing more is taken once the end was found.

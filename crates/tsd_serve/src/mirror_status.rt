@@ -1,7 +1,7 @@
 //! How a run over two images as one disk ends.
 
 ghost use Rattle.std.specs.Prelude.{◌≡◌, ◌≢◌, ◌∷◌, ◌++◌, []};
-ghost use Rattle.tsd_serve.specs.MirrorStatus.{answered, ended_with, mirror_code, mirror_status_text, side_text};
+ghost use Rattle.tsd_serve.specs.MirrorStatus.{own_status, ended_with, mirror_code, mirror_status_text, side_text};
 
 use mirror_device::Side;
 use script_text::OutBuf;
@@ -30,7 +30,7 @@ impl MirrorStatus {
 
     /// Of a command that ended so, with this side lost or none.
     pub(crate) fn of(status: Status, lost: Option<Side>) -> MirrorStatus
-        ensures answered { answered result ≡ status }
+        ensures answered { own_status result ≡ status }
         ensures value { result ≡ ended_with status lost }
     {
         match (status, lost) {

@@ -8,9 +8,9 @@ use Rattle.image_device.specs.View.{View}
 use Rattle.image_layout.specs.declared.header.Header.{Header}
 use Rattle.image_layout.specs.Areas.{header_sector, sweep_flag}
 use Rattle.image_layout.specs.Header.{IsHeaderReading}
-use Rattle.image_layout.specs.Image.{Image, is_open}
+use Rattle.image_layout.specs.Image.{Image, says_open}
 use Rattle.intent_journal.specs.Home.{home}
-use Rattle.intent_journal.specs.Records.{open_records, is_open_gate}
+use Rattle.intent_journal.specs.Records.{open_records, is_gate_open}
 use Rattle.intent_journal.proofs.Opened.{opened_none, home_of_empty}
 use Rattle.block_alloc.specs.LiveMap.{LiveMap, is_live}
 use Rattle.reclaim.specs.Ahead.{Kept, is_gone, Hides}
@@ -32,16 +32,16 @@ use Rattle.volume_laws.specs.Volume.{IsVolumeAt, AreParts}
 at_home : (x : Image) → AreClosed x → home x ≡ x
 at_home x closed = home_of_empty x (opened_none x (closed 0 (omega arith))).0
 
-has_tables : (h : Header) (t : ImageTables) (s : Bool) (x : Image) → AreStored h t x → IsHeaderReading (x header_sector) (Ok h) → is_open (x sweep_flag) ≡ s → HasTables (tables_with h t s) x
+has_tables : (h : Header) (t : ImageTables) (s : Bool) (x : Image) → AreStored h t x → IsHeaderReading (x header_sector) (Ok h) → says_open (x sweep_flag) ≡ s → HasTables (tables_with h t s) x
 has_tables h t s x stored header flag = record { header = header; live = stored.live; slots = stored.slots; counts = stored.counts; records = stored.records; flag = flag }
 
-pub loaded_good : (h : Header) (t : ImageTables) (s : Bool) (x : Image) → DoFit h t → AreStored h t x → IsFormatGateOpen x → AreClosed x → IsHeaderReading (x header_sector) (Ok h) → is_open (x sweep_flag) ≡ s → IsGood x
+pub loaded_good : (h : Header) (t : ImageTables) (s : Bool) (x : Image) → DoFit h t → AreStored h t x → IsFormatGateOpen x → AreClosed x → IsHeaderReading (x header_sector) (Ok h) → says_open (x sweep_flag) ≡ s → IsGood x
 loaded_good h t s x fit stored formatted closed header flag =
     tables_good (tables_with h t s) x formatted (opened_none x (closed 0 (omega arith))).1 (fit.sound s)
     (subst (HasTables (tables_with h t s)) (sym (at_home x closed)) (has_tables h t s x stored header flag))
 
 -- ---- the volume
-pub loaded_at : (h : Header) (t : ImageTables) (s ready spent : Bool) (old new : View) → DoFit h t → AreStored h t old.reads → IsFirm old → IsFormatGateOpen old.reads → AreClosed old.reads → IsHeaderReading (old.reads header_sector) (Ok h) → is_open (old.reads sweep_flag) ≡ s
+pub loaded_at : (h : Header) (t : ImageTables) (s ready spent : Bool) (old new : View) → DoFit h t → AreStored h t old.reads → IsFirm old → IsFormatGateOpen old.reads → AreClosed old.reads → IsHeaderReading (old.reads header_sector) (Ok h) → says_open (old.reads sweep_flag) ≡ s
     → new.reads ≡ old.reads → new.loose ≡ old.loose → IsVolumeAt (record { tables = tables_with h t s; ring = []; is_ready = ready; is_spent = spent }) new
 loaded_at h t s ready spent old new fit stored firm formatted closed header flag reads loose =
     let x = old.reads in
@@ -50,7 +50,7 @@ loaded_at h t s ready spent old new fit stored firm formatted closed header flag
       firm = still;
       ring = record {
         shows = ap (λ (y : Image). open_records y) reads ∙ (opened_none x (closed 0 (omega arith))).0;
-        others_closed = λ index from less. ap (λ (y : Image). is_open_gate y index) reads ∙ closed index less;
+        others_closed = λ index from less. ap (λ (y : Image). is_gate_open y index) reads ∙ closed index less;
         journal_firm = λ n journal. still n;
       };
       good = subst IsGood (sym reads) (loaded_good h t s x fit stored formatted closed header flag);

@@ -10,7 +10,7 @@ use Rattle.graph_laws.proofs.SameGraphLaws.{free_count_by_graph}
 use Rattle.image_device.specs.Calls.{Uses}
 use Rattle.image_device.specs.View.{View}
 use Rattle.image_layout.specs.declared.offset.Patch.{Patch}
-use Rattle.intent_journal.specs.Records.{Record}
+use Rattle.intent_journal.specs.Records.{JournalRecord}
 use Rattle.intent_journal.specs.Ring.{committed, commit_writes, checkpoint_writes}
 use Rattle.image_world.specs.Debt.{graph_in, owed}
 use Rattle.image_world.specs.Raw.{world_with, zeros_of, blank_of}
@@ -22,26 +22,26 @@ use Rattle.volume_laws.specs.Steps.{IsStepPut}
 use Rattle.volume_laws.specs.Volume.{Volume, told_by}
 use Rattle.volume_laws.specs.Writes.{batch_cost, due, lost_cost, IsPaid, Works}
 use Rattle.volume_laws.proofs.Costs.{commit_pays}
-use Rattle.volume.specs.Sweeping.{size_of, swept_size, sweep_left, unswept, taken_cost, sweep_cost, left_cost, left_due}
+use Rattle.volume.specs.Sweeping.{graph_size, swept_size, sweep_left, unswept, taken_cost, sweep_cost, left_cost, left_due}
 use Rattle.volume.proofs.FinishLaws.{free_restricted, raw_is_left}
 use Rattle.volume.proofs.SweepOps.{sweeping_left, sweep_takes, some_taken}
 
 -- ---- how much there is
 
-pub size_by_graph : (v w : World) → HasGraphOf v w → size_of v ≡ size_of w
+pub size_by_graph : (v w : World) → HasGraphOf v w → graph_size v ≡ graph_size w
 size_by_graph v w same =
     let pairs : length v.pairs ≡ length w.pairs = ap (λ (es : List (ℕ × ℕ)). length es) same.pairs in
     let blocks : v.geometry.blocks ≡ w.geometry.blocks = ap (λ (g : Geometry). g.blocks) same.geometry in
     omega (arith, pairs, blocks, free_count_by_graph v w same)
 
-size_restricted : (w : World) (keep : ℕ → Bool) → size_of (restricted w keep) ≤ size_of w
+size_restricted : (w : World) (keep : ℕ → Bool) → graph_size (restricted w keep) ≤ graph_size w
 size_restricted w keep = omega (arith, length-filter_le (λ (e : ℕ × ℕ). keep e.0) w.pairs, free_restricted w keep)
 
 -- an open sweep leaves no more than there is
-least : (t : Tables) → t.is_sweeping ≡ true → size_of (blank_of t) ≤ sweep_left t
+least : (t : Tables) → t.is_sweeping ≡ true → graph_size (blank_of t) ≤ sweep_left t
 least t sweeping =
     let w = world_with t (zeros_of t) in
-    let left : size_of (blank_of t) ≡ size_of (swept w) = ap (λ (v : World). size_of v) (sweeping_left t w sweeping) in
+    let left : graph_size (blank_of t) ≡ graph_size (swept w) = ap (λ (v : World). graph_size v) (sweeping_left t w sweeping) in
     omega (arith, left, size_restricted w (has_number (reach w)), size_by_graph w (graph_in t) (world_graph t (zeros_of t)))
 
 -- once the flag is open, that is left which a sweep takes from the world before
@@ -49,8 +49,8 @@ pub opened_left : (old now : Volume) → old.tables.is_sweeping ≡ false → ow
 opened_left old now still none same told =
     let t = old.tables in
     let w = world_with t (zeros_of t) in
-    let whole : size_of (told_by old) ≡ size_of w = ap (λ (v : World). size_of v) (raw_is_left t still none) in
-    let then : size_of (told_by now) ≡ size_of (swept (told_by old)) = ap (λ (v : World). size_of v) told in
+    let whole : graph_size (told_by old) ≡ graph_size w = ap (λ (v : World). graph_size v) (raw_is_left t still none) in
+    let then : graph_size (told_by now) ≡ graph_size (swept (told_by old)) = ap (λ (v : World). graph_size v) told in
     omega (arith, same, whole, then, size_by_graph w (graph_in t) (world_graph t (zeros_of t)))
 
 -- ---- a step
@@ -77,7 +77,7 @@ module _ (first : Volume) (start : View) (vol : Volume) (v : View) (so_far : IsP
   pub paid_failed : (now : Volume) (new : View) (batch : List Patch) → Works start new → Uses (commit_writes vol.ring batch) v new → batch_cost (length batch) + taken_cost * sweep_left now.tables ≤ taken_cost * sweep_left vol.tables
       → now.tables.is_sweeping ≡ true → told_by now ≡ told_by first → Uses (checkpoint_writes first.ring + taken_cost * unswept first.tables) start new
   paid_failed now new batch works uses cheap sweeping told =
-      let same : size_of (told_by now) ≡ size_of (told_by first) = ap (λ (w : World). size_of w) told in
+      let same : graph_size (told_by now) ≡ graph_size (told_by first) = ap (λ (w : World). graph_size w) told in
       record {
         clock = works.clock;
         faults = works.faults;
@@ -89,7 +89,7 @@ module _ (first : Volume) (start : View) (vol : Volume) (v : View) (so_far : IsP
   -- no step is left
   pub paid_all : vol.tables.is_sweeping ≡ true → told_by vol ≡ told_by first → v.writes + checkpoint_writes vol.ring ≤ start.writes + (checkpoint_writes first.ring + taken_cost * unswept first.tables)
   paid_all sweeping told =
-      let same : size_of (told_by vol) ≡ size_of (told_by first) = ap (λ (w : World). size_of w) told in
+      let same : graph_size (told_by vol) ≡ graph_size (told_by first) = ap (λ (w : World). graph_size w) told in
       omega (arith, so_far, least vol.tables sweeping, same)
 
   pub used_all : Works start v → vol.tables.is_sweeping ≡ true → told_by vol ≡ told_by first → Uses (checkpoint_writes first.ring + taken_cost * unswept first.tables) start v
@@ -127,7 +127,7 @@ uses_then most left u v w works paid two = uses_most (most + 0) most u w (omega 
 -- ---- the flag
 
 -- it is written
-pub flag_paid : {T E : Type 0} (r : Result T E) (vol now : Volume) (rs : List Record) (batch : List Patch) (old new : View) → rs ≡ vol.ring → length batch ≤ 1 → Uses (commit_writes rs batch) old new → OnOk r (now.ring ≡ committed rs batch)
+pub flag_paid : {T E : Type 0} (r : Result T E) (vol now : Volume) (rs : List JournalRecord) (batch : List Patch) (old new : View) → rs ≡ vol.ring → length batch ≤ 1 → Uses (commit_writes rs batch) old new → OnOk r (now.ring ≡ committed rs batch)
     → OnOk r (new.writes + checkpoint_writes now.ring ≤ old.writes + checkpoint_writes vol.ring + batch_cost 1)
 flag_paid (Ok x) vol now rs batch old new is few uses ring =
     let then : checkpoint_writes now.ring ≡ checkpoint_writes (committed rs batch) = ap checkpoint_writes ring in

@@ -10,20 +10,20 @@ use Rattle.volume_laws.specs.Volume.{Volume}
 use Rattle.volume_laws.specs.Writes.{batch_cost, lost_cost}
 
 -- the pairs and the live blocks
-abbrev pub size_of : World → ℕ
-size_of w = length w.pairs + (w.geometry.blocks - free_count w)
+abbrev pub graph_size : World → ℕ
+graph_size w = length w.pairs + (w.geometry.blocks - free_count w)
 
 -- how many pairs and blocks a sweep takes from a world
 abbrev pub swept_size : World → ℕ
-swept_size w = size_of w - size_of (swept w)
+swept_size w = graph_size w - graph_size (swept w)
 
 -- what is left to a sweep at most
 abbrev pub sweep_left : Tables → ℕ
-sweep_left t = size_of (graph_in t)
+sweep_left t = graph_size (graph_in t)
 
 -- what an open sweep still takes away
 abbrev pub unswept : Tables → ℕ
-unswept t = sweep_left t - size_of (blank_of t)
+unswept t = sweep_left t - graph_size (blank_of t)
 
 -- A pair or a block that a sweep takes away costs at most so much. A step takes up to 16 pairs, and a pair is two
 -- homes: the batch of one alone is 7 writes, and more of them cost less each.

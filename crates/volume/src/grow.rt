@@ -13,7 +13,7 @@ ghost use Rattle.volume_laws.specs.Writes.{batch_cost, due, zeroed_cost, IsPaid}
 ghost use Rattle.volume_laws.specs.Moments.{LeavesEither, LeavesWorld, LeavesOwed};
 ghost use Rattle.image_world.specs.Debt.{owed};
 ghost use Rattle.volume_laws.specs.Growing.{AreFree};
-ghost use Rattle.intent_journal.specs.Records.{Record, patches_of};
+ghost use Rattle.intent_journal.specs.Records.{JournalRecord, patches_of};
 ghost use Rattle.volume_laws.specs.Data.{KeepsData};
 ghost use Rattle.volume_laws.specs.Rings.{HasBatch, HasBatches, HasNewBlocks};
 ghost use Rattle.volume_laws.specs.Zeroed.{IsZeroedAt, AreMissed};
@@ -52,7 +52,7 @@ impl Volume {
 
         // Behind the records of what was reclaimed comes one batch; the journal is emptied before it only where it
         // holds a sector of these blocks, or has no room.
-        ensures ring { OnOk result ((mid : List Record) × HasBatches (owed self.old.tables) 33 self.old.ring mid
+        ensures ring { OnOk result ((mid : List JournalRecord) × HasBatches (owed self.old.tables) 33 self.old.ring mid
             × HasNewBlocks self.old.tables.geometry blocks.now mid self.new.ring) }
 
         ensures version { self.new.tables.version ≡ self.old.tables.version }

@@ -6,7 +6,7 @@ ghost use Rattle.image_device.specs.Counts.{CountsFault, CountsFaultOf};
 ghost use Rattle.image_device.specs.Runs.{IsFirm};
 ghost use Rattle.image_layout.specs.Areas.{header_sector, sweep_flag};
 ghost use Rattle.image_layout.specs.Header.{IsHeaderReading, IsVersion};
-ghost use Rattle.image_layout.specs.Image.{is_open};
+ghost use Rattle.image_layout.specs.Image.{says_open};
 ghost use Rattle.tsd_model.specs.Geometry.{IsLawful};
 ghost use Rattle.image_world.specs.Faults.{IsFormatGateOpen};
 ghost use Rattle.image_world.specs.Fresh.{AreClosed};
@@ -18,7 +18,7 @@ use crate::volume::Volume;
 use cycle_sweep::Marks;
 use image_device::{Device, Failed};
 use image_layout::sectors::{SECTOR_BYTES, SWEEP_FLAG};
-use image_layout::{Header, is_open};
+use image_layout::{Header, says_open};
 use image_world::load_tables;
 use intent_journal::{Batch, Ring};
 use reclaim::{Ahead, Guesses};
@@ -26,14 +26,14 @@ use std::alloc::Global;
 
 /// Whether a sweep has begun and not ended.
 fn read_flag<D: Device>(dev: &mut D) -> Result<bool, Failed>
-    ensures value { D.told → IfOk result (λ open_now. open_now ≡ is_open ((D.view dev.old).reads sweep_flag)) }
+    ensures value { D.told → IfOk result (λ open_now. open_now ≡ says_open ((D.view dev.old).reads sweep_flag)) }
     ensures rests { D.told → Rests (D.view dev.old) (D.view dev.new) }
     ensures uses { Uses 0 (D.view dev.old) (D.view dev.new) }
     ensures faults { CountsFault result (D.view dev.old).faults (D.view dev.new).faults }
 {
     let mut sector = [0; SECTOR_BYTES];
     dev.read(SWEEP_FLAG, &mut sector)?;
-    Ok(is_open(&sector))
+    Ok(says_open(&sector))
 }
 
 impl Volume {

@@ -9,7 +9,8 @@ ghost use Rattle.intent_journal.specs.Ring.{checkpoint_writes};
 ghost use Rattle.volume_laws.specs.Operations.{IsOperation, IsWithin};
 ghost use Rattle.volume_laws.specs.Rings.{CommitsOnce};
 ghost use Rattle.volume_laws.specs.Volume.{IsVolumeAt, IsVolumeReady, told_by, world_on};
-ghost use Rattle.volume_laws.specs.Moments.{LeavesEither, LeavesOwed, written_world};
+ghost use Rattle.tsd_model.specs.Step.{written};
+ghost use Rattle.volume_laws.specs.Moments.{LeavesEither, LeavesOwed};
 ghost use Rattle.image_world.specs.Debt.{owed};
 ghost use Rattle.volume_laws.specs.Writes.{batch_cost, IsPaid};
 
@@ -33,7 +34,7 @@ impl Volume {
         requires ready { IsVolumeReady self.old }
         requires unspent { self.old.is_spent ≡ false }
         requires at { D.told → IsVolumeAt self.old (D.view dev.old) }
-        ensures operation { IsOperation D.told (block ∷ []) (λ w. written_world w block bytes.now) self.old self.new
+        ensures operation { IsOperation D.told (block ∷ []) (λ w. written w block bytes.now) self.old self.new
             (D.view dev.old) (D.view dev.new) result }
         ensures cost { IsWithin D.told (owed self.old.tables) (batch_cost self.old.tables.geometry.sectors)
             (checkpoint_writes self.old.ring + batch_cost self.old.tables.geometry.sectors) self.old self.new

@@ -6,8 +6,7 @@ use Rattle.std.proofs.lemmas.Bool.{cases_eq, cases_Bool, ne_eqb, eqb-true, and_f
 use Rattle.std.proofs.lemmas.List.{get_or-set_other, get_or-set_same}
 use Rattle.tsd_model.specs.Pairs.{with_pair, without_pair}
 use Rattle.tsd_model.specs.Step.{with_pointer, without_pointer}
-use Rattle.tsd_model.specs.World.{World, contents, has_number}
-use Rattle.disk_laws.specs.Reclaiming.{all_apart}
+use Rattle.tsd_model.specs.World.{World, contents, has_number, are_apart}
 use Rattle.image_layout.specs.declared.header.Header.{Header}
 use Rattle.pointer_table.specs.Slots.{pairs_in}
 use Rattle.pointer_table.specs.Table.{Table as Pointers}
@@ -153,9 +152,9 @@ shown_more l m b live unhidden inside is none = λ k. elim (cases_eq k b) [
       ∙ sym (ap (λ (n : LiveMap). is_live n.live k) is ∙ get_or-set_other l.live b k true false other)))
 ]
 
-once : (live : List Bool) (n : ℕ) (bs : List ℕ) → AreFree live n bs → all_apart bs ≡ true
+once : (live : List Bool) (n : ℕ) (bs : List ℕ) → AreFree live n bs → are_apart bs ≡ true
 once live n [] free = refl
-once live n (b ∷ bs) free = and_from (not (has_number bs b)) (all_apart bs) (ap not free.2) (once live n bs free.3)
+once live n (b ∷ bs) free = and_from (not (has_number bs b)) (are_apart bs) (ap not free.2) (once live n bs free.3)
 
 each_free : (live : List Bool) (n : ℕ) (bs : List ℕ) → AreFree live n bs → (b : ℕ) → has_number bs b ≡ true → (b < n) × (is_live live b ≡ false)
 each_free live n [] free b h = absurd (cc)

@@ -14,7 +14,7 @@ use Rattle.image_layout.specs.Offsets.{data_sector}
 use Rattle.image_layout.specs.Image.{Image}
 use Rattle.image_layout.specs.declared.offset.Patch.{Patch}
 use Rattle.intent_journal.specs.Home.{home, overlaid, is_journal, AgreeBut}
-use Rattle.intent_journal.specs.Records.{Record}
+use Rattle.intent_journal.specs.Records.{JournalRecord}
 use Rattle.intent_journal.specs.Ring.{IsRingAt}
 use Rattle.intent_journal.specs.Crash.{IsBefore, IsAfter, IsBeforeOrAfter}
 use Rattle.intent_journal.proofs.Opened.{home_of_empty}
@@ -62,7 +62,7 @@ pub emptied_ok : {T E : Type 0} (r : Result T E) (vol now : Volume) (old new : V
     → OnOk r (IsVolumeAt now new × (world_on new ≡ world_on old))
 emptied_ok (Ok u) vol now old new at agree ring firm none kept =
     let here = home_of_empty new.reads ring.shows in
-    same_new vol now old new at (λ n out. (λ i. here i n) ∙ agree n out) (subst (λ (rs : List Record). IsRingAt rs new) (sym none) ring) firm kept
+    same_new vol now old new at (λ n out. (λ i. here i n) ∙ agree n out) (subst (λ (rs : List JournalRecord). IsRingAt rs new) (sym none) ring) firm kept
 emptied_ok (Err e) vol now old new at agree ring firm none kept = tt
 
 pub before_moments : (vol : Volume) (old new : View) → IsVolumeAt vol old → LeavesOnly old new (λ x f. IsBefore old x × (f ≡ old.sent)) → LeavesWorld old new

@@ -4,7 +4,7 @@ use Rattle.std.specs.Prelude.{OnOk}
 use Rattle.image_device.specs.View.{View}
 use Rattle.image_device.specs.Calls.{Uses}
 use Rattle.image_layout.specs.declared.offset.Patch.{Patch}
-use Rattle.intent_journal.specs.Records.{Record}
+use Rattle.intent_journal.specs.Records.{JournalRecord}
 use Rattle.intent_journal.specs.Ring.{committed, checkpoint_writes, commit_writes}
 use Rattle.intent_journal.proofs.Costs as journal
 use Rattle.image_world.specs.Debt.{owed}
@@ -12,7 +12,7 @@ use Rattle.volume_laws.specs.Volume.{Volume}
 use Rattle.volume_laws.specs.Writes.{batch_cost, IsPaid}
 
 -- what is written now and what a checkpoint would write then
-pub commit_pays : (rs : List Record) (batch : List Patch) → commit_writes rs batch + checkpoint_writes (committed rs batch) ≤ checkpoint_writes rs + batch_cost (length batch)
+pub commit_pays : (rs : List JournalRecord) (batch : List Patch) → commit_writes rs batch + checkpoint_writes (committed rs batch) ≤ checkpoint_writes rs + batch_cost (length batch)
 commit_pays rs batch = journal.commit_pays rs batch
 
 pub paid : {T E : Type 0} (r : Result T E) (vol now : Volume) (batch : List Patch) (k : ℕ) (old new : View) → length batch ≤ k → Uses (commit_writes vol.ring batch) old new → OnOk r (now.ring ≡ committed vol.ring batch)

@@ -8,7 +8,7 @@ use Rattle.tsd_model.specs.Step.{without_pointer}
 use Rattle.image_device.specs.Calls.{Uses}
 use Rattle.image_device.specs.View.{View}
 use Rattle.image_layout.specs.declared.offset.Patch.{Patch}
-use Rattle.intent_journal.specs.Records.{Record}
+use Rattle.intent_journal.specs.Records.{JournalRecord}
 use Rattle.intent_journal.specs.Ring.{committed, commit_writes, checkpoint_writes}
 use Rattle.pointer_table.specs.Slots.{pairs_in}
 use Rattle.graph_laws.proofs.DropLaws.{delete_dooms}
@@ -57,7 +57,7 @@ module _ (t : Tables) (slots : List (Option (ℕ × ℕ))) (a b : ℕ) (o : Hold
       (omega (arith, now, besides.blocks, free, left, count, same), omega (arith, now, besides.blocks))
 
 -- ---- costs
-pub drop_paid : {T E : Type 0} (r : Result T E) (vol now : Volume) (rs : List Record) (old new : View) (batch : List Patch) (more : ℕ) → length batch ≤ 2 → owed now.tables + 1 ≡ owed vol.tables + more
+pub drop_paid : {T E : Type 0} (r : Result T E) (vol now : Volume) (rs : List JournalRecord) (old new : View) (batch : List Patch) (more : ℕ) → length batch ≤ 2 → owed now.tables + 1 ≡ owed vol.tables + more
     → rs ≡ vol.ring → Uses (commit_writes rs batch) old new → OnOk r (now.ring ≡ committed rs batch) → OnOk r (IsPaid (batch_cost 2 + lost_cost * more) vol old now new)
 drop_paid (Ok u) vol now rs old new batch more few owes is uses records =
     let e : checkpoint_writes now.ring ≡ checkpoint_writes (committed rs batch) = ap checkpoint_writes records in

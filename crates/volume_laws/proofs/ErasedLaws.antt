@@ -7,10 +7,10 @@ use Rattle.image_device.specs.View.{View, IsLeftWithin}
 use Rattle.image_device.specs.Runs.{IsConfined, IsFirm}
 use Rattle.image_device.proofs.Moments.{weakened}
 use Rattle.image_device.proofs.Sets.{or_false}
-use Rattle.image_layout.specs.Image.{Image, is_open}
+use Rattle.image_layout.specs.Image.{Image, says_open}
 use Rattle.image_layout.specs.Ring.{gate_sector}
 use Rattle.intent_journal.specs.Home.{home, is_journal}
-use Rattle.intent_journal.specs.Records.{Record}
+use Rattle.intent_journal.specs.Records.{JournalRecord}
 use Rattle.intent_journal.specs.Ring.{IsRingAt}
 use Rattle.intent_journal.proofs.Opened.{home_of_empty}
 use Rattle.intent_journal.proofs.Uses.{at_closed, at_valid}
@@ -52,7 +52,7 @@ outside n out = grind (arith, nat_tests)
 
 module _ (vol : Volume) (old : View) (at : IsVolumeAt vol old) (none : vol.ring ≡ []) where
   ring_old : IsRingAt [] old
-  ring_old = subst (λ (rs : List Record). IsRingAt rs old) none at.ring
+  ring_old = subst (λ (rs : List JournalRecord). IsRingAt rs old) none at.ring
 
   module _ (y : Image) (same : (n : ℕ) → is_body n ≡ false → y n ≡ old.reads n) where
     -- a device that reads so, with nothing loose
@@ -60,7 +60,7 @@ module _ (vol : Volume) (old : View) (at : IsVolumeAt vol old) (none : vol.ring 
     there = record old { reads = y; loose = λ n. false }
 
     pub ring_there : IsRingAt [] there
-    ring_there = at_closed there (λ index less. ap is_open (same (gate_sector index) (gate_out index less)) ∙ ring_old.others_closed index (omega arith) less) (λ n inside. refl)
+    ring_there = at_closed there (λ index less. ap says_open (same (gate_sector index) (gate_out index less)) ∙ ring_old.others_closed index (omega arith) less) (λ n inside. refl)
 
     pub home_there : (n : ℕ) → is_journal n ≡ false → home y n ≡ home old.reads n
     home_there n out = (λ i. home_of_empty y ring_there.shows i n) ∙ (same n (outside n out) ∙ sym (λ i. home_of_empty old.reads ring_old.shows i n))
@@ -81,13 +81,13 @@ module _ (vol : Volume) (old : View) (at : IsVolumeAt vol old) (none : vol.ring 
 
   -- the gates stay closed
   pub erased_closed : (new : View) → IsConfined is_body old new → AreClosed new.reads
-  erased_closed new run = λ index less. ap is_open (run.reads (gate_sector index) (gate_out index less)) ∙ ring_old.others_closed index (omega arith) less
+  erased_closed new run = λ index less. ap says_open (run.reads (gate_sector index) (gate_out index less)) ∙ ring_old.others_closed index (omega arith) less
 
   -- the device then
   pub erased_new : (now : Volume) (new : View) → now.ring ≡ [] → now.tables ≡ vol.tables → IsConfined is_body old new → IsFirm new → IsVolumeAt now new × (world_on new ≡ world_on old)
   erased_new now new empty kept run firm =
       same_new vol now old new at (home_there new.reads run.reads)
-      (subst (λ (rs : List Record). IsRingAt rs new) (sym empty) (at_closed new (erased_closed new run) (λ n inside. firm n)))
+      (subst (λ (rs : List JournalRecord). IsRingAt rs new) (sym empty) (at_closed new (erased_closed new run) (λ n inside. firm n)))
       firm kept
 
 pub erased_ok : {T E : Type 0} (r : Result T E) (vol now : Volume) (old new : View) → IsVolumeAt vol old → vol.ring ≡ [] → now.ring ≡ [] → now.tables ≡ vol.tables → IsConfined is_body old new → OnOk r (IsFirm new) → OnOk r (IsVolumeAt now new × (world_on new ≡ world_on old))

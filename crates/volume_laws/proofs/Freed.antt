@@ -11,7 +11,7 @@ use Rattle.disk_laws.proofs.DoomLaws.{live_below}
 use Rattle.image_device.specs.Image.{put_at}
 use Rattle.image_layout.specs.Areas.{header_sector, format_gate, bitmap_start, slots_start}
 use Rattle.image_layout.specs.Header.{IsHeaderReading}
-use Rattle.image_layout.specs.Image.{Image, is_open}
+use Rattle.image_layout.specs.Image.{Image, says_open}
 use Rattle.image_layout.specs.declared.offset.Patch.{Patch}
 use Rattle.intent_journal.proofs.Overlays.{put_elsewhere}
 use Rattle.pointer_table.proofs.LoadingLaws.{stored_elsewhere}
@@ -87,7 +87,7 @@ module _ (t mid : Tables) (s : OutStep) (next : IsAllowed t s) (same : mid.geome
           slots = stored_elsewhere mid.slots mid.geometry z (put_at r.sector r.bytes z) (λ n f u. other n (λ e. omega arith)) had.slots;
           counts = same_counts mid.counts mid.geometry z (put_at r.sector r.bytes z) (λ n f u. other n (λ e. omega arith)) had.counts;
           records = same_records mid.version mid.records z (put_at r.sector r.bytes z) now_sound.version (omega (arith, now_sound.each_record, now_sound.slots.lawful.primaries.1)) (λ n f u. other n (λ e. omega arith)) had.records;
-          flag = ap is_open (other 131 (λ e. omega arith)) ∙ had.flag;
+          flag = ap says_open (other 131 (λ e. omega arith)) ∙ had.flag;
         };
     contents = λ z n above. put_elsewhere r.sector r.bytes z n (away r.sector n (λ e. omega arith));
     gate = λ z. put_elsewhere r.sector r.bytes z format_gate (away r.sector format_gate (λ e. omega arith));

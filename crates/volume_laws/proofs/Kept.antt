@@ -10,7 +10,7 @@ use Rattle.tsd_model.specs.Step.{with_caps}
 use Rattle.image_device.specs.Image.{put_at}
 use Rattle.image_layout.specs.Areas.{header_sector, format_gate, caps_start, counts_start}
 use Rattle.image_layout.specs.Header.{IsHeaderReading}
-use Rattle.image_layout.specs.Image.{Image, is_open}
+use Rattle.image_layout.specs.Image.{Image, says_open}
 use Rattle.image_layout.specs.declared.offset.Patch.{Patch}
 use Rattle.intent_journal.proofs.Overlays.{put_elsewhere}
 use Rattle.pointer_table.proofs.LoadingLaws.{stored_elsewhere}
@@ -79,7 +79,7 @@ caps_turn t b r p sound from to stored = record {
         slots = stored_elsewhere t.slots t.geometry z (put_at p.sector p.bytes z) (λ n f u. same n (λ e. omega arith)) had.slots;
         counts = same_counts t.counts t.geometry z (put_at p.sector p.bytes z) (λ n f u. same n (λ e. omega arith)) had.counts;
         records = stored z had.records;
-        flag = ap is_open (same 131 (λ e. omega arith)) ∙ had.flag;
+        flag = ap says_open (same 131 (λ e. omega arith)) ∙ had.flag;
       };
   contents = λ z n above. put_elsewhere p.sector p.bytes z n (away p.sector n (λ e. omega arith));
   gate = λ z. put_elsewhere p.sector p.bytes z format_gate (away p.sector format_gate (λ e. omega arith));

@@ -8,7 +8,7 @@ use Rattle.tsd_model.specs.Doomed.{doomed}
 use Rattle.tsd_model.specs.Step.{with_new_blocks}
 use Rattle.image_layout.specs.Areas.{header_sector, format_gate}
 use Rattle.image_layout.specs.Header.{IsHeaderReading}
-use Rattle.image_layout.specs.Image.{is_open}
+use Rattle.image_layout.specs.Image.{says_open}
 use Rattle.image_layout.specs.declared.offset.Patch.{Patch}
 use Rattle.intent_journal.specs.Home.{overlaid}
 use Rattle.pointer_table.specs.Table.{pairs, IsTable}
@@ -126,7 +126,7 @@ made t p q a bs batch sound still none same fit grown = record {
           slots = stored.slots;
           counts = stored.counts;
           records = same_records t.version t.records z (overlaid batch z) sound.version (omega (arith, sound.each_record, sound.slots.lawful.primaries.1)) (λ n f u. grown.others z n (inl (omega arith))) had.records;
-          flag = ap is_open (grown.others z 131 (inl (omega arith))) ∙ had.flag;
+          flag = ap says_open (grown.others z 131 (inl (omega arith))) ∙ had.flag;
         };
     contents = λ z n above. grown.others z n (inr above);
     gate = λ z. grown.others z format_gate (inl (omega arith));

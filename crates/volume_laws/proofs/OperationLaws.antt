@@ -12,7 +12,7 @@ use Rattle.image_device.proofs.Moments.{weakened, joined}
 use Rattle.image_layout.specs.declared.offset.Patch.{Patch}
 use Rattle.intent_journal.specs.Crash.{IsBeforeOrAfter}
 use Rattle.intent_journal.specs.Home.{home, overlaid, is_journal, AgreeBut}
-use Rattle.intent_journal.specs.Records.{Record}
+use Rattle.intent_journal.specs.Records.{JournalRecord}
 use Rattle.intent_journal.specs.Ring.{IsRingAt, committed, commit_writes, checkpoint_writes}
 use Rattle.image_world.specs.Raw.{data_on}
 use Rattle.image_world.specs.Tables.{tables_of}
@@ -291,13 +291,13 @@ none_within told vol v x most sound at = record {
 }
 
 -- how often a commit writes
-pub committed_uses : (vol : Volume) (rs : List Record) (old new : View) (batch : List Patch) (homes : ℕ) → length batch ≤ homes → rs ≡ vol.ring → Uses (commit_writes rs batch) old new → Uses (checkpoint_writes vol.ring + batch_cost homes) old new
+pub committed_uses : (vol : Volume) (rs : List JournalRecord) (old new : View) (batch : List Patch) (homes : ℕ) → length batch ≤ homes → rs ≡ vol.ring → Uses (commit_writes rs batch) old new → Uses (checkpoint_writes vol.ring + batch_cost homes) old new
 committed_uses vol rs old new batch homes few is uses =
     let same : checkpoint_writes rs ≡ checkpoint_writes vol.ring = ap checkpoint_writes is in
     record { clock = uses.clock; faults = uses.faults; put_faults = uses.put_faults; writes = uses.writes; most = omega (arith, same, commit_pays rs batch, uses.most, few) }
 
 -- A batch is committed.
-pub committed_within : {T : Type 0} (told : Type 0) (r : Result T Failed) (fit : (ℕ → List ℕ) → Type 0) (vol now : Volume) (rs : List Record) (old new : View) (batch : List Patch) (homes more owes cost : ℕ) (change : World → World)
+pub committed_within : {T : Type 0} (told : Type 0) (r : Result T Failed) (fit : (ℕ → List ℕ) → Type 0) (vol now : Volume) (rs : List JournalRecord) (old new : View) (batch : List Patch) (homes more owes cost : ℕ) (change : World → World)
     → IsOp fit vol now.tables batch homes more change → (told → IsVolumeAt vol old) → rs ≡ vol.ring
     → (told → LeavesOnly old new (λ x f. IsBeforeOrAfter batch old x × (f ≡ old.sent))) → Uses (commit_writes rs batch) old new → OnOk r (now.ring ≡ committed rs batch)
     → owed vol.tables + more ≤ owes → batch_cost homes + lost_cost * more ≤ cost

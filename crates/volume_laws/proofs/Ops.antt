@@ -11,7 +11,7 @@ use Rattle.image_device.proofs.Outcomes.{on_ok}
 use Rattle.image_layout.specs.declared.offset.Patch.{Patch}
 use Rattle.intent_journal.specs.Crash.{IsBeforeOrAfter}
 use Rattle.intent_journal.specs.Home.{home, overlaid, is_journal, AgreeBut}
-use Rattle.intent_journal.specs.Records.{Record}
+use Rattle.intent_journal.specs.Records.{JournalRecord}
 use Rattle.intent_journal.specs.Ring.{committed, commit_writes}
 use Rattle.intent_journal.specs.Ring.{IsRingAt}
 use Rattle.image_world.specs.Tables.{Tables}
@@ -61,7 +61,7 @@ pub op_moments : (fit : (ℕ → List ℕ) → Type 0) (vol now : Volume) (old n
 op_moments fit vol now old new batch homes more change op at fits leaves =
     turned_moments vol old new batch now.tables (change (world_on old)) at op.turns (op_world fit vol now.tables batch homes more change old op at fits) leaves
 
-pub op_paid : {T E : Type 0} (r : Result T E) (fit : (ℕ → List ℕ) → Type 0) (vol now : Volume) (rs : List Record) (old new : View) (batch : List Patch) (homes more : ℕ) (change : World → World) → IsOp fit vol now.tables batch homes more change
+pub op_paid : {T E : Type 0} (r : Result T E) (fit : (ℕ → List ℕ) → Type 0) (vol now : Volume) (rs : List JournalRecord) (old new : View) (batch : List Patch) (homes more : ℕ) (change : World → World) → IsOp fit vol now.tables batch homes more change
     → rs ≡ vol.ring → Uses (commit_writes rs batch) old new → OnOk r (now.ring ≡ committed rs batch) → OnOk r (IsPaid (batch_cost homes + lost_cost * more) vol old now new)
 op_paid (Ok u) fit vol now rs old new batch homes more change op is uses records =
     let e : checkpoint_writes now.ring ≡ checkpoint_writes (committed rs batch) = ap checkpoint_writes records in

@@ -14,7 +14,7 @@ use Rattle.tsd_model.specs.Step.{with_pointer}
 use Rattle.image_device.specs.Image.{put_at}
 use Rattle.image_layout.specs.Areas.{header_sector, format_gate, counts_start, bitmap_start, slots_start, data_start}
 use Rattle.image_layout.specs.Header.{IsHeaderReading}
-use Rattle.image_layout.specs.Image.{Image, is_open}
+use Rattle.image_layout.specs.Image.{Image, says_open}
 use Rattle.image_layout.specs.declared.offset.Patch.{Patch}
 use Rattle.intent_journal.specs.Batch.{with_patch}
 use Rattle.intent_journal.specs.Home.{overlaid}
@@ -168,7 +168,7 @@ pointer_turn t slots counts p q batch sound now is at to slot count = record {
         slots = stored_elsewhere slots t.geometry mid new (λ n f u. put_elsewhere q.sector q.bytes mid n (away q.sector n (λ e. omega arith))) (slot z had.slots);
         counts = count mid (same_counts t.counts t.geometry z mid (λ n f u. put_elsewhere p.sector p.bytes z n (away p.sector n (λ e. omega arith))) had.counts);
         records = same_records t.version t.records z new sound.version (omega (arith, sound.each_record, sound.slots.lawful.primaries.1)) (λ n f u. others z n (λ e. omega arith) (λ e. omega arith)) had.records;
-        flag = ap is_open (others z 131 (λ e. omega arith) (λ e. omega arith)) ∙ had.flag;
+        flag = ap says_open (others z 131 (λ e. omega arith) (λ e. omega arith)) ∙ had.flag;
       });
   contents = λ z n above. laid z n ∙ others z n (λ e. omega arith) (λ e. omega arith);
   gate = λ z. laid z format_gate ∙ others z format_gate (λ e. omega arith) (λ e. omega arith);

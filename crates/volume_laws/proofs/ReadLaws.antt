@@ -11,7 +11,7 @@ use Rattle.image_device.specs.View.{View, IsSound}
 use Rattle.image_device.proofs.Moments.{rested, firm_image}
 use Rattle.image_layout.specs.Image.{Image, data_bytes}
 use Rattle.intent_journal.specs.Home.{home}
-use Rattle.intent_journal.specs.Records.{Record}
+use Rattle.intent_journal.specs.Records.{JournalRecord}
 use Rattle.intent_journal.specs.Ring.{IsRingAt}
 use Rattle.intent_journal.proofs.Uses.{at_rested}
 use Rattle.image_world.specs.Faults.{IsGood}
@@ -28,7 +28,7 @@ use Rattle.volume_laws.proofs.Committed.{told_like, told_inside}
 pub rested_at : (vol now : Volume) (old new : View) → now.ring ≡ vol.ring → now.tables ≡ vol.tables → IsVolumeAt vol old → Rests old new → IsVolumeAt now new
 rested_at vol now old new ring tables at rests = record {
   firm = λ n. (λ i. rests.loose i n) ∙ at.firm n;
-  ring = subst (λ (rs : List Record). IsRingAt rs new) (sym ring) (at_rested at.ring rests);
+  ring = subst (λ (rs : List JournalRecord). IsRingAt rs new) (sym ring) (at_rested at.ring rests);
   good = subst IsGood (sym rests.reads) at.good;
   tables = ap (λ (x : Image). tables_of (home x)) rests.reads ∙ (at.tables ∙ sym tables);
 }

@@ -11,7 +11,7 @@ use Rattle.image_layout.specs.Image.{Image}
 use Rattle.image_layout.specs.declared.offset.Patch.{Patch}
 use Rattle.intent_journal.specs.Crash.{IsBefore, IsAfter, IsBeforeOrAfter}
 use Rattle.intent_journal.specs.Home.{home}
-use Rattle.intent_journal.specs.Records.{Record}
+use Rattle.intent_journal.specs.Records.{JournalRecord}
 use Rattle.intent_journal.specs.Ring.{committed, commit_writes, checkpoint_writes}
 use Rattle.graph_laws.specs.Steps.{stepped}
 use Rattle.graph_laws.proofs.SameGraphLaws.{graph_of_same, lost_by_graph, step_by_graph}
@@ -106,7 +106,7 @@ step_of vol s now batch still next put =
     one_most false = omega arith
 
 -- ---- costs
-pub step_paid : {T E : Type 0} (r : Result T E) (vol now : Volume) (s : OutStep) (rs : List Record) (old new : View) (batch : List Patch) → IsStepOf vol s now.tables batch
+pub step_paid : {T E : Type 0} (r : Result T E) (vol now : Volume) (s : OutStep) (rs : List JournalRecord) (old new : View) (batch : List Patch) → IsStepOf vol s now.tables batch
     → rs ≡ vol.ring → Uses (commit_writes rs batch) old new → OnOk r (now.ring ≡ committed rs batch) → OnOk r (IsPaid 0 vol old now new)
 step_paid (Ok u) vol now s rs old new batch this is uses records =
     let e : checkpoint_writes now.ring ≡ checkpoint_writes (committed rs batch) = ap checkpoint_writes records in
@@ -114,7 +114,7 @@ step_paid (Ok u) vol now s rs old new batch this is uses records =
     omega (arith, e, same, commit_pays rs batch, uses.most, this.takes, this.cheap)
 step_paid (Err f) vol now s rs old new batch this is uses records = tt
 
-pub step_used : {T E : Type 0} (r : Result T E) (vol now : Volume) (s : OutStep) (rs : List Record) (old new : View) (batch : List Patch) → IsStepOf vol s now.tables batch
+pub step_used : {T E : Type 0} (r : Result T E) (vol now : Volume) (s : OutStep) (rs : List JournalRecord) (old new : View) (batch : List Patch) → IsStepOf vol s now.tables batch
     → rs ≡ vol.ring → Uses (commit_writes rs batch) old new → OnOk r (now.ring ≡ committed rs batch) → OnOk r (new.writes + checkpoint_writes now.ring ≤ old.writes + checkpoint_writes vol.ring + batch_cost 33)
 step_used (Ok u) vol now s rs old new batch this is uses records =
     let e : checkpoint_writes now.ring ≡ checkpoint_writes (committed rs batch) = ap checkpoint_writes records in
@@ -122,7 +122,7 @@ step_used (Ok u) vol now s rs old new batch this is uses records =
     omega (arith, e, same, commit_pays rs batch, uses.most, this.op.few)
 step_used (Err f) vol now s rs old new batch this is uses records = tt
 
-pub step_uses : (vol : Volume) (now : Tables) (s : OutStep) (rs : List Record) (old new : View) (batch : List Patch) → IsStepOf vol s now batch → rs ≡ vol.ring → Uses (commit_writes rs batch) old new → Uses (due vol) old new
+pub step_uses : (vol : Volume) (now : Tables) (s : OutStep) (rs : List JournalRecord) (old new : View) (batch : List Patch) → IsStepOf vol s now batch → rs ≡ vol.ring → Uses (commit_writes rs batch) old new → Uses (due vol) old new
 step_uses vol now s rs old new batch this is uses = record {
   clock = uses.clock;
   faults = uses.faults;
@@ -131,7 +131,7 @@ step_uses vol now s rs old new batch this is uses = record {
   most = let same : checkpoint_writes rs ≡ checkpoint_writes vol.ring = ap checkpoint_writes is in omega (arith, uses.most, same, commit_pays rs batch, this.takes, this.cheap);
 }
 
-pub step_most : (vol : Volume) (now : Tables) (s : OutStep) (rs : List Record) (old new : View) (batch : List Patch) → IsStepOf vol s now batch → rs ≡ vol.ring → Uses (commit_writes rs batch) old new → Uses (checkpoint_writes vol.ring + batch_cost 33) old new
+pub step_most : (vol : Volume) (now : Tables) (s : OutStep) (rs : List JournalRecord) (old new : View) (batch : List Patch) → IsStepOf vol s now batch → rs ≡ vol.ring → Uses (commit_writes rs batch) old new → Uses (checkpoint_writes vol.ring + batch_cost 33) old new
 step_most vol now s rs old new batch this is uses = record {
   clock = uses.clock;
   faults = uses.faults;

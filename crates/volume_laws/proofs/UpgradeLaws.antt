@@ -7,7 +7,7 @@ use Rattle.tsd_model.specs.Records.{upgraded, upgraded_record}
 use Rattle.image_device.specs.Image.{put_at}
 use Rattle.image_layout.specs.Areas.{header_sector, format_gate, caps_start}
 use Rattle.image_layout.specs.Header.{IsHeaderReading}
-use Rattle.image_layout.specs.Image.{Image, is_open}
+use Rattle.image_layout.specs.Image.{Image, says_open}
 use Rattle.image_layout.specs.declared.header.Header.{Header}
 use Rattle.image_layout.specs.declared.offset.Patch.{Patch}
 use Rattle.intent_journal.specs.Home.{overlaid}
@@ -60,7 +60,7 @@ upgrade_turn t batch h first second sound reads kept laid = record {
     slots = stored_elsewhere t.slots t.geometry z (overlaid batch z) (λ n f u. others z n (λ e. omega arith) (λ e. omega arith) (λ e. omega arith)) had.slots;
     counts = same_counts t.counts t.geometry z (overlaid batch z) (λ n f u. others z n (λ e. omega arith) (λ e. omega arith) (λ e. omega arith)) had.counts;
     records = kept (overlaid batch z) (laid z caps_start ∙ one z) (laid z (caps_start + 1) ∙ two z);
-    flag = ap is_open (others z 131 (λ e. omega arith) (λ e. omega arith) (λ e. omega arith)) ∙ had.flag;
+    flag = ap says_open (others z 131 (λ e. omega arith) (λ e. omega arith) (λ e. omega arith)) ∙ had.flag;
   };
   contents = λ z n above. others z n (λ e. omega arith) (λ e. omega arith) (λ e. omega arith);
   gate = λ z. others z format_gate (λ e. omega arith) (λ e. omega arith) (λ e. omega arith);

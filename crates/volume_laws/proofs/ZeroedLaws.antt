@@ -15,7 +15,7 @@ use Rattle.image_layout.specs.declared.offset.Patch.{Patch}
 use Rattle.intent_journal.specs.Crash.{IsBefore, IsBeforeOrAfter}
 use Rattle.intent_journal.specs.Home.{home, is_journal}
 use Rattle.intent_journal.specs.Batch.{has_home}
-use Rattle.intent_journal.specs.Records.{Record, patches_of}
+use Rattle.intent_journal.specs.Records.{JournalRecord, patches_of}
 use Rattle.intent_journal.proofs.Uses.{home_missed, at_kept}
 use Rattle.intent_journal.specs.Ring.{IsRingAt}
 use Rattle.block_alloc.specs.LiveMap.{is_live as is_marked_in}
@@ -100,8 +100,8 @@ data_unused vol v bs at free = subst (λ k. AreUnused k (home v.reads) (is_data 
     ]
 
 -- ---- the device
-pub zeroed_ring : (vol : Volume) (v : View) (bs : List ℕ) (rs : List Record) → rs ≡ vol.ring → IsZeroedAt vol v bs → IsRingAt rs v
-zeroed_ring vol v bs rs is z = subst (λ (qs : List Record). IsRingAt qs v) (sym is) (record {
+pub zeroed_ring : (vol : Volume) (v : View) (bs : List ℕ) (rs : List JournalRecord) → rs ≡ vol.ring → IsZeroedAt vol v bs → IsRingAt rs v
+zeroed_ring vol v bs rs is z = subst (λ (qs : List JournalRecord). IsRingAt qs v) (sym is) (record {
   shows = z.at.ring.shows;
   others_closed = z.at.ring.others_closed;
   journal_firm = λ n inside. z.loose n (low_data vol.tables.geometry bs n (low n inside));
@@ -191,13 +191,13 @@ pub zeroed_at : (vol now : Volume) (old new : View) (bs : List ℕ) → now.tabl
 zeroed_at vol now old new bs kept same at free missed run written = record {
   at = record {
     firm = λ n. refl;
-    ring = subst (λ (rs : List Record). IsRingAt rs (firmed new)) (sym same) ring;
+    ring = subst (λ (rs : List JournalRecord). IsRingAt rs (firmed new)) (sym same) ring;
     good = stands.good;
     tables = alike_tables (home old.reads) (home new.reads) at.good.header (unused_agree old.reads new.reads (is_data g bs) (data_unused vol old bs at free) run.reads).homes ∙ (at.tables ∙ sym kept);
   };
   loose = subst (λ (t : Tables). (n : ℕ) → is_data t.geometry bs n ≡ false → new.loose n ≡ false) (sym kept) (λ n out. run.loose n out (at.firm n));
   zeroed = subst (λ (t : Tables). (b part : ℕ) → has_number bs b ≡ true → part < t.geometry.sectors → home new.reads (data_sector t.geometry b part) ≡ zeros) (sym kept) (λ b part in_ h.
-      home_missed new.reads (data_sector g b part) (ap (λ (rs : List Record). has_home (patches_of rs) (data_sector g b part)) ring.shows ∙ missed b part in_ h) ∙ written b part in_ h);
+      home_missed new.reads (data_sector g b part) (ap (λ (rs : List JournalRecord). has_home (patches_of rs) (data_sector g b part)) ring.shows ∙ missed b part in_ h) ∙ written b part in_ h);
 }
   where
     g : Geometry

@@ -1,7 +1,6 @@
 -- What a crash leaves of a call.
-use Rattle.std.specs.Prelude.{◌≡◌, ◌⊎◌, ℕ, ◌+◌, ◌≤◌, List}
-use Rattle.tsd_model.specs.Geometry.{block_len}
-use Rattle.tsd_model.specs.Step.{filled, with_contents, without_pointer}
+use Rattle.std.specs.Prelude.{◌≡◌, ◌⊎◌, ℕ, ◌+◌, ◌≤◌}
+use Rattle.tsd_model.specs.Step.{without_pointer}
 use Rattle.tsd_model.specs.World.{World}
 use Rattle.image_device.specs.Image.{Image}
 use Rattle.image_device.specs.View.{View}
@@ -29,10 +28,6 @@ abbrev pub LeavesOwed : View → View → ℕ → Type 0
 LeavesOwed old new most = LeavesOnly old new (λ x f. debt x ≤ most)
 
 -- ---- worlds
--- the world where a block has these bytes, and zeros behind them
-abbrev pub written_world : World → ℕ → List ℕ → World
-written_world w b bytes = with_contents w b (filled (block_len w.geometry) bytes)
-
 -- how many blocks and pairs go where this pair is taken away, that pair included
 abbrev pub made : World → ℕ → ℕ → ℕ
 made w a b = doomed_size (without_pointer w a b) + 1

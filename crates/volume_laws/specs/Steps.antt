@@ -1,8 +1,7 @@
 -- Pairs that a step of reclamation takes away, in memory and in its batch.
 use Rattle.std.specs.Prelude.{◌≡◌, ℕ, ◌≤◌, ◌*◌, ◌+◌, Bool, false, cond, List, [], ◌∷◌, length, slice_set, IsTrue}
 use Rattle.tsd_model.specs.Pairs.{holds, without_pair}
-use Rattle.tsd_model.specs.World.{has_number, is_live}
-use Rattle.disk_laws.specs.Reclaiming.{all_apart}
+use Rattle.tsd_model.specs.World.{has_number, is_live, are_apart}
 use Rattle.graph_laws.specs.Steps.{IsStep}
 use Rattle.image_layout.specs.declared.offset.Patch.{Patch}
 use Rattle.pointer_table.specs.Table.{Table as Pointers}
@@ -28,7 +27,7 @@ with_slots_and_counts t p c = record t { slots = p.slots; counts = c.counts }
 -- pairs from block a to each of these are held, and none is named twice
 pub record AreHeld (t : Tables) (a : ℕ) (bs : List ℕ) : Type 0 where
   pub held : (b : ℕ) → IsTrue (has_number bs b) → IsTrue (holds (pairs_of t) a b)
-  pub once : IsTrue (all_apart bs)
+  pub once : IsTrue (are_apart bs)
 
 -- the pairs but for those from a to each of these
 abbrev pub pairs_without : List (ℕ × ℕ) → ℕ → List ℕ → List (ℕ × ℕ)

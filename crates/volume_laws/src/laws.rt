@@ -3,7 +3,7 @@
 ghost use Rattle.std.specs.Prelude.{◌≡◌, ◌+◌, ◌≤◌, cond, List, length};
 ghost use Rattle.image_layout.specs.declared.offset.Patch.{Patch};
 ghost use Rattle.image_world.specs.Tables.{Tables};
-ghost use Rattle.intent_journal.specs.Records.{Record};
+ghost use Rattle.intent_journal.specs.Records.{JournalRecord};
 ghost use Rattle.intent_journal.specs.Ring.{committed, commit_writes, checkpoint_writes};
 ghost use Rattle.pointer_table.specs.declared.out_step.OutStep.{OutStep};
 ghost use Rattle.volume_laws.specs.Graphs.{IsStepNext};
@@ -14,7 +14,7 @@ ghost use Rattle.volume_laws.specs.Writes.{batch_cost};
 /// What a commit writes, and what is due then for emptying the ring, is at most what was due and the batch's cost. So
 /// the writes of many commits are at most the sum of their costs.
 pub fn commits_are_paid_for()
-    ensures { (rs : List Record) (batch : List Patch) → commit_writes rs batch + checkpoint_writes
+    ensures { (rs : List JournalRecord) (batch : List Patch) → commit_writes rs batch + checkpoint_writes
         (committed rs batch) ≤ checkpoint_writes rs + batch_cost (length batch) }
 {}
 

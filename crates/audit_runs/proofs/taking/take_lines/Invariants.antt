@@ -1,6 +1,6 @@
 use Rattle.std.proofs.Common.{◌≡◌, ◌≤◌, ◌+◌, ◌^◌, ℕ, List, Option, length}
 use Rattle.script_text.specs.Lines.{WasFed}
-use Rattle.serving.specs.Goes.{Handed, ends_left, left_in}
+use Rattle.serving.specs.Goes.{Handed, ends_left, remaining}
 use Rattle.serving.specs.Ran.{Came, IsAtEnd}
 use Rattle.image_audit.specs.declared.listing.Listing.{Listing}
 use Rattle.audit_runs.specs.Lines.{listing_spelling}
@@ -19,8 +19,8 @@ invariant-loop-said g l =
           × Came g.S.Source.told (g.S.Source.taken before) (g.S.Source.taken l.source) (g.S.Source.left_bytes before) (g.S.Source.left_bytes l.source) bytes
           × Handed listing_spelling (λ x. WasFed x l.lines.cutter) (IsAtEnd g.S.Source.told (g.S.Source.ended l.source) (g.S.Source.left_bytes l.source)) l.intake bytes said
           × HasTaken (length l.fn.certificate.entries) said l.fault l.certificate
-          × (length said + left_in l.intake ≤ 2 ^ 40 + 513);
+          × (length said + remaining l.intake ≤ 2 ^ 40 + 513);
     }
 
 abbrev pub decreases-loop-said : goal.decreases-loop-said
-decreases-loop-said g l = left_in l.intake
+decreases-loop-said g l = remaining l.intake

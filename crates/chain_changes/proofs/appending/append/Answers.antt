@@ -10,7 +10,7 @@ use Rattle.fs_port.specs.Runs.{Changes}
 use Rattle.fs_client.proofs.AskLaws.{ask_refuses, ask_done}
 use Rattle.fs_client.proofs.RunLaws.{looks_change}
 use Rattle.fs_client.proofs.AgainLaws.{answers_again, changes_again}
-use Rattle.chain_reading.specs.Asking.{tree_of, mounted_by}
+use Rattle.chain_reading.specs.Asking.{tree_under, mounted_by}
 use Rattle.chain_changes.specs.Growing.{IsLastOf}
 use Rattle.chain_changes.proofs.GrowthLaws.{append_lost}
 use Rattle.chain_changes.proofs.AppendLaws.{nothing_needed, nothing_added, some_bytes}
@@ -31,7 +31,7 @@ returns-in-Err g c =
     let e = c.in-Err.ensures in
     let r = c.in-Err.refusal in
     let a = ask.Append path x in
-    let t0 = tree_of me first in
+    let t0 = tree_under me first in
     record {
       answer = λ t. ask_refuses (mounted_by me) first mid a (λ _ answer. answer ≡ done) r
           (λ ne. append_lost first.world.geometry t0 (free_count first.world) (length first.world.pairs) (need_of kind.Chain first.world me.root t0 a) path x r (c.requires.may.tree t) (e.refused t ne))

@@ -10,7 +10,8 @@ use Rattle.fs_trees.specs.declared.refusal.FsRefusal.TheVariants as no
 use Rattle.fs_port.specs.Files.{IsEitherTree, KeepsRoom}
 use Rattle.fs_client.specs.Client.{write_by}
 use Rattle.fs_client.proofs.LookLaws.{no_look, looks_but_refuses}
-use Rattle.fs_client.specs.Steps.{Steps, written, no_room_in}
+use Rattle.tsd_model.specs.Step.{written}
+use Rattle.fs_client.specs.Steps.{Steps, no_room_in}
 use Rattle.fs_client.proofs.KeepLaws.{no_more_room, write_takes}
 use Rattle.fs_client.proofs.AskLaws.{ask_refuses}
 use Rattle.fs_client.proofs.RunLaws.{runs_step, runs_more, runs_refused, then_runs, changes_of, looks_change, leaves_same}
@@ -18,7 +19,7 @@ use Rattle.chain_layout.specs.Block.{block_len_of}
 use Rattle.chain_layout.specs.Held.{part_cluster, part_in}
 use Rattle.chain_reading.specs.Asking.{mounted_by}
 use Rattle.chain_changes.specs.Making.{IsAside}
-use Rattle.chain_changes.specs.Filling.{first_block}
+use Rattle.tsd_model.specs.Placing.{first_block}
 use Rattle.chain_changes.proofs.FileLaws.{long_room}
 use Rattle.chain_changes.proofs.WriteLaws.{first_linked}
 use Rattle.chain_changes.specs.Growing.{IsLastOf, clusters_more, NewTail}

@@ -2,9 +2,8 @@ use Rattle.std.proofs.Common.{◌≡◌, ◌*◌, ◌≤◌, length, sym, ◌∙
 use Rattle.std.proofs.Math.Nat.{div-le_self}
 use Rattle.std.specs.Int.{div_ceil}
 use Rattle.tsd_model.specs.Geometry.{block_len}
-use Rattle.tsd_model.specs.World.{has_number}
+use Rattle.tsd_model.specs.World.{has_number, are_apart}
 use Rattle.fs_trees.specs.Cluster.{bytes_room}
-use Rattle.fs_trees.specs.Inode.{are_apart}
 use Rattle.fs_client.specs.Steps.{no_room_in}
 use Rattle.fs_port.specs.Runs.{Runs}
 use Rattle.fs_client.proofs.RunLaws.{runs_as, runs_more, runs_refused, then_runs}

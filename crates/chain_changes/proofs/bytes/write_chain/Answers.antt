@@ -4,8 +4,9 @@ use Rattle.std.proofs.lemmas.List.{length-take}
 use Rattle.tsd_model.specs.Geometry.{block_len}
 use Rattle.fs_trees.specs.Cluster.{bytes_room, link_field, part_bytes}
 use Rattle.fs_client.specs.Client.{write_by}
-use Rattle.fs_client.specs.Steps.{Steps, written}
-use Rattle.chain_changes.specs.Filling.{first_block}
+use Rattle.tsd_model.specs.Step.{written}
+use Rattle.fs_client.specs.Steps.{Steps}
+use Rattle.tsd_model.specs.Placing.{first_block}
 use Rattle.chain_changes.proofs.WriteLaws.{Writing, part_length, next_linked, writing_begins, writing_ends, writing_on, runs_on, may_now}
 use Rattle.chain_changes.proofs.bytes.write_chain.Goals as goal
 

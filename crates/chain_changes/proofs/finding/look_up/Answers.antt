@@ -1,6 +1,6 @@
 use Rattle.std.proofs.Common.{◌≡◌, ◌∷◌, sym, ◌∙◌, ap, Some}
 use Rattle.fs_client.specs.Changing.{lookup_refusal}
-use Rattle.chain_reading.specs.Asking.{tree_of}
+use Rattle.chain_reading.specs.Asking.{tree_under}
 use Rattle.chain_reading.proofs.KnownLaws.{is_known, has_directory, path_of_two}
 use Rattle.chain_changes.proofs.PlaceLaws.{is_at, lost}
 use Rattle.chain_changes.proofs.finding.look_up.Goals as goal
@@ -25,7 +25,7 @@ returns-in-Ok-search-clause-refused g c = λ t ne.
     let n = c.name-item-2.result in
     let parts = path_of_two c.as_slice.result.now n c.in-len2-up.len_at_least c.name-item-2.is in
     let path : c.args.path.now ≡ n ∷ parts.0 ∷ parts.1 = sym c.as_slice.ensures.value ∙ parts.2 in
-    ap (λ p. lookup_refusal (tree_of c.args.client.now old) p c.args.at_root) path
+    ap (λ p. lookup_refusal (tree_under c.args.client.now old) p c.args.at_root) path
     ∙ (lost g.K.Blocks.told c.args.client.now old new t c.requires.may (g.met.K.Blocks.sound c.args.disk.now t c.requires.may.ready.unspent) (c.in-Ok-search.ensures.looks.looked t).0 n c.in-Ok-search.position
     (λ ls ps ahead. c.in-Ok-search.ensures.found t ls ps ahead) parts.0 parts.1
     ∙ ap (λ e. Some e) (sym c.no_way.ensures))

@@ -10,14 +10,15 @@ use Rattle.fs_trees.specs.declared.ask.ShellAsk.TheVariants as ask
 use Rattle.fs_trees.specs.declared.refusal.FsRefusal.{FsRefusal}
 use Rattle.fs_port.specs.Files.{IsEitherTree, KeepsRoom, need_on}
 use Rattle.fs_client.specs.Client.{write_by}
-use Rattle.fs_client.specs.Steps.{Leads, Steps, written, no_room_in}
+use Rattle.tsd_model.specs.Step.{written}
+use Rattle.fs_client.specs.Steps.{Leads, Steps, no_room_in}
 use Rattle.fs_client.specs.Changing.{refused_on}
 use Rattle.fs_port.specs.Runs.{Runs}
 use Rattle.fs_client.proofs.KeepLaws.{no_more_room, write_takes}
 use Rattle.fs_client.proofs.AskLaws.{ask_refuses}
 use Rattle.fs_client.proofs.RunLaws.{runs_step, runs_more, then_runs, runs_refused, changes_of, leaves_same}
 use Rattle.chain_layout.specs.Block.{cluster_of, block_len_of}
-use Rattle.chain_layout.specs.Held.{cluster_in, entries_in}
+use Rattle.chain_layout.specs.Held.{dir_cluster, entries_in}
 use Rattle.chain_layout.specs.Listed.{listed_at}
 use Rattle.chain_reading.specs.Chained.{AreOthers}
 use Rattle.chain_reading.specs.Changed.{file_names}
@@ -103,7 +104,7 @@ directory_with-entered-requires g c =
     record {
       named = let long = ap length c.as_slice.ensures.value in let few = c.as_slice.ensures.fits in omega (arith, long, few);
       within = omega (arith, position);
-      fits = subst (λ k. k < entries_room (block_len_of (cluster_in c.args.page.now.cluster))) (sym position) room;
+      fits = subst (λ k. k < entries_room (block_len_of (dir_cluster c.args.page.now.cluster))) (sym position) room;
     }
 
 pub write_block-requires : goal.write_block-requires
@@ -133,7 +134,7 @@ write_block-requires g c =
     let before : Runs told old mid P (Ok blocks) = runs_more told old mid (IsAside me.root old.world) P (Ok blocks) (λ t w aside. aside_either me old n page (x t) body w aside) e.runs in
     let now = λ (t : told). (e.runs.valid t).0 in
     let b = slice_index_or blocks 0 0 in
-    let next = (cluster_of (cluster_in page.cluster)).next in
+    let next = (cluster_of (dir_cluster page.cluster)).next in
     let bytes = directory_bytes next (entries_in page.cluster ++ (record { name = n; block = b } ∷ [])) in
     let is : c.directory_with-entered.result ≡ directory_bytes next (entries_in page.cluster ++ (record { name = n; block = b } ∷ [])) =
     c.directory_with-entered.ensures
@@ -174,7 +175,7 @@ returns-in-Err-write_block g c =
     let before : Runs told old mid P (Ok blocks) = runs_more told old mid (IsAside me.root old.world) P (Ok blocks) (λ t w aside. aside_either me old n page (x t) body w aside) e.runs in
     let now = λ (t : told). (e.runs.valid t).0 in
     let b = slice_index_or blocks 0 0 in
-    let next = (cluster_of (cluster_in page.cluster)).next in
+    let next = (cluster_of (dir_cluster page.cluster)).next in
     let bytes = directory_bytes next (entries_in page.cluster ++ (record { name = n; block = b } ∷ [])) in
     let is : c.directory_with-entered.result ≡ directory_bytes next (entries_in page.cluster ++ (record { name = n; block = b } ∷ [])) =
     c.directory_with-entered.ensures
@@ -220,7 +221,7 @@ returns-in-Ok-write_block g c =
     let before : Runs told old mid P (Ok blocks) = runs_more told old mid (IsAside me.root old.world) P (Ok blocks) (λ t w aside. aside_either me old n page (x t) body w aside) e.runs in
     let now = λ (t : told). (e.runs.valid t).0 in
     let b = slice_index_or blocks 0 0 in
-    let next = (cluster_of (cluster_in page.cluster)).next in
+    let next = (cluster_of (dir_cluster page.cluster)).next in
     let bytes = directory_bytes next (entries_in page.cluster ++ (record { name = n; block = b } ∷ [])) in
     let is : c.directory_with-entered.result ≡ directory_bytes next (entries_in page.cluster ++ (record { name = n; block = b } ∷ [])) =
     c.directory_with-entered.ensures

@@ -12,7 +12,8 @@ use Rattle.fs_trees.specs.declared.refusal.FsRefusal.{FsRefusal}
 use Rattle.fs_port.specs.Files.{IsEitherTree, KeepsRoom, need_on}
 use Rattle.fs_client.specs.Client.{write_by}
 use Rattle.fs_client.specs.May.{MayWrite}
-use Rattle.fs_client.specs.Steps.{Leads, Steps, written, no_room_in}
+use Rattle.tsd_model.specs.Step.{written}
+use Rattle.fs_client.specs.Steps.{Leads, Steps, no_room_in}
 use Rattle.fs_client.specs.Changing.{refused_on}
 use Rattle.fs_port.specs.Runs.{Runs}
 use Rattle.fs_client.proofs.KeepLaws.{no_more_room, write_takes}

@@ -13,7 +13,7 @@ use Rattle.fs_client.proofs.AskLaws.{ask_refuses}
 use Rattle.fs_client.proofs.RunLaws.{looks_change}
 use Rattle.fs_client.proofs.AgainLaws.{answers_again, changes_again}
 use Rattle.chain_layout.specs.Block.{cluster_of, block_len_of}
-use Rattle.chain_layout.specs.Held.{cluster_in, entries_in}
+use Rattle.chain_layout.specs.Held.{dir_cluster, entries_in}
 use Rattle.chain_reading.specs.Asking.{MayAsk, mounted_by}
 use Rattle.chain_reading.specs.Finding.{IsLookupWithin}
 use Rattle.chain_changes.specs.Lookups.{IsLookupOf}
@@ -111,12 +111,12 @@ add-requires g c =
     let page = c.in-Free.page in
     let used = entries_used page in
     let fewer = c.if-count-ge-NAMES_MAX.false in
-    let test : nat_lt (cluster_of (cluster_in page.cluster)).used (entries_room (block_len_of (cluster_in page.cluster))) ≡ true = sym c.has_room.ensures ∙ c.if-has_room.true in
+    let test : nat_lt (cluster_of (dir_cluster page.cluster)).used (entries_room (block_len_of (dir_cluster page.cluster))) ≡ true = sym c.has_room.ensures ∙ c.if-has_room.true in
     record {
       may = may_ask_again told me first mid c.in-Ok.found e.looks c.requires.may;
       found = λ t. subst (IsLookupOf me mid n) c.in-Free.is (e.found t);
       few = omega (arith, fewer);
-      room = tested (length (entries_in page.cluster)) (cluster_of (cluster_in page.cluster)).used (entries_room (block_len_of (cluster_in page.cluster))) used test;
+      room = tested (length (entries_in page.cluster)) (cluster_of (dir_cluster page.cluster)).used (entries_room (block_len_of (dir_cluster page.cluster))) used test;
       named = name_of_path path n e.path c.requires.named;
     }
   where
@@ -141,12 +141,12 @@ extend-requires g c =
     let page = c.in-Free.page in
     let used = entries_used page in
     let fewer = c.if-count-ge-NAMES_MAX.false in
-    let test : nat_lt (cluster_of (cluster_in page.cluster)).used (entries_room (block_len_of (cluster_in page.cluster))) ≡ false = sym c.has_room.ensures ∙ c.if-has_room.false in
+    let test : nat_lt (cluster_of (dir_cluster page.cluster)).used (entries_room (block_len_of (dir_cluster page.cluster))) ≡ false = sym c.has_room.ensures ∙ c.if-has_room.false in
     record {
       may = may_ask_again told me first mid c.in-Ok.found e.looks c.requires.may;
       found = λ t. subst (IsLookupOf me mid n) c.in-Free.is (e.found t);
       few = omega (arith, fewer);
-      full = tested (length (entries_in page.cluster)) (cluster_of (cluster_in page.cluster)).used (entries_room (block_len_of (cluster_in page.cluster))) used test;
+      full = tested (length (entries_in page.cluster)) (cluster_of (dir_cluster page.cluster)).used (entries_room (block_len_of (dir_cluster page.cluster))) used test;
       named = name_of_path path n e.path c.requires.named;
     }
   where

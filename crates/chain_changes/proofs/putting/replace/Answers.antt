@@ -10,7 +10,8 @@ use Rattle.fs_trees.specs.declared.ask.ShellAsk.TheVariants as ask
 use Rattle.fs_trees.specs.declared.refusal.FsRefusal.{FsRefusal}
 use Rattle.fs_port.specs.Files.{IsEitherTree, KeepsRoom, need_on}
 use Rattle.fs_client.specs.Client.{write_by, unlink_by}
-use Rattle.fs_client.specs.Steps.{Leads, Went, written, no_room_in}
+use Rattle.tsd_model.specs.Step.{written}
+use Rattle.fs_client.specs.Steps.{Leads, Went, no_room_in}
 use Rattle.fs_client.specs.Changing.{refused_on}
 use Rattle.fs_port.specs.Runs.{Runs}
 use Rattle.fs_client.proofs.KeepLaws.{no_more_room, write_takes, drop_takes}
@@ -18,7 +19,7 @@ use Rattle.fs_client.proofs.AskLaws.{ask_refuses}
 use Rattle.fs_client.proofs.RunLaws.{runs_step, runs_more, then_runs, runs_as, runs_refused, changes_of, leaves_same}
 use Rattle.fs_client.proofs.MayLaws.{may_after}
 use Rattle.chain_layout.specs.Block.{cluster_of, block_len_of}
-use Rattle.chain_layout.specs.Held.{cluster_in, entries_in}
+use Rattle.chain_layout.specs.Held.{dir_cluster, entries_in}
 use Rattle.chain_layout.specs.Listed.{listed_at}
 use Rattle.chain_changes.specs.Making.{IsAside}
 use Rattle.chain_reading.specs.Asking.{mounted_by}
@@ -138,7 +139,7 @@ write_block-requires g c =
     let now = λ (t : told). (e.runs.valid t).0 in
     let wr_bytes = c.directory_with-entered.result in
     let b = slice_index_or blocks 0 0 in
-    let next = (cluster_of (cluster_in page.cluster)).next in
+    let next = (cluster_of (dir_cluster page.cluster)).next in
     let at : told → IsEntry n (entries_in page.cluster) position first = λ t. (the_taken me old n page (c.requires.may.valid t) (c.requires.may.tree t) (primary t) c.requires.named position first (c.requires.found t)).entry in
     let is : (t : told) → c.directory_with-entered.result ≡ directory_bytes next ((at t).front ++ (record { name = n; block = b } ∷ (at t).back)) = λ t.
     c.directory_with-entered.ensures
@@ -180,7 +181,7 @@ returns-in-Err-write_block g c =
     let now = λ (t : told). (e.runs.valid t).0 in
     let wr_bytes = c.directory_with-entered.result in
     let b = slice_index_or blocks 0 0 in
-    let next = (cluster_of (cluster_in page.cluster)).next in
+    let next = (cluster_of (dir_cluster page.cluster)).next in
     let at : told → IsEntry n (entries_in page.cluster) position first = λ t. (the_taken me old n page (c.requires.may.valid t) (c.requires.may.tree t) (primary t) c.requires.named position first (c.requires.found t)).entry in
     let is : (t : told) → c.directory_with-entered.result ≡ directory_bytes next ((at t).front ++ (record { name = n; block = b } ∷ (at t).back)) = λ t.
     c.directory_with-entered.ensures
@@ -227,7 +228,7 @@ drop_pointer-requires g c =
     let now = λ (t : told). (e.runs.valid t).0 in
     let wr_bytes = c.directory_with-entered.result in
     let b = slice_index_or blocks 0 0 in
-    let next = (cluster_of (cluster_in page.cluster)).next in
+    let next = (cluster_of (dir_cluster page.cluster)).next in
     let at : told → IsEntry n (entries_in page.cluster) position first = λ t. (the_taken me old n page (c.requires.may.valid t) (c.requires.may.tree t) (primary t) c.requires.named position first (c.requires.found t)).entry in
     let is : (t : told) → c.directory_with-entered.result ≡ directory_bytes next ((at t).front ++ (record { name = n; block = b } ∷ (at t).back)) = λ t.
     c.directory_with-entered.ensures
@@ -276,7 +277,7 @@ returns-in-Ok-drop_pointer g c =
     let now = λ (t : told). (e.runs.valid t).0 in
     let wr_bytes = c.directory_with-entered.result in
     let b = slice_index_or blocks 0 0 in
-    let next = (cluster_of (cluster_in page.cluster)).next in
+    let next = (cluster_of (dir_cluster page.cluster)).next in
     let at : told → IsEntry n (entries_in page.cluster) position first = λ t. (the_taken me old n page (c.requires.may.valid t) (c.requires.may.tree t) (primary t) c.requires.named position first (c.requires.found t)).entry in
     let is : (t : told) → c.directory_with-entered.result ≡ directory_bytes next ((at t).front ++ (record { name = n; block = b } ∷ (at t).back)) = λ t.
     c.directory_with-entered.ensures
@@ -340,7 +341,7 @@ returns-in-Err-drop_pointer g c =
     let now = λ (t : told). (e.runs.valid t).0 in
     let wr_bytes = c.directory_with-entered.result in
     let b = slice_index_or blocks 0 0 in
-    let next = (cluster_of (cluster_in page.cluster)).next in
+    let next = (cluster_of (dir_cluster page.cluster)).next in
     let at : told → IsEntry n (entries_in page.cluster) position first = λ t. (the_taken me old n page (c.requires.may.valid t) (c.requires.may.tree t) (primary t) c.requires.named position first (c.requires.found t)).entry in
     let is : (t : told) → c.directory_with-entered.result ≡ directory_bytes next ((at t).front ++ (record { name = n; block = b } ∷ (at t).back)) = λ t.
     c.directory_with-entered.ensures

@@ -11,14 +11,15 @@ use Rattle.fs_trees.specs.declared.refusal.FsRefusal.TheVariants as no
 use Rattle.fs_port.specs.Files.{IsEitherTree, KeepsRoom}
 use Rattle.fs_client.specs.Client.{write_by, unlink_by}
 use Rattle.fs_client.proofs.LookLaws.{looks_refused, looks_but_refuses}
-use Rattle.fs_client.specs.Steps.{Steps, written}
+use Rattle.tsd_model.specs.Step.{written}
+use Rattle.fs_client.specs.Steps.{Steps}
 use Rattle.fs_client.proofs.KeepLaws.{no_more_room, write_takes, drop_takes}
 use Rattle.fs_client.proofs.AskLaws.{ask_refuses, rm_lost, rm_missing}
 use Rattle.fs_client.proofs.RunLaws.{runs_look, runs_step, then_runs, runs_as, runs_refused, changes_of, looks_change, as_before, same_room}
 use Rattle.chain_layout.specs.Block.{cluster_of}
-use Rattle.chain_layout.specs.Held.{cluster_in, entries_in}
+use Rattle.chain_layout.specs.Held.{dir_cluster, entries_in}
 use Rattle.chain_layout.specs.Listed.{unlisted_at}
-use Rattle.chain_reading.specs.Asking.{tree_of, mounted_by}
+use Rattle.chain_reading.specs.Asking.{tree_under, mounted_by}
 use Rattle.chain_reading.specs.Finding.{IsLookupWithin}
 use Rattle.chain_changes.specs.Lookups.{IsLookupOf}
 use Rattle.chain_changes.proofs.PlaceLaws.{free_at}
@@ -39,7 +40,7 @@ returns-in-Err g c =
     let e = c.in-Err.ensures in
     let r = c.in-Err.refusal in
     let a = ask.Rm path in
-    let t0 = tree_of me first in
+    let t0 = tree_under me first in
     record {
       answer = λ t. ask_refuses (mounted_by me) first mid a (λ _ answer. answer ≡ done) r
           (λ ne. rm_lost kind.Chain first.world.geometry t0 (free_count first.world) (length first.world.pairs) (need_of kind.Chain first.world me.root t0 a) (c.requires.may.tree t) path r (e.refused t ne))
@@ -57,7 +58,7 @@ returns-in-Free g c =
     let n = c.in-Ok.found.1.now in
     let e = c.in-Ok.ensures in
     let a = ask.Rm path in
-    let t0 = tree_of me first in
+    let t0 = tree_under me first in
     record {
       answer = λ t.
           let same = (e.looks.looked t).0.world in
@@ -121,7 +122,7 @@ returns-in-Err-write_block g c =
       way = e.none t;
     } in
     let d = page.block in
-    let bytes = directory_bytes (cluster_of (cluster_in page.cluster)).next (unlisted_at position (entries_in page.cluster)) in
+    let bytes = directory_bytes (cluster_of (dir_cluster page.cluster)).next (unlisted_at position (entries_in page.cluster)) in
     let a = ask.Rm path in
     let P = IsEitherTree (mounted_by me) first a in
     let before = runs_look told first mid P (Ok c.in-Ok.found) (λ t w is. as_before (mounted_by me) first a w (c.requires.may.valid t).valid is) e.looks in
@@ -190,7 +191,7 @@ returns-in-Ok-drop_pointer g c =
       way = e.none t;
     } in
     let d = page.block in
-    let bytes = directory_bytes (cluster_of (cluster_in page.cluster)).next (unlisted_at position (entries_in page.cluster)) in
+    let bytes = directory_bytes (cluster_of (dir_cluster page.cluster)).next (unlisted_at position (entries_in page.cluster)) in
     let a = ask.Rm path in
     let P = IsEitherTree (mounted_by me) first a in
     let before = runs_look told first mid P (Ok c.in-Ok.found) (λ t w is. as_before (mounted_by me) first a w (c.requires.may.valid t).valid is) e.looks in
@@ -237,7 +238,7 @@ returns-in-Err-drop_pointer g c =
       way = e.none t;
     } in
     let d = page.block in
-    let bytes = directory_bytes (cluster_of (cluster_in page.cluster)).next (unlisted_at position (entries_in page.cluster)) in
+    let bytes = directory_bytes (cluster_of (dir_cluster page.cluster)).next (unlisted_at position (entries_in page.cluster)) in
     let a = ask.Rm path in
     let P = IsEitherTree (mounted_by me) first a in
     let before = runs_look told first mid P (Ok c.in-Ok.found) (λ t w is. as_before (mounted_by me) first a w (c.requires.may.valid t).valid is) e.looks in

@@ -5,7 +5,7 @@ use Rattle.fs_client.specs.Trimming.{Trims}
 use Rattle.fs_client.proofs.TrimLaws.{trims_by_looks, trims_refused, then_trims}
 use Rattle.fs_client.proofs.RootLaws.{root_may}
 use Rattle.chain_layout.specs.Block.{cluster_of}
-use Rattle.chain_layout.specs.Held.{cluster_in}
+use Rattle.chain_layout.specs.Held.{dir_cluster}
 use Rattle.chain_fs.specs.Tidying.{named_of, AreClean, FilesAreClean}
 use Rattle.chain_fs.proofs.TidyLaws.{tidy_still, trims_refuse}
 use Rattle.chain_fs.proofs.PageLaws.{dir_starts, dir_named, page_there, page_read, dir_on, dir_ends, dir_short}
@@ -106,7 +106,7 @@ returns-in-None-clause-clean g c = λ t.
     let n = named_of g.kept in
     let inv = c.loop-turn.invariant in
     let page = c.in-Ok.page in
-    let cl = cluster_of (cluster_in page.cluster) in
+    let cl = cluster_of (dir_cluster page.cluster) in
     let is = c.in-Ok.ensures.page t in
     let e = c.in-Ok-tidy_page.ensures in
     let seen = trims_by_looks told me n cur mid (Ok page) inv.tree.valid (λ u. (inv.tree.stands u).under) (λ u. tt) c.in-Ok.ensures.looks in
@@ -127,7 +127,7 @@ loop-turn-preserved g c =
     let inv = c.loop-turn.invariant in
     let page = c.in-Ok.page in
     let b = c.loop-turn.block in
-    let cl = cluster_of (cluster_in page.cluster) in
+    let cl = cluster_of (dir_cluster page.cluster) in
     let e = c.in-Ok-tidy_page.ensures in
     let seen = trims_by_looks told me n cur mid (Ok page) inv.tree.valid (λ t. (inv.tree.stands t).under) (λ t. tt) c.in-Ok.ensures.looks in
     let both : Trims {X = Unit {0}} told me n cur new (Ok tt) = then_trims told me n cur mid new page (Ok tt) seen e.trims in

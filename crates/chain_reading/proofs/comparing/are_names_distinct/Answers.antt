@@ -5,7 +5,7 @@ use Rattle.fs_laws.specs.Ways.{HoldsWrite}
 use Rattle.fs_port.specs.View.{state_of}
 use Rattle.fs_client.proofs.LookLaws.{no_look, then_looks, looks_as, looks_refused, looks_but_refuses}
 use Rattle.chain_layout.specs.Block.{cluster_of}
-use Rattle.chain_layout.specs.Held.{cluster_in, entries_in}
+use Rattle.chain_layout.specs.Held.{dir_cluster, entries_in}
 use Rattle.chain_reading.specs.Comparing.{AreFirstDistinct}
 use Rattle.chain_reading.specs.Finding.{placed_names}
 use Rattle.chain_reading.proofs.NameLaws.{distinct_passes, distinct_stops}
@@ -83,7 +83,7 @@ returns-in-Ok-false-clause-distinct g c = λ t ls ps pages.
     let read = c.in-Ok.ensures.page t in
     let looks = c.in-Ok.ensures.looks in
     let es = entry_names (entries_in page.cluster) in
-    sym (left_stops c.args.client.now first cur c.loop-position.position c.loop-position.block are_distinct (placed_names ps) left (cluster_of (cluster_in page.cluster)) (entries_in page.cluster) read.read.says read.entries false
+    sym (left_stops c.args.client.now first cur c.loop-position.position c.loop-position.block are_distinct (placed_names ps) left (cluster_of (dir_cluster page.cluster)) (entries_in page.cluster) read.read.says read.entries false
     (distinct_stops es (placed_names left.entries) (subst (AreFirstDistinct es (placed_names left.entries)) c.in-Ok-false.field-0-test (c.in-Ok-false.ensures.distinct t left.chain left.entries
     (pages_at c.args.client.now cur mid c.loop-position.block left.chain left.entries page (looks.looked t).0 looks.stays.0 (inv.looks.looked t).0.valid left.ahead read)))))
 
@@ -120,7 +120,7 @@ returns-in-None-clause-distinct g c = λ t ls ps pages.
     let read = c.in-Ok.ensures.page t in
     let looks = c.in-Ok.ensures.looks in
     let es = entry_names (entries_in page.cluster) in
-    sym (left_ends c.args.client.now first cur c.loop-position.position c.loop-position.block are_distinct (placed_names ps) left (cluster_of (cluster_in page.cluster)) (entries_in page.cluster) read.read.says read.entries
+    sym (left_ends c.args.client.now first cur c.loop-position.position c.loop-position.block are_distinct (placed_names ps) left (cluster_of (dir_cluster page.cluster)) (entries_in page.cluster) read.read.says read.entries
     (distinct_passes es (placed_names left.entries) (subst (AreFirstDistinct es (placed_names left.entries)) c.in-Ok-true.field-0-test (c.in-Ok-true.ensures.distinct t left.chain left.entries
     (pages_at c.args.client.now cur mid c.loop-position.block left.chain left.entries page (looks.looked t).0 looks.stays.0 (inv.looks.looked t).0.valid left.ahead read))))
     (sym (c.next.ensures.value ∙ ap (λ k. (cluster_of k).next) c.cluster.ensures) ∙ c.in-None.is))
@@ -151,7 +151,7 @@ loop-position-preserved g c =
       left = λ t ls ps pages.
           let left = inv.left t ls ps pages in
           let read = c.in-Ok.ensures.page t in
-          left_on c.args.client.now first cur c.loop-position.position c.loop-position.block are_distinct (placed_names ps) left (cluster_of (cluster_in page.cluster)) (entries_in page.cluster) read.read.says read.entries
+          left_on c.args.client.now first cur c.loop-position.position c.loop-position.block are_distinct (placed_names ps) left (cluster_of (dir_cluster page.cluster)) (entries_in page.cluster) read.read.says read.entries
           (distinct_passes es (placed_names left.entries) (subst (AreFirstDistinct es (placed_names left.entries)) c.in-Ok-true.field-0-test (c.in-Ok-true.ensures.distinct t left.chain left.entries
           (pages_at c.args.client.now cur mid c.loop-position.block left.chain left.entries page (looks.looked t).0 looks.stays.0 (inv.looks.looked t).0.valid left.ahead read))))
           new c.in-Some.next (sym (c.next.ensures.value ∙ ap (λ k. (cluster_of k).next) c.cluster.ensures) ∙ c.in-Some.is)

@@ -2,7 +2,7 @@ use Rattle.std.proofs.Common.{sym, ◌∙◌, ap, Ok, Err}
 use Rattle.fs_trees.specs.Fields.{entry_names}
 use Rattle.fs_client.proofs.LookLaws.{no_look, then_looks, looks_as, looks_refused, looks_but_refuses}
 use Rattle.chain_layout.specs.Block.{cluster_of}
-use Rattle.chain_layout.specs.Held.{cluster_in, entries_in}
+use Rattle.chain_layout.specs.Held.{dir_cluster, entries_in}
 use Rattle.chain_reading.specs.Comparing.{are_apart_from}
 use Rattle.chain_reading.proofs.NameLaws.{apart_passes, apart_stops, apart_from_none}
 use Rattle.chain_reading.proofs.LoopLaws.{over_is}
@@ -52,7 +52,7 @@ returns-then-shares_a_name-clause-apart g c = λ t ls ps pages.
     let read = c.in-Ok.ensures.page t in
     let es = entries_in c.in-Ok.later.cluster in
     let names = entry_names (entries_in c.args.page.now) in
-    sym (left_stops c.args.client.now first cur c.loop-position.position c.loop-position.block (are_apart_from names) _ (c.loop-position.invariant.left t ls ps pages) (cluster_of (cluster_in c.in-Ok.later.cluster)) es read.read.says read.entries
+    sym (left_stops c.args.client.now first cur c.loop-position.position c.loop-position.block (are_apart_from names) _ (c.loop-position.invariant.left t ls ps pages) (cluster_of (dir_cluster c.in-Ok.later.cluster)) es read.read.says read.entries
     _ (λ ns parts. apart_stops names (entry_names es) (sym c.shares_a_name.ensures ∙ c.if-shares_a_name.true) ns))
 
 pub returns-then-shares_a_name-clause-looks : goal.returns-then-shares_a_name-clause-looks
@@ -70,7 +70,7 @@ returns-in-None-clause-apart g c = λ t ls ps pages.
     let read = c.in-Ok.ensures.page t in
     let es = entries_in c.in-Ok.later.cluster in
     let names = entry_names (entries_in c.args.page.now) in
-    sym (left_ends c.args.client.now first cur c.loop-position.position c.loop-position.block (are_apart_from names) _ (c.loop-position.invariant.left t ls ps pages) (cluster_of (cluster_in c.in-Ok.later.cluster)) es read.read.says read.entries
+    sym (left_ends c.args.client.now first cur c.loop-position.position c.loop-position.block (are_apart_from names) _ (c.loop-position.invariant.left t ls ps pages) (cluster_of (dir_cluster c.in-Ok.later.cluster)) es read.read.says read.entries
     (λ ns parts. apart_passes names (entry_names es) (sym c.shares_a_name.ensures ∙ c.if-shares_a_name.false) ns) (sym (c.next.ensures.value ∙ ap (λ k. (cluster_of k).next) c.cluster.ensures) ∙ c.in-None.is)
     ∙ apart_from_none names)
 
@@ -95,7 +95,7 @@ loop-position-preserved g c =
       looks = then_looks told first cur new tt (Ok tt) inv.looks (looks_as told cur new c.in-Ok.later tt c.in-Ok.ensures.looks);
       left = λ t ls ps pages.
           let read = c.in-Ok.ensures.page t in
-          left_on c.args.client.now first cur c.loop-position.position c.loop-position.block (are_apart_from names) _ (inv.left t ls ps pages) (cluster_of (cluster_in c.in-Ok.later.cluster)) es read.read.says read.entries
+          left_on c.args.client.now first cur c.loop-position.position c.loop-position.block (are_apart_from names) _ (inv.left t ls ps pages) (cluster_of (dir_cluster c.in-Ok.later.cluster)) es read.read.says read.entries
           (λ ns parts. apart_passes names (entry_names es) (sym c.shares_a_name.ensures ∙ c.if-shares_a_name.false) ns) new c.in-Some.next (sym (c.next.ensures.value ∙ ap (λ k. (cluster_of k).next) c.cluster.ensures) ∙ c.in-Some.is)
           (c.in-Ok.ensures.looks.looked t).0 c.in-Ok.ensures.looks.stays.0 (c.in-Ok.ensures.held t);
     }

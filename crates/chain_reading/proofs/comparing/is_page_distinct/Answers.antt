@@ -2,7 +2,7 @@ use Rattle.std.proofs.Common.{sym, ◌∙◌, ap}
 use Rattle.fs_trees.specs.Fields.{entry_names}
 use Rattle.fs_client.proofs.LookLaws.{no_look, looks_as}
 use Rattle.chain_layout.specs.Block.{cluster_of}
-use Rattle.chain_layout.specs.Held.{cluster_in, entries_in}
+use Rattle.chain_layout.specs.Held.{dir_cluster, entries_in}
 use Rattle.chain_reading.proofs.NameLaws.{first_none, first_distinct, first_twice, first_alone}
 use Rattle.chain_reading.proofs.PageLaws.{first_page, pages_on, none_behind}
 use Rattle.chain_reading.proofs.comparing.is_page_distinct.Goals as goal
@@ -12,7 +12,7 @@ returns-then-count-eq0-clause-distinct g c = λ t ls ps pages.
     let v = g.K.Blocks.view c.args.disk.now in
     let page = c.args.page.now in
     let read = c.requires.read t in
-    let first = first_page c.args.client.now v page.block ls ps pages (cluster_of (cluster_in page.cluster)) (entries_in page.cluster) read.read.says read.entries in
+    let first = first_page c.args.client.now v page.block ls ps pages (cluster_of (dir_cluster page.cluster)) (entries_in page.cluster) read.read.says read.entries in
     first_none (entries_in page.cluster) _ _ first.names (sym c.count.ensures.value ∙ c.if-count-eq0.true)
 
 pub returns-then-count-eq0-clause-looks : goal.returns-then-count-eq0-clause-looks
@@ -26,7 +26,7 @@ returns-then-not-has_distinct_names-clause-distinct g c = λ t ls ps pages.
     let v = g.K.Blocks.view c.args.disk.now in
     let page = c.args.page.now in
     let read = c.requires.read t in
-    let first = first_page c.args.client.now v page.block ls ps pages (cluster_of (cluster_in page.cluster)) (entries_in page.cluster) read.read.says read.entries in
+    let first = first_page c.args.client.now v page.block ls ps pages (cluster_of (dir_cluster page.cluster)) (entries_in page.cluster) read.read.says read.entries in
     first_twice (entry_names (entries_in page.cluster)) _ _ first.names (sym c.has_distinct_names.ensures ∙ c.if-not-has_distinct_names.true)
 
 pub returns-then-not-has_distinct_names-clause-looks :
@@ -47,7 +47,7 @@ is_apart_from-requires-clause-pages g c = λ t.
     let page = c.args.page.now in
     let read = c.requires.read t in
     let all = c.requires.pages t in
-    let cl = cluster_of (cluster_in page.cluster) in
+    let cl = cluster_of (dir_cluster page.cluster) in
     let es = entries_in page.cluster in
     let none = no_look g.K.Blocks.told v c.requires.unspent (λ u. g.met.K.Blocks.sound c.args.disk.now u c.requires.unspent) c.requires.valid in
     let first = first_page c.args.client.now v page.block all.0 all.1 all.2 cl es read.read.says read.entries in (
@@ -62,7 +62,7 @@ returns-in-Some-clause-distinct g c = λ t ls ps pages.
     let v = g.K.Blocks.view c.args.disk.now in
     let page = c.args.page.now in
     let read = c.requires.read t in
-    let cl = cluster_of (cluster_in page.cluster) in
+    let cl = cluster_of (dir_cluster page.cluster) in
     let es = entries_in page.cluster in
     let none = no_look g.K.Blocks.told v c.requires.unspent (λ u. g.met.K.Blocks.sound c.args.disk.now u c.requires.unspent) c.requires.valid in
     let first = first_page c.args.client.now v page.block ls ps pages cl es read.read.says read.entries in
@@ -81,7 +81,7 @@ returns-in-None-clause-distinct g c = λ t ls ps pages.
     let v = g.K.Blocks.view c.args.disk.now in
     let page = c.args.page.now in
     let read = c.requires.read t in
-    let cl = cluster_of (cluster_in page.cluster) in
+    let cl = cluster_of (dir_cluster page.cluster) in
     let es = entries_in page.cluster in
     let first = first_page c.args.client.now v page.block ls ps pages cl es read.read.says read.entries in
     first_alone (entry_names es) _ _ first.names

@@ -1,5 +1,5 @@
 use Rattle.std.proofs.Common.{◌≡◌, ◌∷◌, sym, ◌∙◌, ap, Some}
-use Rattle.chain_reading.specs.Asking.{tree_of}
+use Rattle.chain_reading.specs.Asking.{tree_under}
 use Rattle.chain_reading.specs.Finding.{no_directory_found}
 use Rattle.chain_reading.proofs.KnownLaws.{is_known, has_directory, path_of_more, place_no_dir}
 use Rattle.chain_reading.proofs.finding.find_directory.Goals as goal
@@ -16,6 +16,6 @@ returns-in-Ok-clause-refused g c = λ t ne.
     let parts = path_of_more c.as_slice.result.now n c.in-len1-up.len_at_least c.name-item.is in
     let path : c.args.path.now ≡ n ∷ parts.0 = sym c.as_slice.ensures.value ∙ parts.1 in
     let looks = c.in-Ok.ensures.looks in
-    ap (no_directory_found (tree_of me old)) path
+    ap (no_directory_found (tree_under me old)) path
     ∙ (place_no_dir g.K.Blocks.told me old new t c.requires.may (g.met.K.Blocks.sound c.args.disk.now t c.requires.may.ready.unspent) (looks.looked t).0 looks.stays.0 n c.in-Ok.position (λ ls ps ahead. c.in-Ok.ensures.found t ls ps ahead) parts.0
     ∙ ap (λ e. Some e) (sym c.no_way.ensures))

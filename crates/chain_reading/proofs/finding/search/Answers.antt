@@ -3,7 +3,7 @@ use Rattle.std.specs.List.{position_from}
 use Rattle.tsd_model.specs.Geometry.{block_len}
 use Rattle.chain_layout.specs.Listed.{has_name}
 use Rattle.chain_layout.specs.Block.{cluster_of}
-use Rattle.chain_layout.specs.Held.{cluster_in, entries_in}
+use Rattle.chain_layout.specs.Held.{dir_cluster, entries_in}
 use Rattle.fs_client.proofs.LookLaws.{no_look, then_looks, looks_as, looks_refused}
 use Rattle.chain_reading.specs.declared.finding.Lookup.TheVariants.{Taken, Free}
 use Rattle.chain_reading.specs.Standing.{IsPage}
@@ -79,7 +79,7 @@ returns-in-None-clause-found g c = λ t ls ps ahead.
     let inv = c.loop-turn.invariant in
     let page = c.in-Ok.page in
     let read = c.in-Ok.ensures.page t in
-    let cl = cluster_of (cluster_in page.cluster) in
+    let cl = cluster_of (dir_cluster page.cluster) in
     let es = entries_in page.cluster in
     let len = block_len first.world.geometry in
     let same = ap (λ w. block_len w.geometry) (sym (inv.looks.looked t).0.world) in
@@ -108,7 +108,7 @@ loop-turn-preserved g c =
     let new = g.K.Blocks.view c.read_page.new.disk in
     let inv = c.loop-turn.invariant in
     let page = c.in-Ok.page in
-    let cl = cluster_of (cluster_in page.cluster) in
+    let cl = cluster_of (dir_cluster page.cluster) in
     let es = entries_in page.cluster in
     let b = c.loop-turn.block in
     let len = block_len first.world.geometry in

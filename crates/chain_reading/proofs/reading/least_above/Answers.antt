@@ -1,7 +1,7 @@
 use Rattle.std.proofs.Common.{◌++◌, [], refl, sym, ◌∙◌, ap, Ok, Err}
 use Rattle.tsd_model.specs.Geometry.{block_len}
 use Rattle.chain_layout.specs.Block.{cluster_of}
-use Rattle.chain_layout.specs.Held.{cluster_in, entries_in}
+use Rattle.chain_layout.specs.Held.{dir_cluster, entries_in}
 use Rattle.chain_reading.specs.Chained.{placed}
 use Rattle.chain_layout.specs.Listed.{least_above}
 use Rattle.fs_trees.specs.Fields.{entry_names}
@@ -41,7 +41,7 @@ returns-in-None-clause-least g c = λ t ls ps ahead.
     let inv = c.loop-position.invariant in
     let page = c.in-Ok.page in
     let read = c.in-Ok.ensures.page t in
-    let cl = cluster_of (cluster_in page.cluster) in
+    let cl = cluster_of (dir_cluster page.cluster) in
     let es = entries_in page.cluster in
     let seen = inv.seen t ls ps ahead in
     let len = block_len first.world.geometry in
@@ -66,7 +66,7 @@ loop-position-preserved g c =
     let new = g.K.Blocks.view c.read_page.new.disk in
     let inv = c.loop-position.invariant in
     let page = c.in-Ok.page in
-    let cl = cluster_of (cluster_in page.cluster) in
+    let cl = cluster_of (dir_cluster page.cluster) in
     let es = entries_in page.cluster in
     let b = c.loop-position.block in
     let len = block_len first.world.geometry in

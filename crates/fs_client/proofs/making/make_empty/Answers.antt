@@ -4,7 +4,7 @@ use Rattle.fs_trees.specs.declared.ask.ShellAsk.TheVariants as ask
 use Rattle.fs_port.specs.Files.{IsEitherTree}
 use Rattle.fs_client.specs.Client.{write_by}
 use Rattle.fs_client.specs.May.{MayWrite}
-use Rattle.fs_client.specs.Steps.{written}
+use Rattle.tsd_model.specs.Step.{written}
 use Rattle.fs_client.proofs.RootLaws.{root_may}
 use Rattle.fs_client.specs.Changing.{files_by}
 use Rattle.fs_client.specs.Trimming.{root_alone, IsTrim}

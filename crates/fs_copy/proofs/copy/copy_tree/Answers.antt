@@ -31,7 +31,7 @@ returns-in-Err-clause-copies g c =
     let src : IsSource told f old = record { ready = c.requires.from_ready; mounted = c.requires.mounted; valid = c.requires.valid; there = λ t. c.requires.tree t c.requires.mounted } in
     let apart = c.requires.apart in
     let v1 = g.K.Blocks.view c.nested_dir.new.disk in
-    subst (λ (e : CopyRefusal). told → CopiesTree f to old v1 (Err e)) (sym c.refused.ensures) (lost_so told f to old v1 sound src apart c.in-Err.why c.in-Err.ensures.only c.in-Err.ensures.looks)
+    subst (λ (e : CopyRefusal). told → CopiesTree f to old v1 (Err e)) (sym c.copy_refusal.ensures) (lost_so told f to old v1 sound src apart c.in-Err.why c.in-Err.ensures.only c.in-Err.ensures.looks)
 
 pub returns-in-Err-clause-runs : goal.returns-in-Err-clause-runs
 returns-in-Err-clause-runs g c =
@@ -44,7 +44,7 @@ returns-in-Err-clause-runs g c =
     let src : IsSource told f old = record { ready = c.requires.from_ready; mounted = c.requires.mounted; valid = c.requires.valid; there = λ t. c.requires.tree t c.requires.mounted } in
     let apart = c.requires.apart in
     let v1 = g.K.Blocks.view c.nested_dir.new.disk in
-    subst (λ (e : CopyRefusal). CopyRuns {X = Copied} old v1 (Err e)) (sym c.refused.ensures) (refused_runs told f to old v1 sound src apart c.in-Err.why (λ w. w ≡ old.world) c.in-Err.ensures.looks.runs)
+    subst (λ (e : CopyRefusal). CopyRuns {X = Copied} old v1 (Err e)) (sym c.copy_refusal.ensures) (refused_runs told f to old v1 sound src apart c.in-Err.why (λ w. w ≡ old.world) c.in-Err.ensures.looks.runs)
 
 pub returns-in-Err-clause-into_same : goal.returns-in-Err-clause-into_same
 returns-in-Err-clause-into_same g c =
@@ -125,7 +125,7 @@ returns-in-Err-make-clause-copies g c =
     let why = c.in-Err-make.why in
     let lost = begun_goes told f to old v1 v2 sound src apart x (Err why) looks (make_goes told to v1 v2 (Err why) sound1 (λ t. (tt, λ ne. g.met.K.Blocks.sound c.make.new.disk t (c.in-Err-make.ensures.runs.unspent.1 ne))) c.in-Err-make.ensures.made c.in-Err-make.ensures.runs) in
     let all = first_lost told f to old v1 v2 sound src apart {X = Unit {0}} {Y = Unit {0}} why lost in
-    subst (λ (e : CopyRefusal). told → CopiesTree f to old v2 (Err e)) (sym c.refused-in-Err-make.ensures) (refused_so told f to old v2 sound src apart why holds (λ t. tidy_never (Unit {0}) why _ (c.in-Err-make.ensures.made t)) all)
+    subst (λ (e : CopyRefusal). told → CopiesTree f to old v2 (Err e)) (sym c.copy_refusal-in-Err-make.ensures) (refused_so told f to old v2 sound src apart why holds (λ t. tidy_never (Unit {0}) why _ (c.in-Err-make.ensures.made t)) all)
 
 pub returns-in-Err-make-clause-runs : goal.returns-in-Err-make-clause-runs
 returns-in-Err-make-clause-runs g c =
@@ -147,7 +147,7 @@ returns-in-Err-make-clause-runs g c =
     let why = c.in-Err-make.why in
     let lost = begun_goes told f to old v1 v2 sound src apart x (Err why) looks (make_goes told to v1 v2 (Err why) sound1 (λ t. (tt, λ ne. g.met.K.Blocks.sound c.make.new.disk t (c.in-Err-make.ensures.runs.unspent.1 ne))) c.in-Err-make.ensures.made c.in-Err-make.ensures.runs) in
     let all = first_lost told f to old v1 v2 sound src apart {X = Unit {0}} {Y = Unit {0}} why lost in
-    subst (λ (e : CopyRefusal). CopyRuns {X = Copied} old v2 (Err e)) (sym c.refused-in-Err-make.ensures) (refused_runs told f to old v2 sound src apart why (IsPartly (mounted_now to) old (copy_steps u)) all.runs)
+    subst (λ (e : CopyRefusal). CopyRuns {X = Copied} old v2 (Err e)) (sym c.copy_refusal-in-Err-make.ensures) (refused_runs told f to old v2 sound src apart why (IsPartly (mounted_now to) old (copy_steps u)) all.runs)
 
 pub returns-in-Err-make-clause-from_same : goal.returns-in-Err-make-clause-from_same
 returns-in-Err-make-clause-from_same g c =
@@ -301,7 +301,7 @@ returns-in-Err-copy_entries-clause-copies g c =
     let v3 = g.K.Blocks.view c.copy_entries.new.disk in
     let why = c.in-Err-copy_entries.why in
     let all = all_goes told f to h k old v2 v3 sound src apart f_is g_is y begun (Err why) c.in-Err-copy_entries.ensures.goes in
-    subst (λ (e : CopyRefusal). told → CopiesTree f to old v3 (Err e)) (sym c.refused-in-Err-copy_entries.ensures) (refused_so told f to old v3 sound src apart why holds (tidy_goes told f to h k old v2 v3 sound src apart f_is g_is y begun (Err why) (λ t. (c.in-Ok-make.ensures.made t).tidy) c.in-Err-copy_entries.ensures.goes) all)
+    subst (λ (e : CopyRefusal). told → CopiesTree f to old v3 (Err e)) (sym c.copy_refusal-in-Err-copy_entries.ensures) (refused_so told f to old v3 sound src apart why holds (tidy_goes told f to h k old v2 v3 sound src apart f_is g_is y begun (Err why) (λ t. (c.in-Ok-make.ensures.made t).tidy) c.in-Err-copy_entries.ensures.goes) all)
 
 pub returns-in-Err-copy_entries-clause-runs : goal.returns-in-Err-copy_entries-clause-runs
 returns-in-Err-copy_entries-clause-runs g c =
@@ -329,7 +329,7 @@ returns-in-Err-copy_entries-clause-runs g c =
     let v3 = g.K.Blocks.view c.copy_entries.new.disk in
     let why = c.in-Err-copy_entries.why in
     let all = all_goes told f to h k old v2 v3 sound src apart f_is g_is y begun (Err why) c.in-Err-copy_entries.ensures.goes in
-    subst (λ (e : CopyRefusal). CopyRuns {X = Copied} old v3 (Err e)) (sym c.refused-in-Err-copy_entries.ensures) (refused_runs told f to old v3 sound src apart why (IsPartly (mounted_now to) old (copy_steps u)) all.runs)
+    subst (λ (e : CopyRefusal). CopyRuns {X = Copied} old v3 (Err e)) (sym c.copy_refusal-in-Err-copy_entries.ensures) (refused_runs told f to old v3 sound src apart why (IsPartly (mounted_now to) old (copy_steps u)) all.runs)
 
 pub returns-in-Err-copy_entries-clause-from_same : goal.returns-in-Err-copy_entries-clause-from_same
 returns-in-Err-copy_entries-clause-from_same g c =

@@ -5,7 +5,7 @@ use Rattle.std.proofs.lemmas.Bool.Decides.{nat_tests}
 use Rattle.fs_trees.specs.Names.{Path, is_path, path_max}
 use Rattle.fs_trees.specs.Tree.{at, is_dir, is_there, names_in}
 use Rattle.fs_trees.specs.declared.refusal.FsRefusal.TheVariants as no
-use Rattle.fs_copy.specs.Going.{tree_under, own_steps, size_of}
+use Rattle.fs_copy.specs.Going.{tree_under, own_steps, file_size}
 use Rattle.fs_copy.specs.Nesting.{CanMake}
 use Rattle.fs_copy.specs.Walk.{IsCountedOn, WalksOn}
 use Rattle.fs_copy.proofs.GoingLaws.{err_same, goes_as, lost_goes, none_goes, ok_as}
@@ -142,8 +142,8 @@ returns-in-Some-clause-turns g c =
     let named : is_path q ≡ true = ap is_path (sym is) ∙ (sym c.is_path.ensures ∙ (let yes = c.if-not-is_path.false in grind (arith, nat_tests))) in
     let size = c.in-Ok-copy_entry.size in
     let d = c.counted.result in
-    let size_is : told → size ≡ size_of (at u q) = λ t. c.in-Ok-copy_entry.ensures.told t ∙ ap (λ (z : Path). size_of (at u z)) is in
-    let count : told → IsCountedOn cp d (size_of (at u q)) = λ t. subst (λ (o : Option ℕ). IsCountedOn cp d o) (size_is t) c.counted.ensures in
+    let size_is : told → size ≡ file_size (at u q) = λ t. c.in-Ok-copy_entry.ensures.told t ∙ ap (λ (z : Path). file_size (at u z)) is in
+    let count : told → IsCountedOn cp d (file_size (at u q)) = λ t. subst (λ (o : Option ℕ). IsCountedOn cp d o) (size_is t) c.counted.ensures in
     let goes = goes_as told to old new (own_steps c.push.new.self (at u c.push.new.self)) steps (Ok size) (λ t. ap (λ (z : Path). own_steps z (at u z)) is) c.in-Ok-copy_entry.ensures.goes in
     let left : Leaves q c.leave.new.path c.leave.new.after c.leave.result = record { on = λ e. sym is ∙ c.leave.ensures.on e; over = λ e. sym is ∙ c.leave.ensures.over e; there = c.leave.ensures.there } in
     file_passed told to u old new p a n cp d next listing count named c.leave.new.path c.leave.new.after c.leave.result c.in-Some.field-0 left (λ t. sym (size_is t) ∙ c.in-Some.is) (ok_as told to old new steps size c.leave.result goes)
@@ -170,7 +170,7 @@ returns-in-None-clause-turns g c =
     let named : is_path q ≡ true = ap is_path (sym is) ∙ (sym c.is_path.ensures ∙ (let yes = c.if-not-is_path.false in grind (arith, nat_tests))) in
     let size = c.in-Ok-copy_entry.size in
     let d = c.counted.result in
-    let size_is : told → size ≡ size_of (at u q) = λ t. c.in-Ok-copy_entry.ensures.told t ∙ ap (λ (z : Path). size_of (at u z)) is in
-    let count : told → IsCountedOn cp d (size_of (at u q)) = λ t. subst (λ (o : Option ℕ). IsCountedOn cp d o) (size_is t) c.counted.ensures in
+    let size_is : told → size ≡ file_size (at u q) = λ t. c.in-Ok-copy_entry.ensures.told t ∙ ap (λ (z : Path). file_size (at u z)) is in
+    let count : told → IsCountedOn cp d (file_size (at u q)) = λ t. subst (λ (o : Option ℕ). IsCountedOn cp d o) (size_is t) c.counted.ensures in
     let goes = goes_as told to old new (own_steps c.push.new.self (at u c.push.new.self)) steps (Ok size) (λ t. ap (λ (z : Path). own_steps z (at u z)) is) c.in-Ok-copy_entry.ensures.goes in
     subst (λ (z : Path). WalksOn told to u old new p z a c.new.result cp d (Ok true)) (sym is) (dir_entered told to u old new p a n cp d next listing count named c.new.result c.new.ensures (λ t. sym (size_is t) ∙ c.in-None.is) (ok_as told to old new steps size true goes))

@@ -1,7 +1,7 @@
 use Rattle.std.proofs.Common.{◌≡◌, ◌*◌, ◌-◌}
 use Rattle.std.specs.Prelude.{drop}
 use Rattle.fs_trees.specs.Fields.{numbers}
-use Rattle.fs_trees.specs.Inode.{are_apart}
+use Rattle.tsd_model.specs.World.{are_apart}
 use Rattle.fs_fields.proofs.numbers.are_apart.Given as goal
 
 -- none of those before this one stands again

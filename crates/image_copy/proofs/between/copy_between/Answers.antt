@@ -28,7 +28,7 @@ returns-in-Ok g c =
     let new = g.K.Blocks.view c.copy_tree.new.disk in
     let sound : told → IsDiskSound old = λ t. g.met.K.Blocks.sound c.args.disk.now t c.requires.from_ready.unspent in
     let sound_then : told → IsDiskSound mid = λ t. g.met.K.Blocks.sound c.mount.new.disk t c.in-Ok.ensures.runs.unspent.0 in
-    subst (λ r. CopiesBetween told f to old new r) (sym c.end_of.ensures)
+    subst (λ r. CopiesBetween told f to old new r) (sym c.copy_end.ensures)
     (copied_between told f to old c.requires.apart sound c.requires.into_ready c.requires.valid mid sound_then c.in-Ok.field-0 c.in-Ok.ensures.finds c.in-Ok.ensures.runs
     new (λ t unspent. g.met.K.Blocks.sound c.copy_tree.new.disk t unspent) (g.A.Files.view c.mount.new.self) to c.in-Ok.ensures.mounted refl c.copy_tree.result c.copy_tree.ensures.copies c.copy_tree.ensures.runs)
 

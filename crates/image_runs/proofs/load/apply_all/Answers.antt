@@ -2,7 +2,7 @@ use Rattle.std.proofs.Common.{◌≡◌, ℕ, ◌+◌, refl, ◌∙◌, ap, subs
 use Rattle.std.proofs.lemmas.Result.{err_from_is_err_and}
 use Rattle.tsd_model.specs.declared.geometry.Geometry.{Geometry}
 use Rattle.image_world.specs.Stands.{world_of}
-use Rattle.load_gen.specs.Load.{Load, next_of}
+use Rattle.load_gen.specs.Load.{Generator, next_request}
 use Rattle.load_gen.specs.Requests.{seed_request}
 use Rattle.tsd_core.proofs.AtLaws.{at_volume, like_at}
 use Rattle.tsd_core.specs.Core.{state_on, told_world}
@@ -41,7 +41,7 @@ loop-number-preserved g c =
     let n = c.loop-number.number in
     let w = world_of start.reads in
     let l = c.loop-number.invariant in
-    let drawn : c.next_request.result ≡ seed_request seed (told_world c.args.core.now).geometry n = c.next_request.ensures.request ∙ ap (λ (d : Load). next_of d) l.draws in
+    let drawn : c.next_request.result ≡ seed_request seed (told_world c.args.core.now).geometry n = c.next_request.ensures.request ∙ ap (λ (d : Generator). next_request d) l.draws in
     record {
       ready = c.in_ok-apply_next.ensures.ready;
       at = c.in_ok-apply_next.ensures.at;
@@ -50,7 +50,7 @@ loop-number-preserved g c =
           applied_more kind seed w n (state_on c.loop-number.core mid.reads) (state_on c.apply_next.new.core new.reads) c.next_request.result c.loop-number.tally.granted c.loop-number.tally.refused
           c.apply_next.new.tally.granted c.apply_next.new.tally.refused (l.applied told) (drawn ∙ ap (λ (s : Geometry). seed_request seed s n) size) (c.in_ok-apply_next.ensures.next told);
       one = c.in_ok-apply_next.ensures.one ∙ ap (λ (k : ℕ). k + 1) l.one;
-      draws = c.next_request.ensures.drawn ∙ ap (λ (d : Load). record d { drawn = d.drawn + 1 }) l.draws;
+      draws = c.next_request.ensures.drawn ∙ ap (λ (d : Generator). record d { drawn = d.drawn + 1 }) l.draws;
       sent = λ told. c.apply_next.ensures.sent told ∙ l.sent told;
       moments = λ told.
           let size = (like_at c.args.core.now.volume start (at_volume c.args.core.now start (c.requires.at told))).geometry in
@@ -76,7 +76,7 @@ returns-in_err-apply_next-clause-any_moment g c told =
     let seed = c.args.load.now.seed in
     let n = c.loop-number.number in
     let l = c.loop-number.invariant in
-    let drawn : c.next_request.result ≡ seed_request seed (told_world c.args.core.now).geometry n = c.next_request.ensures.request ∙ ap (λ (d : Load). next_of d) l.draws in
+    let drawn : c.next_request.result ≡ seed_request seed (told_world c.args.core.now).geometry n = c.next_request.ensures.request ∙ ap (λ (d : Generator). next_request d) l.draws in
     let size = (like_at c.args.core.now.volume start (at_volume c.args.core.now start (c.requires.at told))).geometry in
     run_within kind seed (n + 1) c.args.load.now.count start new (omega (arith, c.loop-number-test.true))
     (run_more kind seed n start mid new (state_on c.loop-number.core mid.reads) c.next_request.result refl (l.applied told).state (drawn ∙ ap (λ (s : Geometry). seed_request seed s n) size)
@@ -91,7 +91,7 @@ returns-in_err-apply_next-clause-no_memory g c told =
     let seed = c.args.load.now.seed in
     let n = c.loop-number.number in
     let l = c.loop-number.invariant in
-    let drawn : c.next_request.result ≡ seed_request seed (told_world c.args.core.now).geometry n = c.next_request.ensures.request ∙ ap (λ (d : Load). next_of d) l.draws in
+    let drawn : c.next_request.result ≡ seed_request seed (told_world c.args.core.now).geometry n = c.next_request.ensures.request ∙ ap (λ (d : Generator). next_request d) l.draws in
     let size = (like_at c.args.core.now.volume start (at_volume c.args.core.now start (c.requires.at told))).geometry in
     let is = err_from_is_err_and c.from_residual.result c.from_residual.ensures.1 in
     rw (is.1, is.2) (λ e. run_starved kind seed n start mid new (state_on c.loop-number.core mid.reads) (state_on c.apply_next.new.core new.reads) c.next_request.result refl (l.applied told).state

@@ -2,7 +2,7 @@ use Rattle.std.proofs.Common.{◌≡◌, ◌+◌}
 use Rattle.image_device.specs.Runs.{LeavesPart}
 use Rattle.image_world.specs.Behind.{behind}
 use Rattle.image_world.specs.Stands.{world_of}
-use Rattle.load_gen.specs.Load.{load_of}
+use Rattle.load_gen.specs.Load.{load_after}
 use Rattle.tsd_core.specs.Core.{IsCoreAt, IsCoreReady, state_on, told_world}
 use Rattle.volume_laws.specs.Writes.{Works}
 use Rattle.image_runs.specs.Applying.{HasApplied, LeavesRun}
@@ -17,7 +17,7 @@ invariant-loop-number g l =
       at : g.D.Device.told → IsCoreAt l.core now;
       applied : g.D.Device.told → HasApplied l.placement.kind l.load.seed (world_of start.reads) l.number (state_on l.core now.reads) l.tally.granted l.tally.refused;
       one : l.tally.granted + l.tally.refused ≡ l.number;
-      draws : l.draws ≡ load_of l.load.seed (told_world l.initial.core).geometry l.number;
+      draws : l.draws ≡ load_after l.load.seed (told_world l.initial.core).geometry l.number;
       sent : g.D.Device.told → now.sent ≡ start.sent;
       moments : g.D.Device.told → LeavesRun l.placement.kind l.load.seed l.number start now;
       size : l.core.volume.tables.geometry ≡ l.initial.core.volume.tables.geometry;

@@ -14,7 +14,7 @@ use Rattle.fs_client.proofs.RunLaws.{looks_change}
 use Rattle.fs_client.proofs.AskLaws.{ask_refuses, ask_done}
 use Rattle.fs_client.proofs.AgainLaws.{answers_again, changes_again}
 use Rattle.inode_changes.proofs.PlaceLaws.{none_at, said_place}
-use Rattle.inode_walks.specs.Asking.{tree_of, mounted_by}
+use Rattle.inode_walks.specs.Asking.{tree_under, mounted_by}
 use Rattle.inode_walks.proofs.FurtherLaws.{may_read, has_inode}
 use Rattle.inode_walks.proofs.FoundLaws.{a_dir_there}
 use Rattle.inode_changes.proofs.AppendLaws.{append_lost, append_missing, append_dir}
@@ -38,7 +38,7 @@ returns-in-Err g c =
     let e = c.in-Err.ensures in
     let r = c.in-Err.refusal in
     let a = ask.Append path y in
-    let t0 = tree_of me first in
+    let t0 = tree_under me first in
     record {
       answer = λ t. ask_refuses (mounted_by me) first mid a (λ _ answer. answer ≡ done) r
           (λ ne. append_lost first.world.geometry t0 (free_count first.world) (length first.world.pairs) (need_of kind.Inode first.world me.root t0 a) (root_is_dir first.world me.root (c.requires.may.tree t)) y path r (e.refused t ne))
@@ -58,7 +58,7 @@ returns-in-None g c =
     let lookup = c.in-Ok.lookup in
     let e = c.in-Ok.ensures in
     let a = ask.Append path y in
-    let t0 = tree_of me first in
+    let t0 = tree_under me first in
     record {
       answer = λ t.
           let same = (e.looks.looked t).0.world in
@@ -123,7 +123,7 @@ returns-then-is_directory g c =
     let a = ask.Append path y in
     let same : told → rd.world ≡ first.world = λ t. (f.looks.looked t).0.world ∙ (e.looks.looked t).0.world in
     let looks : OnlyLooks {X = Unit {0}} told first rd (Ok tt) = then_looks told first mid rd lookup (Ok tt) e.looks (looks_as told mid rd file tt f.looks) in
-    let t0 = tree_of me first in
+    let t0 = tree_under me first in
     record {
       answer = λ t.
           let found = file_at me mid path lookup e.dir (e.found t) b (old_is me mid path lookup e.dir (e.found t) (Some b) (sym c.in-Some.ensures)) rd file (f.looks.looked t).0 f.looks.stays.0 (e.looks.looked t).0.valid f.block (f.says t) (f.whole t) (f.held t) in
@@ -164,7 +164,7 @@ returns-then-is_empty g c =
           subst (λ z. Answers {X = Unit {0}} (mounted_by me) first rd (ask.Append path z) (Ok tt) (λ _ answer. answer ≡ done)) (sym empty)
           (answers_again (mounted_by me) first rd (ask.Append path []) (same t) rd (Ok tt) (λ _ answer. answer ≡ done)
           (ask_done (mounted_by me) rd rd (ask.Append path []) tt (nothing_refuses me rd path lookup file (grows t) no_dir (f.looks.looked t).0.valid) refl
-          (sym (file_same path (tree_of me rd) (bytes_in (at (tree_of me rd) path)) (file_is (at (tree_of me rd) path) there)))));
+          (sym (file_same path (tree_under me rd) (bytes_in (at (tree_under me rd) path)) (file_is (at (tree_under me rd) path) there)))));
       changes = looks_change told (mounted_by me) first rd a (Ok tt) (λ t. (c.requires.may.valid t).valid) looks;
       idle = λ none. looks;
     }

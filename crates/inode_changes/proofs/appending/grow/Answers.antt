@@ -18,7 +18,7 @@ use Rattle.fs_client.proofs.AskLaws.{ask_refuses}
 use Rattle.fs_client.proofs.AgainLaws.{answers_again, changes_again}
 use Rattle.inode_layout.specs.Block.{inode_of, block_len_of}
 use Rattle.inode_layout.specs.Said.{amount_said}
-use Rattle.inode_walks.specs.Asking.{tree_of, mounted_by}
+use Rattle.inode_walks.specs.Asking.{tree_under, mounted_by}
 use Rattle.inode_walks.specs.Reading.{part, bytes_said}
 use Rattle.inode_changes.specs.Content.{new_count, all_count}
 use Rattle.inode_changes.specs.Filling.{IsAside}
@@ -190,7 +190,7 @@ enter-requires g c =
       made = λ t. (
         lb.world,
         path t,
-        a_file (bytes_in (at (tree_of me lb) (path t)) ++ y),
+        a_file (bytes_in (at (tree_under me lb) (path t)) ++ y),
         (x t).grounds,
         subst (λ xs. IsMadeInode me.root lb.world lookup.directory.block new (a_file xs) mk.world) (made_bytes me lb (path t) lookup file (x t) no_dir (now t) front y content h (front_is t)) (m.made t),
       );
@@ -220,7 +220,7 @@ returns-in-Ok-enter g c =
     let new = c.in-Ok-make_file.new in
     let m = c.in-Ok-make_file.ensures in
     let n = c.in-Ok-enter.ensures in
-    let made : (t : told) (path : Path) (x : Grows me old path lookup file) → IsMadeInode me.root lb.world lookup.directory.block new (a_file (bytes_in (at (tree_of me lb) path) ++ y)) mk.world =
+    let made : (t : told) (path : Path) (x : Grows me old path lookup file) → IsMadeInode me.root lb.world lookup.directory.block new (a_file (bytes_in (at (tree_under me lb) path) ++ y)) mk.world =
     λ t path x. subst (λ xs. IsMadeInode me.root lb.world lookup.directory.block new (a_file xs) mk.world) (made_bytes me lb path lookup file (still t path x) no_dir (now t) front y content h (front_is t)) (m.made t) in
     let none : (t : told) (path : Path) (x : Grows me old path lookup file) → ◌≡◌ {A = Option FsRefusal} (refused_on (mounted_by me) lb (ask.Append path y)) None =
     λ t path x. room_is me lb path lookup file (still t path x) no_dir (now t) front y content h (front_is t) c.requires.some (big ∙ c.if-is_too_big.false) ∙ m.room t in
@@ -229,19 +229,19 @@ returns-in-Ok-enter g c =
     (no_more_room (need (1 + new_count content) (1 + all_count content)) lb.world mk.world fin.world (m.keeps t) (n.keeps t)) in
     record {
       answer = λ t path x. answers_again (mounted_by me) old lb (ask.Append path y) (e.looks.looked t).0.world fin (Ok tt) (λ _ answer. answer ≡ done)
-          (answers_entered me lb (ask.Append path y) path (none t path x) refl fin (a_file (bytes_in (at (tree_of me lb) path) ++ y)) refl
-          (n.entered t lb.world path (a_file (bytes_in (at (tree_of me lb) path) ++ y)) (still t path x).grounds (made t path x)));
+          (answers_entered me lb (ask.Append path y) path (none t path x) refl fin (a_file (bytes_in (at (tree_under me lb) path) ++ y)) refl
+          (n.entered t lb.world path (a_file (bytes_in (at (tree_under me lb) path) ++ y)) (still t path x).grounds (made t path x)));
       changes = λ path x. changes_again told (mounted_by me) old lb fin (ask.Append path y) front (Ok tt) (λ t. (c.requires.valid t).valid) e.looks
           (changes_of told (mounted_by me) refl lb fin (ask.Append path y) (Ok tt) (λ t. kept t path (x t)) (λ t. (
-            left_entered me lb fin path (a_file (bytes_in (at (tree_of me lb) path) ++ y))
-                (n.entered t lb.world path (a_file (bytes_in (at (tree_of me lb) path) ++ y)) (still t path (x t)).grounds (made t path (x t))) n.runs.unspent.0,
+            left_entered me lb fin path (a_file (bytes_in (at (tree_under me lb) path) ++ y))
+                (n.entered t lb.world path (a_file (bytes_in (at (tree_under me lb) path) ++ y)) (still t path (x t)).grounds (made t path (x t))) n.runs.unspent.0,
             tt,
           ))
           (then_runs told lb mk fin (IsEitherTree (mounted_by me) lb (ask.Append path y)) new (Ok tt)
           (runs_more told lb mk (IsAside me.root lb.world) (IsEitherTree (mounted_by me) lb (ask.Append path y)) (Ok new) (λ t w k. either_aside me lb (ask.Append path y) w k) m.runs)
           (runs_more told mk fin (EntersOrNot me.root lookup new mk.world) (IsEitherTree (mounted_by me) lb (ask.Append path y)) (Ok tt)
-          (λ t w k. either_entered me lb (ask.Append path y) path (none t path (x t)) refl w (a_file (bytes_in (at (tree_of me lb) path) ++ y)) refl
-          (k lb.world path (a_file (bytes_in (at (tree_of me lb) path) ++ y)) (still t path (x t)).grounds (made t path (x t)))) n.runs)));
+          (λ t w k. either_entered me lb (ask.Append path y) path (none t path (x t)) refl w (a_file (bytes_in (at (tree_under me lb) path) ++ y)) refl
+          (k lb.world path (a_file (bytes_in (at (tree_under me lb) path) ++ y)) (still t path (x t)).grounds (made t path (x t)))) n.runs)));
     }
 
 pub returns-in-Err-enter : goal.returns-in-Err-enter
@@ -269,7 +269,7 @@ returns-in-Err-enter g c =
     let m = c.in-Ok-make_file.ensures in
     let r = c.in-Err-enter.refusal in
     let n = c.in-Err-enter.ensures in
-    let made : (t : told) (path : Path) (x : Grows me old path lookup file) → IsMadeInode me.root lb.world lookup.directory.block new (a_file (bytes_in (at (tree_of me lb) path) ++ y)) mk.world =
+    let made : (t : told) (path : Path) (x : Grows me old path lookup file) → IsMadeInode me.root lb.world lookup.directory.block new (a_file (bytes_in (at (tree_under me lb) path) ++ y)) mk.world =
     λ t path x. subst (λ xs. IsMadeInode me.root lb.world lookup.directory.block new (a_file xs) mk.world) (made_bytes me lb path lookup file (still t path x) no_dir (now t) front y content h (front_is t)) (m.made t) in
     let none : (t : told) (path : Path) (x : Grows me old path lookup file) → ◌≡◌ {A = Option FsRefusal} (refused_on (mounted_by me) lb (ask.Append path y)) None =
     λ t path x. room_is me lb path lookup file (still t path x) no_dir (now t) front y content h (front_is t) c.requires.some (big ∙ c.if-is_too_big.false) ∙ m.room t in
@@ -280,6 +280,6 @@ returns-in-Err-enter g c =
           (then_runs told lb mk fin (IsEitherTree (mounted_by me) lb (ask.Append path y)) new (Err r)
           (runs_more told lb mk (IsAside me.root lb.world) (IsEitherTree (mounted_by me) lb (ask.Append path y)) (Ok new) (λ t w k. either_aside me lb (ask.Append path y) w k) m.runs)
           (runs_more told mk fin (EntersOrNot me.root lookup new mk.world) (IsEitherTree (mounted_by me) lb (ask.Append path y)) (Err r)
-          (λ t w k. either_entered me lb (ask.Append path y) path (none t path (x t)) refl w (a_file (bytes_in (at (tree_of me lb) path) ++ y)) refl
-          (k lb.world path (a_file (bytes_in (at (tree_of me lb) path) ++ y)) (still t path (x t)).grounds (made t path (x t)))) n.runs)));
+          (λ t w k. either_entered me lb (ask.Append path y) path (none t path (x t)) refl w (a_file (bytes_in (at (tree_under me lb) path) ++ y)) refl
+          (k lb.world path (a_file (bytes_in (at (tree_under me lb) path) ++ y)) (still t path (x t)).grounds (made t path (x t)))) n.runs)));
     }

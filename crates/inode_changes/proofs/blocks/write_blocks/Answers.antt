@@ -2,7 +2,8 @@ use Rattle.std.proofs.Common.{◌+◌, ◌++◌, length, refl, sym, ◌∙◌, a
 use Rattle.std.specs.Prelude.{slice_index_or}
 use Rattle.std.proofs.lemmas.List.{length-take}
 use Rattle.fs_client.specs.Client.{write_by}
-use Rattle.fs_client.specs.Steps.{Steps, written}
+use Rattle.tsd_model.specs.Step.{written}
+use Rattle.fs_client.specs.Steps.{Steps}
 use Rattle.inode_changes.specs.Content.{new_bytes}
 use Rattle.inode_changes.proofs.FillLaws.{Writing, writing_begins, writing_ends, writes_on, goes_on, may_now, len_now}
 use Rattle.inode_changes.proofs.PartLaws.{drop_behind, enough_blocks, some_blocks}

@@ -10,7 +10,7 @@ use Rattle.fs_client.proofs.LookLaws.{looks_refused, looks_but_refuses}
 use Rattle.fs_client.proofs.RunLaws.{looks_change}
 use Rattle.fs_client.proofs.AskLaws.{ask_refuses}
 use Rattle.fs_client.proofs.AgainLaws.{answers_again, changes_again}
-use Rattle.inode_walks.specs.Asking.{tree_of, mounted_by}
+use Rattle.inode_walks.specs.Asking.{tree_under, mounted_by}
 use Rattle.inode_walks.proofs.FurtherLaws.{child_there}
 use Rattle.inode_changes.specs.Directories.{IsVacant}
 use Rattle.inode_changes.proofs.PlaceLaws.{said_place, there_at}
@@ -30,7 +30,7 @@ returns-in-Err g c =
     let e = c.in-Err.ensures in
     let r = c.in-Err.refusal in
     let a = ask.MakeDir path in
-    let t0 = tree_of me first in
+    let t0 = tree_under me first in
     record {
       answer = λ t. ask_refuses (mounted_by me) first mid a (λ _ answer. answer ≡ done) r
           (λ ne. dir_lost first.world.geometry t0 (free_count first.world) (length first.world.pairs) (need 1 1) (c.requires.may.tree t) path r (e.refused t ne))
@@ -49,7 +49,7 @@ returns-in-Some g c =
     let e = c.in-Ok.ensures in
     let b = c.in-Some._taken in
     let a = ask.MakeDir path in
-    let t0 = tree_of me first in
+    let t0 = tree_under me first in
     record {
       answer = λ t.
           let i = e.found t in

@@ -1,11 +1,11 @@
 use Rattle.std.proofs.Common.{◌≤◌, [], length, refl, sym, ap, subst, Ok, Err}
 use Rattle.tsd_model.specs.Geometry.{block_len}
-use Rattle.tsd_model.specs.Step.{filled}
+use Rattle.tsd_model.specs.Step.{filled, written}
 use Rattle.disk_laws.proofs.ChangeLaws.{live-with_contents}
 use Rattle.fs_trees.specs.Inode.{directory, inode_bytes}
 use Rattle.fs_trees.specs.Needs.{need}
 use Rattle.fs_client.specs.Client.{write_by}
-use Rattle.fs_client.specs.Steps.{Steps, written}
+use Rattle.fs_client.specs.Steps.{Steps}
 use Rattle.fs_client.proofs.RunLaws.{then_runs, runs_as, runs_refused, runs_step}
 use Rattle.fs_client.proofs.KeepLaws.{no_more_room, write_takes}
 use Rattle.fs_client.proofs.MayLaws.{may_after}

@@ -1,11 +1,11 @@
 use Rattle.std.proofs.Common.{◌≤◌, length, refl, sym, subst, Ok, Err}
 use Rattle.tsd_model.specs.Geometry.{block_len}
-use Rattle.tsd_model.specs.Step.{filled}
+use Rattle.tsd_model.specs.Step.{filled, written}
 use Rattle.disk_laws.proofs.ChangeLaws.{live-with_contents}
 use Rattle.fs_trees.specs.Inode.{directory, with_listed, inode_bytes}
 use Rattle.fs_trees.specs.Needs.{need}
 use Rattle.fs_client.specs.Client.{write_by, unlink_by}
-use Rattle.fs_client.specs.Steps.{Steps, written, dropped}
+use Rattle.fs_client.specs.Steps.{Steps, dropped}
 use Rattle.fs_port.specs.Runs.{Runs}
 use Rattle.fs_client.proofs.RunLaws.{runs_step, runs_as, runs_refused, then_runs}
 use Rattle.fs_client.proofs.KeepLaws.{no_more_room, write_takes, drop_takes}

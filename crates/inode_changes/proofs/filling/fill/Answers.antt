@@ -3,14 +3,15 @@ use Rattle.std.specs.Prelude.{count_by, is_none}
 use Rattle.std.specs.Int.{div_ceil}
 use Rattle.tsd_model.specs.Geometry.{block_len}
 use Rattle.std.proofs.lemmas.Bool.{or_right}
-use Rattle.tsd_model.specs.World.{has_number}
-use Rattle.fs_trees.specs.Inode.{regular, are_apart, data_room, inode_bytes}
+use Rattle.tsd_model.specs.World.{has_number, are_apart}
+use Rattle.fs_trees.specs.Inode.{regular, data_room, inode_bytes}
 use Rattle.fs_trees.specs.declared.refusal.FsRefusal.TheVariants as no
 use Rattle.fs_port.specs.Calls.{IsValidNow}
 use Rattle.fs_client.specs.May.{MayWrite}
 use Rattle.fs_client.specs.Client.{write_by}
 use Rattle.fs_client.specs.Leftovers.{refusal_before}
-use Rattle.fs_client.specs.Steps.{Steps, written, no_room_in}
+use Rattle.tsd_model.specs.Step.{written}
+use Rattle.fs_client.specs.Steps.{Steps, no_room_in}
 use Rattle.fs_port.specs.Runs.{Runs}
 use Rattle.fs_client.proofs.RunLaws.{runs_step, then_runs, runs_refused, runs_more}
 use Rattle.inode_changes.specs.Content.{shared_of, shared_count, new_bytes, new_count, all_count}

@@ -4,7 +4,7 @@ use Rattle.fs_trees.specs.declared.refusal.FsRefusal.TheVariants as no
 use Rattle.fs_client.proofs.LookLaws.{no_look, looks_as, looks_refused, looks_but_refuses}
 use Rattle.inode_changes.proofs.PlaceLaws.{none_at, said_place}
 use Rattle.inode_layout.specs.Block.{inode_of}
-use Rattle.inode_walks.specs.Asking.{tree_of}
+use Rattle.inode_walks.specs.Asking.{tree_under}
 use Rattle.inode_walks.proofs.FurtherLaws.{may_read, has_inode}
 use Rattle.inode_changes.proofs.PutLaws.{nothing_no_dir, kind_at}
 use Rattle.inode_changes.proofs.putting.check_old.Goals as goal
@@ -16,7 +16,7 @@ returns-in-None g c =
     let me = c.args.client.now in
     let lookup = c.args.lookup.now in
     record {
-      no_dir = λ t path i. nothing_no_dir (at (tree_of me old) path) (none_at me old path lookup c.requires.dir i c.in-None.is);
+      no_dir = λ t path i. nothing_no_dir (at (tree_under me old) path) (none_at me old path lookup c.requires.dir i c.in-None.is);
       only = λ t. tt;
       is_dir = λ t. tt;
       looks = no_look told old c.requires.unspent (λ t. g.met.K.Blocks.sound c.args.disk.now t c.requires.unspent) c.requires.valid;

@@ -10,7 +10,7 @@ use Rattle.fs_client.proofs.LookLaws.{looks_refused, then_looks}
 use Rattle.fs_client.proofs.RunLaws.{looks_change}
 use Rattle.fs_client.proofs.AskLaws.{ask_refuses}
 use Rattle.fs_client.proofs.AgainLaws.{answers_again, changes_again}
-use Rattle.inode_walks.specs.Asking.{tree_of, mounted_by}
+use Rattle.inode_walks.specs.Asking.{tree_under, mounted_by}
 use Rattle.inode_changes.specs.Putting.{PutsFile}
 use Rattle.inode_changes.proofs.GrowLaws.{root_is_dir}
 use Rattle.inode_changes.proofs.PutLaws.{put_lost, put_dir, puts_now}
@@ -29,7 +29,7 @@ returns-in-Err g c =
     let e = c.in-Err.ensures in
     let r = c.in-Err.refusal in
     let a = ask.Put path c.args.bytes.now in
-    let t0 = tree_of me first in
+    let t0 = tree_under me first in
     record {
       answer = λ t. ask_refuses (mounted_by me) first mid a (λ _ answer. answer ≡ done) r
           (λ ne. put_lost first.world.geometry t0 (free_count first.world) (length first.world.pairs) (need_of kind.Inode first.world me.root t0 a) (root_is_dir first.world me.root (c.requires.may.tree t)) c.args.bytes.now path r (e.refused t ne))
@@ -59,7 +59,7 @@ returns-in-Err-check_old g c =
     let k = c.in-Err-check_old.ensures in
     let r = c.in-Err-check_old.refusal in
     let a = ask.Put path c.args.bytes.now in
-    let t0 = tree_of me first in
+    let t0 = tree_under me first in
     record {
       answer = λ t. ask_refuses (mounted_by me) first rd a (λ _ answer. answer ≡ done) r
           (λ ne. put_dir first.world.geometry t0 (free_count first.world) (length first.world.pairs) (need_of kind.Inode first.world me.root t0 a) (root_is_dir first.world me.root (c.requires.may.tree t)) c.args.bytes.now path (e.none t)

@@ -16,7 +16,7 @@ use Rattle.fs_client.proofs.RunLaws.{looks_change, then_runs, runs_refused, chan
 use Rattle.fs_client.proofs.KeepLaws.{no_more_room}
 use Rattle.fs_client.proofs.AskLaws.{ask_refuses}
 use Rattle.inode_layout.specs.Block.{block_len_of}
-use Rattle.inode_walks.specs.Asking.{tree_of, mounted_by}
+use Rattle.inode_walks.specs.Asking.{tree_under, mounted_by}
 use Rattle.inode_changes.specs.Content.{new_count, all_count}
 use Rattle.inode_changes.specs.Filling.{IsAside}
 use Rattle.inode_changes.specs.Entering.{Grounds, EntersOrNot}
@@ -163,7 +163,7 @@ returns-in-Ok-enter g c =
     let none : told → (path : Path) → PutsFile me old path lookup → ◌≡◌ {A = Option FsRefusal} (refused_on (mounted_by me) old (ask.Put path x)) None = λ t path s.
     room_refuses me old path lookup c.requires.dir (c.requires.valid t) s x c.in-Ok.ensures.room (is_big ∙ c.if-is_too_big.false)
     ∙ subst (λ n. ◌≡◌ {A = Option FsRefusal} (no_room_in old.world (1 + div_ceil (length x) inner) (1 + n)) None) all (subst (λ n. ◌≡◌ {A = Option FsRefusal} (no_room_in old.world (1 + n) (1 + all_count content)) None) new (e.room t)) in
-    let is : (path : Path) → with_at path (a_file x) (tree_of me old) ≡ with_at path (a_file all_bytes) (tree_of me old) = λ path. ap (λ y. with_at path (a_file y) (tree_of me old)) (sym (made_bytes x len content of old.world)) in
+    let is : (path : Path) → with_at path (a_file x) (tree_under me old) ≡ with_at path (a_file all_bytes) (tree_under me old) = λ path. ap (λ y. with_at path (a_file y) (tree_under me old)) (sym (made_bytes x len content of old.world)) in
     let want = need (1 + new_count content) (1 + all_count content) in
     let kept : told → (path : Path) → PutsFile me old path lookup → KeepsRoom (need_on (mounted_by me) old (ask.Put path x)) old.world fin.world = λ t path s.
     subst (λ n. KeepsRoom n old.world fin.world)
@@ -206,7 +206,7 @@ returns-in-Err-enter g c =
     let none : told → (path : Path) → PutsFile me old path lookup → ◌≡◌ {A = Option FsRefusal} (refused_on (mounted_by me) old (ask.Put path x)) None = λ t path s.
     room_refuses me old path lookup c.requires.dir (c.requires.valid t) s x c.in-Ok.ensures.room (is_big ∙ c.if-is_too_big.false)
     ∙ subst (λ n. ◌≡◌ {A = Option FsRefusal} (no_room_in old.world (1 + div_ceil (length x) inner) (1 + n)) None) all (subst (λ n. ◌≡◌ {A = Option FsRefusal} (no_room_in old.world (1 + n) (1 + all_count content)) None) new (e.room t)) in
-    let is : (path : Path) → with_at path (a_file x) (tree_of me old) ≡ with_at path (a_file all_bytes) (tree_of me old) = λ path. ap (λ y. with_at path (a_file y) (tree_of me old)) (sym (made_bytes x len content of old.world)) in
+    let is : (path : Path) → with_at path (a_file x) (tree_under me old) ≡ with_at path (a_file all_bytes) (tree_under me old) = λ path. ap (λ y. with_at path (a_file y) (tree_under me old)) (sym (made_bytes x len content of old.world)) in
     record {
       answer = λ t path s. ask_refuses (mounted_by me) old fin (ask.Put path x) (λ _ answer. answer ≡ done) r (λ ne. absurd (ne (h.only t))) (λ ne. absurd (ne (h.only t)));
       changes = λ path s.

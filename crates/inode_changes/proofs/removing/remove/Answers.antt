@@ -13,10 +13,11 @@ use Rattle.fs_port.specs.Files.{IsEitherTree, KeepsRoom}
 use Rattle.fs_client.specs.Client.{write_by, unlink_by}
 use Rattle.fs_client.specs.May.{OnlyLooks}
 use Rattle.fs_client.proofs.LookLaws.{looks_as, looks_refused, looks_but_refuses, then_looks}
-use Rattle.fs_client.specs.Steps.{Steps, written, dropped}
+use Rattle.tsd_model.specs.Step.{written}
+use Rattle.fs_client.specs.Steps.{Steps, dropped}
 use Rattle.inode_layout.specs.Block.{inode_of}
 use Rattle.inode_layout.specs.Said.{is_directory, blocks_said, entries_said}
-use Rattle.inode_walks.specs.Asking.{tree_of, mounted_by}
+use Rattle.inode_walks.specs.Asking.{tree_under, mounted_by}
 use Rattle.inode_walks.proofs.FurtherLaws.{may_read, has_inode, child_there}
 use Rattle.fs_client.proofs.RunLaws.{runs_look, runs_step, then_runs, runs_as, runs_refused, changes_of, looks_change, as_before, same_room}
 use Rattle.fs_client.proofs.KeepLaws.{no_more_room, write_takes, drop_takes}
@@ -38,7 +39,7 @@ returns-in-Err g c =
     let e = c.in-Err.ensures in
     let r = c.in-Err.refusal in
     let a = ask.Rm path in
-    let t0 = tree_of me first in
+    let t0 = tree_under me first in
     record {
       answer = λ t. ask_refuses (mounted_by me) first mid a (λ _ answer. answer ≡ done) r
           (λ ne. rm_lost kind.Inode first.world.geometry t0 (free_count first.world) (length first.world.pairs) (need_of kind.Inode first.world me.root t0 a) (c.requires.may.tree t) path r (e.refused t ne))
@@ -56,7 +57,7 @@ returns-in-None g c =
     let lookup = c.in-Ok.lookup in
     let e = c.in-Ok.ensures in
     let a = ask.Rm path in
-    let t0 = tree_of me first in
+    let t0 = tree_under me first in
     record {
       answer = λ t.
           let same = (e.looks.looked t).0.world in
@@ -116,7 +117,7 @@ returns-then-has_entries g c =
     let f = c.in-Ok-read_inode.ensures in
     let k = inode_of c.in-Ok-read_inode.old.inode in
     let a = ask.Rm path in
-    let t0 = tree_of me first in
+    let t0 = tree_under me first in
     record {
       answer = λ t.
           let i = e.found t in

@@ -1,7 +1,7 @@
 use Rattle.std.proofs.Common.{sym, ◌∙◌}
 use Rattle.fs_trees.specs.declared.refusal.FsRefusal.TheVariants as no
 use Rattle.fs_client.proofs.LookLaws.{looks_but_refuses}
-use Rattle.inode_walks.specs.Asking.{tree_of}
+use Rattle.inode_walks.specs.Asking.{tree_under}
 use Rattle.inode_walks.proofs.FoundLaws.{a_dir_was, a_file_was, lost_directory, directory_found, file_in_place}
 use Rattle.inode_walks.proofs.finding.find_directory.Goals as goal
 
@@ -19,7 +19,7 @@ returns-then-is_directory g c =
     record {
       found = λ t. e.found t;
       dir = sym c.is_directory.ensures ∙ c.if-is_directory.true;
-      none = λ t. directory_found (tree_of me old) p (e.none t) (a_dir_was me old new p c.in-Ok.found (e.found t) (e.looks.looked t).0.world (sym c.is_directory.ensures ∙ c.if-is_directory.true)).1;
+      none = λ t. directory_found (tree_under me old) p (e.none t) (a_dir_was me old new p c.in-Ok.found (e.found t) (e.looks.looked t).0.world (sym c.is_directory.ensures ∙ c.if-is_directory.true)).1;
       refused = λ t. tt;
       looks = e.looks;
     }
@@ -36,7 +36,7 @@ returns-else-is_directory g c =
       found = λ t. tt;
       dir = tt;
       none = λ t. tt;
-      refused = λ t ne. file_in_place (tree_of me old) p (e.none t) (a_file_was me old new p c.in-Ok.found (e.found t) (e.looks.looked t).0.world (sym c.is_directory.ensures ∙ c.if-is_directory.false)).1;
+      refused = λ t ne. file_in_place (tree_under me old) p (e.none t) (a_file_was me old new p c.in-Ok.found (e.found t) (e.looks.looked t).0.world (sym c.is_directory.ensures ∙ c.if-is_directory.false)).1;
       looks = looks_but_refuses told old new c.in-Ok.found no.NotDir (λ d. cc) e.looks;
     }
 
@@ -46,6 +46,6 @@ returns-in-Err g c =
       found = λ t. tt;
       dir = tt;
       none = λ t. tt;
-      refused = λ t ne. lost_directory (tree_of c.args.client.now (g.K.Blocks.view c.args.disk.now)) c.args.names.now c.in-Err.refusal (c.in-Err.ensures.refused t ne);
+      refused = λ t ne. lost_directory (tree_under c.args.client.now (g.K.Blocks.view c.args.disk.now)) c.args.names.now c.in-Err.refusal (c.in-Err.ensures.refused t ne);
       looks = c.in-Err.ensures.looks;
     }

@@ -2,7 +2,7 @@ use Rattle.std.proofs.Common.{◌≡◌, sym, ◌∙◌, subst, Option, Some, No
 use Rattle.fs_trees.specs.declared.refusal.FsRefusal.{FsRefusal}
 use Rattle.fs_trees.specs.declared.refusal.FsRefusal.TheVariants as no
 use Rattle.fs_client.proofs.LookLaws.{looks_but_refuses}
-use Rattle.inode_walks.specs.Asking.{tree_of}
+use Rattle.inode_walks.specs.Asking.{tree_under}
 use Rattle.inode_walks.specs.Finding.{StandsAtPath, no_file_found}
 use Rattle.inode_walks.proofs.FoundLaws.{a_dir_was, a_file_was, lost_file, file_found, dir_in_place}
 use Rattle.inode_walks.proofs.finding.find_file.Goals as goal
@@ -23,7 +23,7 @@ returns-then-is_directory g c =
       found = λ t. tt;
       file = tt;
       none = λ t. tt;
-      refused = λ t ne. subst (λ q. no_file_found (tree_of me old) q ≡ Some no.IsDir) v (dir_in_place (tree_of me old) p (e.none t) (a_dir_was me old new p c.in-Ok.found (e.found t) (e.looks.looked t).0.world (sym c.is_directory.ensures ∙ c.if-is_directory.true)).0);
+      refused = λ t ne. subst (λ q. no_file_found (tree_under me old) q ≡ Some no.IsDir) v (dir_in_place (tree_under me old) p (e.none t) (a_dir_was me old new p c.in-Ok.found (e.found t) (e.looks.looked t).0.world (sym c.is_directory.ensures ∙ c.if-is_directory.true)).0);
       looks = looks_but_refuses told old new c.in-Ok.found no.IsDir (λ d. cc) e.looks;
     }
 
@@ -39,7 +39,7 @@ returns-else-is_directory g c =
     record {
       found = λ t. subst (λ q. StandsAtPath me new q c.in-Ok.found) v (e.found t);
       file = sym c.is_directory.ensures ∙ c.if-is_directory.false;
-      none = λ t. subst (λ q. ◌≡◌ {A = Option FsRefusal} (no_file_found (tree_of me old) q) None) v (file_found (tree_of me old) p (e.none t) (a_file_was me old new p c.in-Ok.found (e.found t) (e.looks.looked t).0.world (sym c.is_directory.ensures ∙ c.if-is_directory.false)).0);
+      none = λ t. subst (λ q. ◌≡◌ {A = Option FsRefusal} (no_file_found (tree_under me old) q) None) v (file_found (tree_under me old) p (e.none t) (a_file_was me old new p c.in-Ok.found (e.found t) (e.looks.looked t).0.world (sym c.is_directory.ensures ∙ c.if-is_directory.false)).0);
       refused = λ t. tt;
       looks = e.looks;
     }
@@ -50,7 +50,7 @@ returns-in-Err g c =
       found = λ t. tt;
       file = tt;
       none = λ t. tt;
-      refused = λ t ne. subst (λ q. no_file_found (tree_of c.args.client.now (g.K.Blocks.view c.args.disk.now)) q ≡ Some c.in-Err.refusal) c.as_slice.ensures.value
-          (lost_file (tree_of c.args.client.now (g.K.Blocks.view c.args.disk.now)) c.as_slice.result.now c.in-Err.refusal (c.in-Err.ensures.refused t ne));
+      refused = λ t ne. subst (λ q. no_file_found (tree_under c.args.client.now (g.K.Blocks.view c.args.disk.now)) q ≡ Some c.in-Err.refusal) c.as_slice.ensures.value
+          (lost_file (tree_under c.args.client.now (g.K.Blocks.view c.args.disk.now)) c.as_slice.result.now c.in-Err.refusal (c.in-Err.ensures.refused t ne));
       looks = c.in-Err.ensures.looks;
     }

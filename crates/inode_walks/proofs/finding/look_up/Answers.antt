@@ -1,6 +1,6 @@
 use Rattle.std.proofs.Common.{◌≡◌, ◌∷◌, ◌++◌, [], ◌∙◌, sym, subst, length, take, ◌-◌, ◌<◌, ◌≤◌}
 use Rattle.fs_client.proofs.LookLaws.{no_look, looks_as, looks_refused, looks_but_refuses}
-use Rattle.inode_walks.specs.Asking.{tree_of}
+use Rattle.inode_walks.specs.Asking.{tree_under}
 use Rattle.inode_walks.proofs.FoundLaws.{last_of, no_name, place_lost, place_is}
 use Rattle.inode_walks.proofs.finding.look_up.Goals as goal
 
@@ -16,7 +16,7 @@ returns-in-empty g c =
       short = tt;
       found = λ t. tt;
       none = λ t. tt;
-      refused = λ t ne. no_name (tree_of c.args.client.now old) c.args.path.now c.args.at_root (subst (λ p. length p < 1) c.as_slice.ensures.value c.in-empty.len_below);
+      refused = λ t ne. no_name (tree_under c.args.client.now old) c.args.path.now c.args.at_root (subst (λ p. length p < 1) c.as_slice.ensures.value c.in-empty.len_below);
       looks = looks_but_refuses told old old tt c.args.at_root c.requires.refusal
           (no_look told old c.requires.may.ready.unspent (λ t. g.met.K.Blocks.sound c.args.disk.now t c.requires.may.ready.unspent) c.requires.may.valid);
     }
@@ -33,7 +33,7 @@ returns-in-Err g c =
       short = tt;
       found = λ t. tt;
       none = λ t. tt;
-      refused = λ t ne. place_lost (tree_of c.args.client.now old) c.args.path.now (take (length xs - 1) xs) c.last-item.result c.args.at_root whole ∙ c.in-Err.ensures.refused t ne;
+      refused = λ t ne. place_lost (tree_under c.args.client.now old) c.args.path.now (take (length xs - 1) xs) c.last-item.result c.args.at_root whole ∙ c.in-Err.ensures.refused t ne;
       looks = looks_refused told old new c.in-Err.refusal c.in-Err.ensures.looks;
     }
 
@@ -49,7 +49,7 @@ returns-in-Ok g c =
       dir = e.dir;
       short = subst (λ n. length n ≤ 28) (sym c.as_slice-name.ensures.value) c.as_slice-name.ensures.fits;
       found = λ t. place_is c.args.client.now new c.args.path.now (take (length xs - 1) xs) c.last-item.result _ whole c.as_slice-name.ensures.value (e.found t) c.entry-old.ensures;
-      none = λ t. place_lost (tree_of c.args.client.now old) c.args.path.now (take (length xs - 1) xs) c.last-item.result c.args.at_root whole ∙ e.none t;
+      none = λ t. place_lost (tree_under c.args.client.now old) c.args.path.now (take (length xs - 1) xs) c.last-item.result c.args.at_root whole ∙ e.none t;
       refused = λ t. tt;
       looks = looks_as told old new c.in-Ok.directory _ e.looks;
     }

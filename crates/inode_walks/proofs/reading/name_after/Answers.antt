@@ -7,7 +7,7 @@ use Rattle.fs_trees.specs.Tree.{at, names_in}
 use Rattle.fs_trees.specs.Answer.{listed}
 use Rattle.fs_port.specs.Files.{Answers, TellsNext}
 use Rattle.fs_client.proofs.LookLaws.{looks_as, looks_refused}
-use Rattle.inode_walks.specs.Asking.{tree_of, mounted_by}
+use Rattle.inode_walks.specs.Asking.{tree_under, mounted_by}
 use Rattle.inode_walks.proofs.TellLaws.{ls_answers, ls_refuses, next_told}
 use Rattle.inode_walks.proofs.reading.name_after.Goals as goal
 
@@ -28,7 +28,7 @@ returns-in-Ok g c =
           let same = (e.looks.looked t).0.world in
           subst (λ q. Answers (mounted_by me) old new (ask.Ls q) (Ok c.name_after.result) (TellsNext c.args.after.now)) v
           (ls_answers me old new p (c.requires.may.tree t) same (TellsNext c.args.after.now) c.name_after.result (e.none t)
-          (subst (λ n. TellsNext c.args.after.now n (listed (names_in (at (tree_of me old) p)))) (sym (c.name_after.ensures ∙ ap (λ a. next_said a (inode_of c.in-Ok.found.inode)) c.as_slice-in-Ok.ensures.value))
+          (subst (λ n. TellsNext c.args.after.now n (listed (names_in (at (tree_under me old) p)))) (sym (c.name_after.ensures ∙ ap (λ a. next_said a (inode_of c.in-Ok.found.inode)) c.as_slice-in-Ok.ensures.value))
           (next_told me old new p c.in-Ok.found (e.found t) same c.args.after.now e.dir)));
       looks = looks_as told old new c.in-Ok.found c.name_after.result e.looks;
     }

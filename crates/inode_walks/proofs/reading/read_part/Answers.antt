@@ -7,7 +7,7 @@ use Rattle.fs_port.specs.Files.{TellsPart}
 use Rattle.fs_client.proofs.LookLaws.{then_looks}
 use Rattle.inode_layout.specs.Block.{inode_of}
 use Rattle.inode_layout.specs.Said.{amount_said}
-use Rattle.inode_walks.specs.Asking.{tree_of}
+use Rattle.inode_walks.specs.Asking.{tree_under}
 use Rattle.inode_walks.proofs.FileLaws.{found_long}
 use Rattle.inode_walks.proofs.TellLaws.{cat_answers, cat_refuses, none_told, part_told, part_answers, on_ok_too}
 use Rattle.inode_walks.proofs.reading.read_part.Goals as goal
@@ -30,7 +30,7 @@ returns-then-start-size-clause-answer g c = λ t.
     let i = e.found t in
     let past : amount_said (inode_of c.in-Ok.file.inode) ≤ c.args.start = omega (arith, c.amount-size.ensures, c.if-start-size.true) in
     cat_answers me old new p (c.requires.may.tree t) seen.world (λ _. TellsPart c.args.start c.new.result) tt (e.none t)
-    (subst (λ x. TellsPart c.args.start x (bytes (bytes_in (at (tree_of me old) p)))) (sym c.new.ensures)
+    (subst (λ x. TellsPart c.args.start x (bytes (bytes_in (at (tree_under me old) p)))) (sym c.new.ensures)
     (none_told me old new p c.in-Ok.file i seen.world e.file seen.valid (found_long me new i.more c.in-Ok.file i.stands seen.valid) c.args.start past))
 
 pub read_bytes-requires-clause-is_file : goal.read_bytes-requires-clause-is_file
@@ -52,7 +52,7 @@ returns-clause-answer g c = λ t.
     let end : c.min-end.result ≡ min (amount_said (inode_of c.in-Ok.file.inode)) (c.args.start + 4096) = c.min-end.ensures ∙ ap (λ n. min n (c.args.start + 4096)) c.amount-size.ensures in
     part_answers me old new p c.args.start c.read_bytes.new.into result (c.requires.may.tree t) (e.none t)
     (on_ok_too result (Looked mid new) (new.world ≡ old.world) (λ k. k.world ∙ seen.world) (r.looks.looked t).0)
-    (on_ok_too result (c.read_bytes.new.into ≡ part (bytes_said mid.world (inode_of c.in-Ok.file.inode)) c.args.start c.min-end.result) (TellsPart c.args.start c.read_bytes.new.into (bytes (bytes_in (at (tree_of me old) p))))
+    (on_ok_too result (c.read_bytes.new.into ≡ part (bytes_said mid.world (inode_of c.in-Ok.file.inode)) c.args.start c.min-end.result) (TellsPart c.args.start c.read_bytes.new.into (bytes (bytes_in (at (tree_under me old) p))))
     (λ is. part_told me old mid p c.in-Ok.file i seen.world e.file seen.valid (found_long me mid i.more c.in-Ok.file i.stands seen.valid) c.args.start c.min-end.result c.read_bytes.new.into before end is) (r.bytes t))
     (r.only t)
 

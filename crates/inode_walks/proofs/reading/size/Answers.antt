@@ -3,7 +3,7 @@ use Rattle.fs_trees.specs.Tree.{at, bytes_in}
 use Rattle.fs_trees.specs.Answer.{bytes}
 use Rattle.fs_port.specs.Files.{TellsSize}
 use Rattle.fs_client.proofs.LookLaws.{looks_as, looks_refused}
-use Rattle.inode_walks.specs.Asking.{tree_of}
+use Rattle.inode_walks.specs.Asking.{tree_under}
 use Rattle.inode_walks.proofs.FileLaws.{found_long}
 use Rattle.inode_walks.proofs.TellLaws.{cat_answers, cat_refuses, size_told}
 use Rattle.inode_walks.proofs.reading.size.Goals as goal
@@ -24,7 +24,7 @@ returns-in-Ok g c =
           let seen = (e.looks.looked t).0 in
           let i = e.found t in
           cat_answers me old new p (c.requires.may.tree t) seen.world TellsSize c.amount.result (e.none t)
-          (subst (λ n. TellsSize n (bytes (bytes_in (at (tree_of me old) p)))) (sym c.amount.ensures)
+          (subst (λ n. TellsSize n (bytes (bytes_in (at (tree_under me old) p)))) (sym c.amount.ensures)
           (size_told me old new p c.in-Ok.file i seen.world e.file seen.valid (found_long me new i.more c.in-Ok.file i.stands seen.valid)));
       looks = looks_as told old new c.in-Ok.file c.amount.result e.looks;
     }

@@ -1,6 +1,6 @@
 use Rattle.std.proofs.Common.{◌≡◌, drop}
-use Rattle.intent_journal.specs.Homes.{is_distinct}
+use Rattle.tsd_model.specs.World.{are_apart}
 use Rattle.intent_journal.proofs.descriptor.are_distinct.Given as goal
 
 abbrev pub invariant-loop-index : goal.invariant-loop-index
-invariant-loop-index l = is_distinct l.homes ≡ is_distinct (drop l.index l.homes)
+invariant-loop-index l = are_apart l.homes ≡ are_apart (drop l.index l.homes)

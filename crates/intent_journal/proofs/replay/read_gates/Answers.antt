@@ -1,5 +1,5 @@
 use Rattle.std.proofs.Common.{◌∙◌, arith, length-set, Bool}
-use Rattle.intent_journal.specs.Records.{is_open_gate}
+use Rattle.intent_journal.specs.Records.{is_gate_open}
 use Rattle.intent_journal.proofs.Closings.{listed_more}
 use Rattle.image_device.proofs.Moments.{uses_and}
 use Rattle.image_device.proofs.Resting.{rests_joined}
@@ -12,7 +12,7 @@ loop-index-preserved g c =
       size = length-set {A = Bool} c.loop-index.gates c.loop-index.index c.in_ok-gates.field-0 ∙ c.loop-index.invariant.size;
       gates = λ told.
           listed_more c.loop-index.gates c.loop-index.index c.in_ok-gates.field-0 (view c.args.dev.now).reads (omega (arith, c.loop-index.invariant.size)) (c.loop-index.invariant.gates told)
-          (c.in_ok-gates.ensures.gate told ∙ (λ i. is_open_gate ((c.loop-index.invariant.rests told).reads i) c.loop-index.index));
+          (c.in_ok-gates.ensures.gate told ∙ (λ i. is_gate_open ((c.loop-index.invariant.rests told).reads i) c.loop-index.index));
       rests = λ told. rests_joined _ _ _ (c.loop-index.invariant.rests told) (c.is_gate_open.ensures.rests told);
       uses = uses_and 0 0 0 _ _ _ (omega arith) c.loop-index.invariant.uses c.is_gate_open.ensures.uses;
       faultless = c.in_ok-gates.ensures.faults ∙ c.loop-index.invariant.faultless;

@@ -5,7 +5,7 @@ use Rattle.intent_journal.specs.declared.ring.ReplayFault.TheVariants.{BadDescri
 use Rattle.image_device.specs.Image.{Image}
 use Rattle.image_layout.specs.declared.offset.Patch.{Patch}
 use Rattle.intent_journal.specs.Descriptor.{is_valid}
-use Rattle.intent_journal.specs.Records.{is_open_gate, descriptor_of, record_at}
+use Rattle.intent_journal.specs.Records.{is_gate_open, descriptor_of, record_at}
 use Rattle.image_device.proofs.Moments.{uses_and}
 use Rattle.image_device.proofs.Resting.{uses_none}
 use Rattle.intent_journal.proofs.Reading.{found_start, valid_start, found_more, valid_more, found_end, valid_end, bad_end}
@@ -33,7 +33,7 @@ returns-in_err-read_record-clause-bad g c told is =
     let at : Err p.0 ≡ Err BadDescriptor = subst (λ r. IsErrOf r BadDescriptor) p.1 is in
     let same : p.0 ≡ BadDescriptor = cc in
     let bad = c.in_err-read_record.ensures.bad told (ap Err (sym p.2 ∙ same)) in
-    let gate = sym (ap (λ (y : Image). is_open_gate y i) e) ∙ bad.0 in
+    let gate = sym (ap (λ (y : Image). is_gate_open y i) e) ∙ bad.0 in
     let wrong = sym (ap (λ (y : Image). is_valid (length ps) (descriptor_of y i)) e) ∙ bad.1 in
     c.loop-index.invariant.valid told ∙ bad_end x i ps c.loop-index-test.true gate wrong
 
@@ -42,7 +42,7 @@ returns-then-not-branch-clause-found g c told =
     let x : Image = (g.D.Device.view c.args.dev.now).reads in
     let e = (c.loop-index.invariant.rests told).reads in
     let closed = c.in_ok-read_record.ensures.closed told c.if-not-branch.true in
-    let gate = sym (ap (λ (y : Image). is_open_gate y c.loop-index.index) e) ∙ closed.0 in
+    let gate = sym (ap (λ (y : Image). is_gate_open y c.loop-index.index) e) ∙ closed.0 in
     closed.1 ∙ sym (c.loop-index.invariant.found told ∙ found_end x c.loop-index.index c.loop-index.patches c.loop-index-test.true gate)
 
 pub returns-then-not-branch-clause-valid : goal.returns-then-not-branch-clause-valid
@@ -50,7 +50,7 @@ returns-then-not-branch-clause-valid g c told =
     let x : Image = (g.D.Device.view c.args.dev.now).reads in
     let e = (c.loop-index.invariant.rests told).reads in
     let closed = c.in_ok-read_record.ensures.closed told c.if-not-branch.true in
-    let gate = sym (ap (λ (y : Image). is_open_gate y c.loop-index.index) e) ∙ closed.0 in
+    let gate = sym (ap (λ (y : Image). is_gate_open y c.loop-index.index) e) ∙ closed.0 in
     c.loop-index.invariant.valid told ∙ valid_end x c.loop-index.index c.loop-index.patches c.loop-index-test.true gate
 
 pub loop-index-preserved : goal.loop-index-preserved
@@ -63,14 +63,14 @@ loop-index-preserved g c =
       found = λ told.
           let e = (c.loop-index.invariant.rests told).reads in
           let more = c.in_ok-read_record.ensures.more told c.if-not-branch.false in
-          let gate = sym (ap (λ (y : Image). is_open_gate y i) e) ∙ more.0 in
+          let gate = sym (ap (λ (y : Image). is_gate_open y i) e) ∙ more.0 in
           let valid = sym (ap (λ (y : Image). is_valid (length ps) (descriptor_of y i)) e) ∙ more.1 in
           let is = more.2 ∙ ap (λ (y : Image). ps ++ record_at y i (length ps)) e in
           c.loop-index.invariant.found told ∙ found_more x i ps c.loop-index-test.true new gate valid is;
       valid = λ told.
           let e = (c.loop-index.invariant.rests told).reads in
           let more = c.in_ok-read_record.ensures.more told c.if-not-branch.false in
-          let gate = sym (ap (λ (y : Image). is_open_gate y i) e) ∙ more.0 in
+          let gate = sym (ap (λ (y : Image). is_gate_open y i) e) ∙ more.0 in
           let valid = sym (ap (λ (y : Image). is_valid (length ps) (descriptor_of y i)) e) ∙ more.1 in
           let is = more.2 ∙ ap (λ (y : Image). ps ++ record_at y i (length ps)) e in
           c.loop-index.invariant.valid told ∙ valid_more x i ps c.loop-index-test.true new gate valid is;

@@ -4,8 +4,8 @@ use Rattle.pointer_table.specs.Reading.{AreReadTo, AreWithinTo}
 use Rattle.pointer_table.proofs.LoadLaws.{source_at, target_at, least_bad, read_more, within_more}
 use Rattle.pointer_table.proofs.load.take_sector.Goals as goal
 
-pub returns-then-is_bad-clause-read : goal.returns-then-is_bad-clause-read
-returns-then-is_bad-clause-read c image is so_far =
+pub returns-then-is_bad_slot-clause-read : goal.returns-then-is_bad_slot-clause-read
+returns-then-is_bad_slot-clause-read c image is so_far =
     let position = c.loop-position.position in
     let g = c.args.geometry.now in
     let from : 64 * c.args.part ≤ position = omega arith in
@@ -14,7 +14,7 @@ returns-then-is_bad-clause-read c image is so_far =
     least_bad image g position c.loop-position.slots c.read_slot-slot.result (omega arith)
     (c.read_slot-slot.ensures.source ∙ sym (source_at image g position c.args.part c.args.sector.now from below is))
     (c.read_slot-slot.ensures.target ∙ sym (target_at image g position c.args.part c.args.sector.now from below is))
-    (sym c.is_bad.ensures ∙ c.if-is_bad.true) (c.loop-position.invariant.read image is so_far)
+    (sym c.is_bad_slot.ensures ∙ c.if-is_bad_slot.true) (c.loop-position.invariant.read image is so_far)
 
 pub loop-position-preserved : goal.loop-position-preserved
 loop-position-preserved c =
@@ -30,10 +30,10 @@ loop-position-preserved c =
           (read_more image g position c.loop-position.slots c.read_slot-slot.result (omega arith)
           (c.read_slot-slot.ensures.source ∙ sym (source_at image g position c.args.part c.args.sector.now from below is))
           (c.read_slot-slot.ensures.target ∙ sym (target_at image g position c.args.part c.args.sector.now from below is))
-          (sym c.is_bad.ensures ∙ c.if-is_bad.false) (c.loop-position.invariant.read image is so_far));
+          (sym c.is_bad_slot.ensures ∙ c.if-is_bad_slot.false) (c.loop-position.invariant.read image is so_far));
       within = λ so_far.
           subst (AreWithinTo g (position + 1)) (sym c.set.ensures)
-          (within_more g position c.loop-position.slots c.read_slot-slot.result (omega arith) (sym c.is_bad.ensures ∙ c.if-is_bad.false)
+          (within_more g position c.loop-position.slots c.read_slot-slot.result (omega arith) (sym c.is_bad_slot.ensures ∙ c.if-is_bad_slot.false)
           (c.loop-position.invariant.within so_far));
     }
 

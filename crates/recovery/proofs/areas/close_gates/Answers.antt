@@ -2,7 +2,7 @@ use Rattle.std.proofs.Common.{◌+◌, inl, inr, ◌∙◌, ap, sym, arith}
 use Rattle.std.proofs.lemmas.Bool.{cases_eq}
 use Rattle.image_device.proofs.Confined.{confined_write}
 use Rattle.image_device.proofs.Moments.{uses_and}
-use Rattle.image_layout.specs.Image.{is_open}
+use Rattle.image_layout.specs.Image.{says_open}
 use Rattle.image_layout.specs.Ring.{gate_sector}
 use Rattle.intent_journal.specs.Home.{is_journal}
 use Rattle.intent_journal.proofs.Places.{gates_apart, in_journal}
@@ -18,8 +18,8 @@ loop-index-preserved g c =
     let now = view c.write.new.self in
     record {
       closed = λ told i h. elim (cases_eq i c.loop-index.index) [
-        | inl same ↦ ap (λ n. is_open (now.reads (gate_sector n))) same ∙ (ap (λ n. is_open (now.reads n)) (sym c.gate_sector.ensures.value) ∙ (ap is_open (c.in_ok-write.ensures.written told) ∙ c.gate_bytes.ensures.reads_back))
-        | inr other ↦ ap is_open ((c.write.ensures.touches told).reads (gate_sector i) (λ e. gates_apart i c.loop-index.index other (e ∙ c.gate_sector.ensures.value))) ∙ c.loop-index.invariant.closed told i (omega arith)
+        | inl same ↦ ap (λ n. says_open (now.reads (gate_sector n))) same ∙ (ap (λ n. says_open (now.reads n)) (sym c.gate_sector.ensures.value) ∙ (ap says_open (c.in_ok-write.ensures.written told) ∙ c.gate_bytes.ensures.reads_back))
+        | inr other ↦ ap says_open ((c.write.ensures.touches told).reads (gate_sector i) (λ e. gates_apart i c.loop-index.index other (e ∙ c.gate_sector.ensures.value))) ∙ c.loop-index.invariant.closed told i (omega arith)
       ];
       confined = λ told. confined_write is_journal c.gate_sector.result _ _ _ (in_journal c.gate_sector.result c.gate_sector.ensures.in_ring.0 (omega arith)) (c.loop-index.invariant.confined told) (c.write.ensures.touches told);
       uses = uses_and c.loop-index.index 1 (c.loop-index.index + 1) _ _ _ (omega arith) c.loop-index.invariant.uses c.write.ensures.uses;

@@ -2,14 +2,14 @@ use Rattle.std.proofs.Common.{◌≡◌, ◌<◌, ℕ, false}
 use Rattle.image_device.specs.Calls.{Uses}
 use Rattle.image_device.specs.Runs.{IsConfined}
 use Rattle.intent_journal.specs.Home.{is_journal}
-use Rattle.intent_journal.specs.Records.{is_open_gate}
+use Rattle.intent_journal.specs.Records.{is_gate_open}
 use Rattle.recovery.proofs.areas.close_gates.Given as goal
 
 abbrev pub invariant-loop-index : goal.invariant-loop-index
 invariant-loop-index g l =
     let view = g.D.Device.view in
     record {
-      closed : g.D.Device.told → (i : ℕ) → i < l.index → is_open_gate (view l.dev).reads i ≡ false;
+      closed : g.D.Device.told → (i : ℕ) → i < l.index → is_gate_open (view l.dev).reads i ≡ false;
       confined : g.D.Device.told → IsConfined is_journal (view l.fn.dev) (view l.dev);
       uses : Uses l.index (view l.fn.dev) (view l.dev);
       faultless : (view l.dev).faults ≡ (view l.fn.dev).faults;

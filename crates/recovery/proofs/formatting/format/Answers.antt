@@ -1,5 +1,5 @@
 use Rattle.std.proofs.Common.{◌∙◌, ap}
-use Rattle.image_layout.specs.Image.{is_open}
+use Rattle.image_layout.specs.Image.{says_open}
 use Rattle.image_device.proofs.Outcomes.{on_ok}
 use Rattle.image_world.proofs.FreshLaws.{fresh_stands}
 use Rattle.recovery.proofs.AreaRuns.{gate_inside, inside_joined}
@@ -13,7 +13,7 @@ returns-clause-done g c told =
     let new = g.D.Device.view c.write_through-2.new.dev in
     ok_map c.write_through-2.result _ _
     (λ written. fresh_stands c.args.geometry.now c.args.caps.now new.reads c.requires.lawful c.requires.each
-    (c.in_ok-write_areas.ensures.written told new.reads (c.write_through-2.ensures.confined told).reads) (ap is_open written ∙ c.gate_bytes-2.ensures.reads_back))
+    (c.in_ok-write_areas.ensures.written told new.reads (c.write_through-2.ensures.confined told).reads) (ap says_open written ∙ c.gate_bytes-2.ensures.reads_back))
     (c.write_through-2.ensures.written told)
 
 pub returns-clause-quiet : goal.returns-clause-quiet
@@ -26,7 +26,7 @@ pub returns-clause-any_moment : goal.returns-clause-any_moment
 returns-clause-any_moment g c told =
     let view = g.D.Device.view in
     formatted_moments c.args.geometry.now c.args.caps.now (view c.args.dev.now) (view c.write_through.new.dev) (view c.write_areas.new.dev) (view c.write_through-2.new.dev) c.requires.lawful c.requires.each
-    (c.write_through.ensures.confined told) (ap is_open (c.in_ok-write_through.ensures.written told) ∙ c.gate_bytes.ensures.reads_back) (c.in_ok-write_through.ensures.firm told)
+    (c.write_through.ensures.confined told) (ap says_open (c.in_ok-write_through.ensures.written told) ∙ c.gate_bytes.ensures.reads_back) (c.in_ok-write_through.ensures.firm told)
     (c.write_areas.ensures.confined told) (c.in_ok-write_areas.ensures.written told) (c.in_ok-write_areas.ensures.firm told) (c.write_through-2.ensures.confined told)
 
 pub returns-in_err-write_through-clause-inside : goal.returns-in_err-write_through-clause-inside

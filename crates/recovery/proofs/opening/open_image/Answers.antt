@@ -1,7 +1,7 @@
 use Rattle.std.proofs.Common.{refl, ◌∙◌, ap, sym, subst, arith, rules}
 use Rattle.std.specs.Prelude.{Err}
 use Rattle.image_device.proofs.Moments.{uses_and}
-use Rattle.image_layout.specs.Image.{Image, is_open}
+use Rattle.image_layout.specs.Image.{Image, says_open}
 use Rattle.recovery.proofs.OpenRuns.{synced, read_still, opened_start, opened_sync, opened_head, opened_replay, replayed, loaded, opened_load, stood, opened_finish, opened_err, opened_device, is_device, quiet_uses, quiet_finish, quiet_paid, unwritten, owed_start, owed_sync, owed_head, owed_replay, owed_load, owed_finish, right_head}
 use Rattle.recovery.proofs.OpenCosts.{costs_none, costs_start, uses_replay, costs_replay, uses_load, costs_finish, costs_paid}
 use Rattle.recovery.proofs.SparedLaws.{by_image, by_other, by_replay, spared_head, spared_bad, spared_load, data_start_of, data_sync, data_head, data_replay, data_load, data_finish}
@@ -34,7 +34,7 @@ pub load-requires-clause-formatted : goal.load-requires-clause-formatted
 load-requires-clause-formatted g c told =
     let still = read_still _ _ _ (synced _ _ (c.in_ok-sync.ensures.firm told) (c.sync.ensures.settles told)) (c.read_head.ensures.rests told) in
     let done = replayed _ _ _ still (c.in_ok-replay.ensures.at told) (c.in_ok-replay.ensures.done told) (c.in_ok-replay.ensures.valid told) (c.in_ok-replay.ensures.firm told) (c.replay.ensures.sent told) in
-    done.agree.gate ∙ (ap (λ (r : Image). is_open (r 1)) (sym (c.sync.ensures.settles told).reads) ∙ (c.in_ok-header.ensures.head told).formatted)
+    done.agree.gate ∙ (ap (λ (r : Image). says_open (r 1)) (sym (c.sync.ensures.settles told).reads) ∙ (c.in_ok-header.ensures.head told).formatted)
 
 pub returns-in_err-volume-clause-read : goal.returns-in_err-volume-clause-read
 returns-in_err-volume-clause-read g c told =

@@ -1,6 +1,6 @@
 use Rattle.std.proofs.Common.{◌≡◌, ◌≤◌, ◌+◌, ℕ, List}
 use Rattle.image_device.specs.Runs.{LeavesPart}
-use Rattle.serving.specs.Goes.{Goes, Handed, ends_left, left_in}
+use Rattle.serving.specs.Goes.{Goes, Handed, ends_left, remaining}
 use Rattle.serving.specs.Handling.{FitsDevice}
 use Rattle.serving.specs.Prompt.{IsOfPort}
 use Rattle.serving.specs.Ran.{Came, IsAtEnd}
@@ -29,4 +29,4 @@ invariant-loop-request g l =
     }
 
 abbrev pub decreases-loop-request : goal.decreases-loop-request
-decreases-loop-request g l = left_in l.intake
+decreases-loop-request g l = remaining l.intake

@@ -2,7 +2,8 @@ use Rattle.std.proofs.Common.{◌≡◌, ℕ, ◌-◌, List, ◌++◌, length, t
 use Rattle.hex.specs.Hex.{encode_lower}
 use Rattle.fs_trees.specs.Answer.{bytes}
 use Rattle.fs_trees.specs.declared.ask.ShellAsk.TheVariants as ask
-use Rattle.shell_text.specs.Texts.{data_head, is_empty}
+use Rattle.tsd_model.specs.Verdict.{is_empty}
+use Rattle.shell_text.specs.Texts.{data_head}
 use Rattle.shell_server.specs.Shell.{shell_step}
 use Rattle.shell_server.specs.Kept.{shell_state}
 use Rattle.shell_server.specs.Speaking.{IsSpeaking}

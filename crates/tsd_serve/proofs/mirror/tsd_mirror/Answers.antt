@@ -10,7 +10,7 @@ use Rattle.tsd_words.specs.declared.status.Status.{Status}
 use Rattle.tsd_words.specs.declared.status.Status.TheVariants as status
 use Rattle.tsd_serve.specs.Did.{Did}
 use Rattle.tsd_serve.specs.MirrorDid.{AreSoundAtEnd, DidOver, EndedAs}
-use Rattle.tsd_serve.specs.MirrorStatus.{answered, ended_with}
+use Rattle.tsd_serve.specs.MirrorStatus.{own_status, ended_with}
 use Rattle.tsd_serve.proofs.Mirrored.{headline_over, headline_unbegun, sound_at_end}
 use Rattle.tsd_serve.proofs.Promises.{headline}
 use Rattle.tsd_serve.proofs.mirror.tsd_mirror.Given as given
@@ -53,7 +53,7 @@ did_over g c =
     let ended : View = mirror_view (view n.sides.sides) g.K.Began.start n.serving n.faults n.writes in
     let is : command_of (map string_bytes c.args.words.now.items) ≡ Some c.in-Some.words = cc in
     record {
-      did = subst (λ (w : Option Command). Did w (answered c.of-status.result) (source_of g c) (port_of g c)) (sym is)
+      did = subst (λ (w : Option Command). Did w (own_status c.of-status.result) (source_of g c) (port_of g c)) (sym is)
           (subst (λ (r : Status). Did (Some c.in-Some.words) r (source_of g c) (port_of g c)) (sym c.of-status.ensures.answered) c.obey-status.ensures.did);
       begins = λ told. record {
         sound = mirror_sound (view m.sides.sides) g.K.Began.start m.serving m.faults m.writes (g.met.P.Sides.sound m.sides.sides told) m.stands (m.alike told);
@@ -80,11 +80,11 @@ returns-clause-headline g c told words is =
     let source = source_of g c in
     let port = port_of g c in
     headline_over words source (g.P.Sides.view c.args.sides) (g.P.Sides.view c.into_sides.result) c.obey-status.new.port.serving port (over.begins told) (over.ends told)
-    (headline words (answered c.of-status.result) source port
+    (headline words (own_status c.of-status.result) source port
     (λ same. record { taken = λ t. ap g.S.Source.taken same ∙ sym (append-nil (g.S.Source.taken c.args.source.now)); left = λ t. ap g.S.Source.left_bytes (sym same) })
     (λ same. ap (λ m. mirror_view (g.P.Sides.view m.sides.sides) g.K.Began.start m.serving m.faults m.writes) same)
     (λ told. (over.begins told).sound)
-    (subst (λ (w : Option Command). Did w (answered c.of-status.result) source port) is over.did)
+    (subst (λ (w : Option Command). Did w (own_status c.of-status.result) source port) is over.did)
     told)
 
 pub returns-clause-sound : goal.returns-clause-sound

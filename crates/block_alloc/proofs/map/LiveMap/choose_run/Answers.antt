@@ -1,6 +1,6 @@
 use Rattle.std.proofs.Common.{refl, ◌∙◌, ap}
 use Rattle.tsd_model.specs.Rank.{rank_of}
-use Rattle.tsd_model.specs.Placing.{first_of}
+use Rattle.tsd_model.specs.Placing.{first_block}
 use Rattle.block_alloc.specs.Least.{blocks_of}
 use Rattle.block_alloc.specs.Choosing.{runs}
 use Rattle.block_alloc.proofs.OrderLaws.{first-least, none-least}
@@ -13,5 +13,5 @@ returns-in-None-clause-refused g c =
       free_is = c.free_count-free.ensures.value;
       wanted_is = refl;
       enough = c.if-free-count.false;
-      none = none-least rank starts (c.in-None.ensures ∙ (ap (λ kept. first_of (blocks_of kept)) c.least_run.ensures ∙ first-least rank starts));
+      none = none-least rank starts (c.in-None.ensures ∙ (ap (λ kept. first_block (blocks_of kept)) c.least_run.ensures ∙ first-least rank starts));
     }

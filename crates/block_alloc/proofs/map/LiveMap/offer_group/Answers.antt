@@ -2,7 +2,7 @@ use Rattle.std.proofs.Common.{◌≡◌, ◌-◌, ◌<◌, ◌+◌, ◌*◌, ◌
 use Rattle.tsd_model.specs.Rank.{rank_of}
 use Rattle.block_alloc.specs.Choosing.{is_free_run}
 use Rattle.block_alloc.specs.Groups.{is_within, is_run_within, IsKeptFrom}
-use Rattle.block_alloc.specs.Least.{in_order, ranked}
+use Rattle.block_alloc.specs.Least.{inserted, ranked}
 use Rattle.block_alloc.specs.declared.least.Ranked.{Ranked}
 use Rattle.block_alloc.proofs.OrderLaws.{least-from-yes}
 use Rattle.block_alloc.proofs.map.LiveMap.offer_group.Goals as goal
@@ -23,7 +23,7 @@ loop-block-preserved-then-is_within g c =
     record {
       low = omega (arith, c.loop-block-test.true);
       wanted = c.offer.ensures.wanted ∙ c.loop-block.invariant.wanted;
-      kept = λ before. c.offer.ensures.kept ∙ (ap (λ w. take w (in_order offered c.loop-block.least.kept.items)) c.loop-block.invariant.wanted
+      kept = λ before. c.offer.ensures.kept ∙ (ap (λ w. take w (inserted offered c.loop-block.least.kept.items)) c.loop-block.invariant.wanted
           ∙ least-from-yes rank (is_run_within rank live c.args.run c.args.ceiling) c.args.least.now.wanted block c.loop-block.block (length live) c.loop-block.least.kept.items offered next within passes is (c.loop-block.invariant.kept before));
     }
 

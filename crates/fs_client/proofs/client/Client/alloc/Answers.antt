@@ -6,7 +6,7 @@ use Rattle.tsd_model.specs.declared.replies.Reply.TheVariants as reply
 use Rattle.fs_trees.specs.declared.refusal.FsRefusal.TheVariants as no
 use Rattle.fs_port.specs.Calls.{IsAskCarriedOut}
 use Rattle.fs_client.specs.Client.{alloc_by}
-use Rattle.fs_client.specs.Asks.{blocks_in, AsksOnce}
+use Rattle.fs_client.specs.Asks.{blocks_replied, AsksOnce}
 use Rattle.fs_client.proofs.OnceLaws.{failed}
 use Rattle.fs_client.proofs.FormLaws.{blocks_form, blocks_step, answered}
 use Rattle.fs_client.proofs.client.Client.alloc.Goals as goal
@@ -24,10 +24,10 @@ returns-in-Ok g c =
     let r = c.in-Ok.reply in
     let same = ap (λ x. ask.Alloc s a x (At a) c.args.count) c.shown.ensures in
     record {
-      step = λ t. subst (λ given. IfOk given (λ x. IsAskCarriedOut old new (alloc_by c.args.self.now a c.args.count) (reply.Blocks x))) (sym c.blocks_in.ensures)
+      step = λ t. subst (λ given. IfOk given (λ x. IsAskCarriedOut old new (alloc_by c.args.self.now a c.args.count) (reply.Blocks x))) (sym c.blocks_replied.ensures)
           (blocks_step (IsAskCarriedOut old new (alloc_by c.args.self.now a c.args.count)) r (subst (λ q. IsAskCarriedOut old new q r) same (c.in-Ok.ensures.step t)));
-      once = subst (λ q. AsksOnce {X = List ℕ} told old new q c.blocks_in.result) same
-          (answered {X = List ℕ} told old new (ask.Alloc s a c.shown.result (At a) c.args.count) r (blocks_in r) c.blocks_in.result c.blocks_in.ensures (blocks_form s a c.shown.result (At a) c.args.count r) refl
+      once = subst (λ q. AsksOnce {X = List ℕ} told old new q c.blocks_replied.result) same
+          (answered {X = List ℕ} told old new (ask.Alloc s a c.shown.result (At a) c.args.count) r (blocks_replied r) c.blocks_replied.result c.blocks_replied.ensures (blocks_form s a c.shown.result (At a) c.args.count r) refl
           c.in-Ok.ensures.step c.in-Ok.ensures.crash (c.in-Ok.ensures.stays refl) c.in-Ok.ensures.counts c.in-Ok.ensures.faults c.in-Ok.ensures.unspent);
     }
 

@@ -5,7 +5,7 @@ use Rattle.tsd_model.specs.declared.replies.Reply.TheVariants as reply
 use Rattle.fs_trees.specs.declared.refusal.FsRefusal.TheVariants as no
 use Rattle.fs_port.specs.Calls.{IsAskCarriedOut}
 use Rattle.fs_client.specs.Client.{link_by}
-use Rattle.fs_client.specs.Asks.{done_in, AsksOnce}
+use Rattle.fs_client.specs.Asks.{done_replied, AsksOnce}
 use Rattle.fs_client.proofs.OnceLaws.{failed}
 use Rattle.fs_client.proofs.FormLaws.{linked_form, done_step, answered}
 use Rattle.fs_client.proofs.client.Client.link.Goals as goal
@@ -23,10 +23,10 @@ returns-in-Ok g c =
     let r = c.in-Ok.reply in
     let same = ap (λ x. ask.Create s a x c.args.target) c.shown.ensures in
     record {
-      step = λ t. subst (λ given. IfOk given (λ x. IsAskCarriedOut old new (link_by c.args.self.now a c.args.target) (reply.Done))) (sym c.done_in.ensures)
+      step = λ t. subst (λ given. IfOk given (λ x. IsAskCarriedOut old new (link_by c.args.self.now a c.args.target) (reply.Done))) (sym c.done_replied.ensures)
           (done_step (IsAskCarriedOut old new (link_by c.args.self.now a c.args.target)) r (subst (λ q. IsAskCarriedOut old new q r) same (c.in-Ok.ensures.step t)));
-      once = subst (λ q. AsksOnce {X = Unit {0}} told old new q c.done_in.result) same
-          (answered {X = Unit {0}} told old new (ask.Create s a c.shown.result c.args.target) r (done_in r) c.done_in.result c.done_in.ensures (linked_form s a c.shown.result c.args.target r) refl
+      once = subst (λ q. AsksOnce {X = Unit {0}} told old new q c.done_replied.result) same
+          (answered {X = Unit {0}} told old new (ask.Create s a c.shown.result c.args.target) r (done_replied r) c.done_replied.result c.done_replied.ensures (linked_form s a c.shown.result c.args.target r) refl
           c.in-Ok.ensures.step c.in-Ok.ensures.crash (c.in-Ok.ensures.stays refl) c.in-Ok.ensures.counts c.in-Ok.ensures.faults c.in-Ok.ensures.unspent);
     }
 

@@ -5,7 +5,7 @@ use Rattle.tsd_model.specs.declared.replies.Reply.TheVariants as reply
 use Rattle.fs_trees.specs.declared.refusal.FsRefusal.TheVariants as no
 use Rattle.fs_port.specs.Calls.{IsAskCarriedOut}
 use Rattle.fs_client.specs.Client.{list_by}
-use Rattle.fs_client.specs.Asks.{targets_in, AsksOnce}
+use Rattle.fs_client.specs.Asks.{targets_replied, AsksOnce}
 use Rattle.fs_client.proofs.OnceLaws.{failed}
 use Rattle.fs_client.proofs.FormLaws.{targets_form, targets_step, answered}
 use Rattle.fs_client.proofs.client.Client.list.Goals as goal
@@ -23,10 +23,10 @@ returns-in-Ok g c =
     let r = c.in-Ok.reply in
     let same = ap (λ x. ask.List s a x c.args.start) c.shown.ensures in
     record {
-      step = λ t. subst (λ given. IfOk given (λ x. IsAskCarriedOut old new (list_by c.args.self.now a c.args.start) (reply.Targets x))) (sym c.targets_in.ensures)
+      step = λ t. subst (λ given. IfOk given (λ x. IsAskCarriedOut old new (list_by c.args.self.now a c.args.start) (reply.Targets x))) (sym c.targets_replied.ensures)
           (targets_step (IsAskCarriedOut old new (list_by c.args.self.now a c.args.start)) r (subst (λ q. IsAskCarriedOut old new q r) same (c.in-Ok.ensures.step t)));
-      once = subst (λ q. AsksOnce {X = List ℕ} told old new q c.targets_in.result) same
-          (answered {X = List ℕ} told old new (ask.List s a c.shown.result c.args.start) r (targets_in r) c.targets_in.result c.targets_in.ensures (targets_form s a c.shown.result c.args.start r) refl
+      once = subst (λ q. AsksOnce {X = List ℕ} told old new q c.targets_replied.result) same
+          (answered {X = List ℕ} told old new (ask.List s a c.shown.result c.args.start) r (targets_replied r) c.targets_replied.result c.targets_replied.ensures (targets_form s a c.shown.result c.args.start r) refl
           c.in-Ok.ensures.step c.in-Ok.ensures.crash (c.in-Ok.ensures.stays refl) c.in-Ok.ensures.counts c.in-Ok.ensures.faults c.in-Ok.ensures.unspent);
     }
 

@@ -5,7 +5,7 @@ use Rattle.tsd_model.specs.declared.replies.Reply.TheVariants as reply
 use Rattle.fs_trees.specs.declared.refusal.FsRefusal.TheVariants as no
 use Rattle.fs_port.specs.Calls.{IsAskCarriedOut}
 use Rattle.fs_client.specs.Client.{read_by}
-use Rattle.fs_client.specs.Asks.{bytes_in, AsksOnce}
+use Rattle.fs_client.specs.Asks.{bytes_replied, AsksOnce}
 use Rattle.fs_client.proofs.OnceLaws.{failed}
 use Rattle.fs_client.proofs.FormLaws.{bytes_form, bytes_step, answered}
 use Rattle.fs_client.proofs.client.Client.read.Goals as goal
@@ -23,10 +23,10 @@ returns-in-Ok g c =
     let r = c.in-Ok.reply in
     let same = ap (λ x. ask.Read s a x) c.shown.ensures in
     record {
-      step = λ t. subst (λ given. IfOk given (λ x. IsAskCarriedOut old new (read_by c.args.self.now a) (reply.Bytes x))) (sym c.bytes_in.ensures)
+      step = λ t. subst (λ given. IfOk given (λ x. IsAskCarriedOut old new (read_by c.args.self.now a) (reply.Bytes x))) (sym c.bytes_replied.ensures)
           (bytes_step (IsAskCarriedOut old new (read_by c.args.self.now a)) r (subst (λ q. IsAskCarriedOut old new q r) same (c.in-Ok.ensures.step t)));
-      once = subst (λ q. AsksOnce {X = List ℕ} told old new q c.bytes_in.result) same
-          (answered {X = List ℕ} told old new (ask.Read s a c.shown.result) r (bytes_in r) c.bytes_in.result c.bytes_in.ensures (bytes_form s a c.shown.result r) refl
+      once = subst (λ q. AsksOnce {X = List ℕ} told old new q c.bytes_replied.result) same
+          (answered {X = List ℕ} told old new (ask.Read s a c.shown.result) r (bytes_replied r) c.bytes_replied.result c.bytes_replied.ensures (bytes_form s a c.shown.result r) refl
           c.in-Ok.ensures.step c.in-Ok.ensures.crash (c.in-Ok.ensures.stays refl) c.in-Ok.ensures.counts c.in-Ok.ensures.faults c.in-Ok.ensures.unspent);
     }
 

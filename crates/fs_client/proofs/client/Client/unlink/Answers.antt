@@ -5,7 +5,7 @@ use Rattle.tsd_model.specs.declared.replies.Reply.TheVariants as reply
 use Rattle.fs_trees.specs.declared.refusal.FsRefusal.TheVariants as no
 use Rattle.fs_port.specs.Calls.{IsAskCarriedOut}
 use Rattle.fs_client.specs.Client.{unlink_by}
-use Rattle.fs_client.specs.Asks.{gone_in, AsksOnce}
+use Rattle.fs_client.specs.Asks.{gone_replied, AsksOnce}
 use Rattle.fs_client.proofs.OnceLaws.{failed}
 use Rattle.fs_client.proofs.FormLaws.{gone_form, gone_step, answered}
 use Rattle.fs_client.proofs.client.Client.unlink.Goals as goal
@@ -23,10 +23,10 @@ returns-in-Ok g c =
     let r = c.in-Ok.reply in
     let same = ap (λ x. ask.Delete s a x c.args.target) c.shown.ensures in
     record {
-      step = λ t. subst (λ given. IfOk given (λ x. IsAskCarriedOut old new (unlink_by c.args.self.now a c.args.target) (reply.Gone x))) (sym c.gone_in.ensures)
+      step = λ t. subst (λ given. IfOk given (λ x. IsAskCarriedOut old new (unlink_by c.args.self.now a c.args.target) (reply.Gone x))) (sym c.gone_replied.ensures)
           (gone_step (IsAskCarriedOut old new (unlink_by c.args.self.now a c.args.target)) r (subst (λ q. IsAskCarriedOut old new q r) same (c.in-Ok.ensures.step t)));
-      once = subst (λ q. AsksOnce {X = ℕ} told old new q c.gone_in.result) same
-          (answered {X = ℕ} told old new (ask.Delete s a c.shown.result c.args.target) r (gone_in r) c.gone_in.result c.gone_in.ensures (gone_form s a c.shown.result c.args.target r) refl
+      once = subst (λ q. AsksOnce {X = ℕ} told old new q c.gone_replied.result) same
+          (answered {X = ℕ} told old new (ask.Delete s a c.shown.result c.args.target) r (gone_replied r) c.gone_replied.result c.gone_replied.ensures (gone_form s a c.shown.result c.args.target r) refl
           c.in-Ok.ensures.step c.in-Ok.ensures.crash (c.in-Ok.ensures.stays refl) c.in-Ok.ensures.counts c.in-Ok.ensures.faults c.in-Ok.ensures.unspent);
     }
 

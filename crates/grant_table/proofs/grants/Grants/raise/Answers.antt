@@ -1,7 +1,7 @@
 use Rattle.std.proofs.Common.{sym, ◌∙◌, ap, subst, ◌≡◌, ℕ, ◌-◌, ◌<◌, Option, None, length, take, drop, ◌++◌}
 use Rattle.std.specs.Prelude.{slice_set, slice_index_or, option_map}
 use Rattle.std.proofs.lemmas.List.{length-set, get_or_default}
-use Rattle.tsd_model.specs.Sessions.{Sessions, Held, held_by, raised, raised_held}
+use Rattle.tsd_model.specs.Sessions.{Sessions, Held, held_by, raised_sessions, raised_held}
 use Rattle.tsd_model.specs.declared.requests.Level.{Level}
 use Rattle.tsd_model.specs.declared.requests.Level.TheVariants as level
 use Rattle.tsd_model.proofs.SessionLaws.{held-placed, with_held-placed}
@@ -39,4 +39,4 @@ returns-then-position-held c = λ f same.
     ∙ (ap (λ x. with_sessions t (slice_set t.sessions position x)) (sym (option_raised_same t.blocks t.primaries c.args.block f g alike (slice_index_or t.sessions position None) (c.self.invariant.held position)))
     ∙ (ap (λ x. with_sessions t (slice_set t.sessions position (option_map (raised_held c.args.block f) x))) (sym (held-placed t.sessions c.args.session some))
     ∙ (ap (λ v. with_sessions t v) (sym (with_held-placed t.sessions c.args.session (option_map (raised_held c.args.block f) (held_by t.sessions c.args.session)) some))
-    ∙ ap (λ u. with_sessions u (raised u.sessions c.args.session c.args.block f)) c.self.view_is)))
+    ∙ ap (λ u. with_sessions u (raised_sessions u.sessions c.args.session c.args.block f)) c.self.view_is)))

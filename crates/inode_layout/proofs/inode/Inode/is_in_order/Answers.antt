@@ -1,7 +1,7 @@
 use Rattle.std.proofs.Common.{◌+◌, ◌*◌, ◌≤◌, ◌&&◌, length, sym, ◌∙◌, ap, subst, arith}
 use Rattle.fs_trees.specs.Names.{are_ascending}
 use Rattle.fs_trees.specs.Fields.{entries, numbers, entry_names, all_named}
-use Rattle.fs_trees.specs.Inode.{are_apart}
+use Rattle.tsd_model.specs.World.{are_apart}
 use Rattle.inode_layout.specs.Block.{said, body_of}
 use Rattle.inode_layout.specs.Kinds.{item_bytes}
 use Rattle.inode_layout.specs.Said.{is_in_order}

@@ -1,8 +1,8 @@
 use Rattle.std.proofs.Common.{List, sym, ◌∙◌, ap, subst}
-use Rattle.image_layout.specs.Image.{is_open}
+use Rattle.image_layout.specs.Image.{says_open}
 use Rattle.image_layout.specs.Ring.{gate_sector}
 use Rattle.image_layout.specs.declared.offset.Patch.{Patch}
-use Rattle.intent_journal.specs.Records.{Record}
+use Rattle.intent_journal.specs.Records.{JournalRecord}
 use Rattle.intent_journal.specs.Ring.{IsRingAt}
 use Rattle.intent_journal.proofs.Committing.{IsAdded, record_run, record_named, record_filled, writing, opening, added}
 use Rattle.intent_journal.proofs.ring.Ring.add.Given
@@ -11,7 +11,7 @@ use Rattle.intent_journal.proofs.ring.Ring.add.Goals as goal
 pub returns-in_err-write_record-clause-any_moment : goal.returns-in_err-write_record-clause-any_moment
 returns-in_err-write_record-clause-any_moment g c told =
     let view = g.D.Device.view in
-    let rs : List Record = c.args.self.now in
+    let rs : List JournalRecord = c.args.self.now in
     let b : List Patch = c.args.batch.now in
     let v = view c.args.dev.now in
     let v1 = view c.write_record.new.dev in
@@ -21,7 +21,7 @@ returns-in_err-write_record-clause-any_moment g c told =
 pub returns-in_err-write_through-clause-any_moment : goal.returns-in_err-write_through-clause-any_moment
 returns-in_err-write_through-clause-any_moment g c told =
     let view = g.D.Device.view in
-    let rs : List Record = c.args.self.now in
+    let rs : List JournalRecord = c.args.self.now in
     let b : List Patch = c.args.batch.now in
     let v = view c.args.dev.now in
     let v1 = view c.write_record.new.dev in
@@ -33,7 +33,7 @@ returns-in_err-write_through-clause-any_moment g c told =
 added_now : (g : Given.Over) (c : goal.After-keep g) → g.D.Device.told → IsAdded c.args.self.now c.args.batch.now (g.D.Device.view c.args.dev.now) (g.D.Device.view c.write_through.new.dev)
 added_now g c told =
     let view = g.D.Device.view in
-    let rs : List Record = c.args.self.now in
+    let rs : List JournalRecord = c.args.self.now in
     let b : List Patch = c.args.batch.now in
     let v = view c.args.dev.now in
     let v1 = view c.write_record.new.dev in
@@ -43,7 +43,7 @@ added_now g c told =
     let gate = c.in_ok-write_through.ensures.written told in
     added rs b v (c.requires.at told) c.records.ensures.ring c.write_record.ensures.batch c.requires.some c.requires.room v1 run (c.in_ok-write_record.ensures.firm told) named filled
     (view c.write_through.new.dev) c.gate_sector.result (c.gate_sector.ensures.value ∙ ap gate_sector c.records-2.ensures.value) (c.write_through.ensures.confined told)
-    (gate ∙ c.gate_bytes.ensures.value) (ap is_open gate ∙ c.gate_bytes.ensures.reads_back) (c.in_ok-write_through.ensures.firm told)
+    (gate ∙ c.gate_bytes.ensures.value) (ap says_open gate ∙ c.gate_bytes.ensures.reads_back) (c.in_ok-write_through.ensures.firm told)
 
 pub returns-clause-any_moment : goal.returns-clause-any_moment
 returns-clause-any_moment g c told = (added_now g c told).any_moment
@@ -53,7 +53,7 @@ returns-clause-done g c told = (added_now g c told).done
 
 pub returns-clause-at : goal.returns-clause-at
 returns-clause-at g c told =
-    subst (λ (l : List Record). IsRingAt l (g.D.Device.view c.write_through.new.dev)) (sym c.keep.ensures) (added_now g c told).at
+    subst (λ (l : List JournalRecord). IsRingAt l (g.D.Device.view c.write_through.new.dev)) (sym c.keep.ensures) (added_now g c told).at
 
 pub returns-clause-sent : goal.returns-clause-sent
 returns-clause-sent g c told = (added_now g c told).sent

@@ -1,5 +1,5 @@
 use Rattle.image_device.proofs.Outcomes.{unless_err}
-use Rattle.mirror_device.specs.Twins.{entries_of}
+use Rattle.mirror_device.specs.Twins.{log_entries}
 use Rattle.mirror_device.proofs.Calls.{firm, settles, sync_counts, sync_fine, sync_uses}
 use Rattle.mirror_device.proofs.mem_sides.MemSidesSides.sync.Goals as goal
 
@@ -7,28 +7,28 @@ pub returns-clause-firm : goal.returns-clause-firm
 returns-clause-firm c =
     let m = c.args.self.now.twins in
     let kept = unless_err c.sync.result c.is_err.result c.if-is_err.false c.is_err.ensures.value c.sync.ensures.kept in
-    firm (entries_of m) m.put_faults c.args.side _ _ kept c.sync.ensures.put_faults
+    firm (log_entries m) m.put_faults c.args.side _ _ kept c.sync.ensures.put_faults
 
 pub returns-clause-settles : goal.returns-clause-settles
 returns-clause-settles c =
     let m = c.args.self.now.twins in
     let kept = unless_err c.sync.result c.is_err.result c.if-is_err.false c.is_err.ensures.value c.sync.ensures.kept in
-    settles (entries_of m) m.put_faults c.args.side _ _ kept c.sync.ensures.put_faults
+    settles (log_entries m) m.put_faults c.args.side _ _ kept c.sync.ensures.put_faults
 
 pub returns-clause-uses : goal.returns-clause-uses
 returns-clause-uses c =
     let m = c.args.self.now.twins in
     let kept = unless_err c.sync.result c.is_err.result c.if-is_err.false c.is_err.ensures.value c.sync.ensures.kept in
-    sync_uses (entries_of m) m.put_faults c.args.side _ _ kept c.sync.ensures.put_faults
+    sync_uses (log_entries m) m.put_faults c.args.side _ _ kept c.sync.ensures.put_faults
 
 pub returns-clause-synced : goal.returns-clause-synced
 returns-clause-synced c =
     let m = c.args.self.now.twins in
     let kept = unless_err c.sync.result c.is_err.result c.if-is_err.false c.is_err.ensures.value c.sync.ensures.kept in
-    sync_counts (entries_of m) m.put_faults c.args.side _ _ kept c.sync.ensures.put_faults
+    sync_counts (log_entries m) m.put_faults c.args.side _ _ kept c.sync.ensures.put_faults
 
 pub returns-clause-faults : goal.returns-clause-faults
 returns-clause-faults c =
     let m = c.args.self.now.twins in
     let kept = unless_err c.sync.result c.is_err.result c.if-is_err.false c.is_err.ensures.value c.sync.ensures.kept in
-    sync_fine (entries_of m) m.put_faults c.args.side _ _ kept c.sync.ensures.put_faults
+    sync_fine (log_entries m) m.put_faults c.args.side _ _ kept c.sync.ensures.put_faults

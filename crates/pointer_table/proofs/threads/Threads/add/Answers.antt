@@ -1,6 +1,6 @@
 use Rattle.std.proofs.Common.{length, ◌∙◌}
 use Rattle.pointer_table.specs.Slots.{slot_at}
-use Rattle.pointer_table.specs.Threads.{group, after}
+use Rattle.pointer_table.specs.Threads.{group, link_after}
 use Rattle.pointer_table.proofs.ThreadLaws.{put_fields, put_others, heads_as_many, next_as_many_put}
 use Rattle.pointer_table.proofs.threads.Threads.add.Goals as goal
 
@@ -20,9 +20,9 @@ returns c =
           (c.keep_end.ensures.way ∙ c.put-link.ensures.way);
       way = c.keep_end.ensures.way ∙ c.put-link.ensures.way;
       groups = heads_as_many t.heads u.heads of before c.args.position (c.keep_end.ensures.heads ∙ c.put-link.ensures.heads);
-      slots = next_as_many_put t.next u.next c.args.position (after t.heads t.next of before) before c.args.position
+      slots = next_as_many_put t.next u.next c.args.position (link_after t.heads t.next of before) before c.args.position
           (c.keep_end.ensures.next ∙ c.put-link.ensures.next);
       empties =
-          put_others (slot_at c.args.slots.now) (group t.way (length t.heads)) of c.rank.result t.next u.next c.args.position (after t.heads t.next of before)
+          put_others (slot_at c.args.slots.now) (group t.way (length t.heads)) of c.rank.result t.next u.next c.args.position (link_after t.heads t.next of before)
           c.args.position before c.before-before.ensures (c.keep_end.ensures.next ∙ c.put-link.ensures.next);
     }

@@ -1,6 +1,6 @@
 use Rattle.std.proofs.Common.{get_or, ap, ◌∙◌, arith, refl, None}
 use Rattle.std.proofs.lemmas.List.{get_or-set_other}
-use Rattle.pointer_table.specs.Threads.{rank, after}
+use Rattle.pointer_table.specs.Threads.{rank, link_after}
 use Rattle.pointer_table.proofs.ThreadLaws.{put_fields, heads_as_many, next_as_many_put}
 use Rattle.pointer_table.proofs.threads.Threads.add_first.Goals as goal
 
@@ -19,7 +19,7 @@ returns c =
           (c.keep_end.ensures.way ∙ c.put-link.ensures.way);
       way = c.keep_end.ensures.way ∙ c.put-link.ensures.way;
       groups = heads_as_many t.heads u.heads of None c.args.position (c.keep_end.ensures.heads ∙ c.put-link.ensures.heads);
-      slots = next_as_many_put t.next u.next c.args.position (after t.heads t.next of None) None c.args.position
+      slots = next_as_many_put t.next u.next c.args.position (link_after t.heads t.next of None) None c.args.position
           (c.keep_end.ensures.next ∙ c.put-link.ensures.next);
-      others = λ k off. ap (λ xs. get_or xs k 0) (c.keep_end.ensures.next ∙ c.put-link.ensures.next) ∙ get_or-set_other t.next c.args.position k (after t.heads t.next of None) 0 off;
+      others = λ k off. ap (λ xs. get_or xs k 0) (c.keep_end.ensures.next ∙ c.put-link.ensures.next) ∙ get_or-set_other t.next c.args.position k (link_after t.heads t.next of None) 0 off;
     }

@@ -1,13 +1,13 @@
 use Rattle.std.proofs.Common.{◌≡◌, ◌-◌, length}
 use Rattle.pointer_table.specs.Slots.{slot_at}
-use Rattle.pointer_table.specs.Threads.{group, after, IsNear}
+use Rattle.pointer_table.specs.Threads.{group, link_after, IsNear}
 use Rattle.pointer_table.proofs.ThreadLaws.{from_of}
 use Rattle.pointer_table.proofs.threads.Threads.before.Given as goal
 
 abbrev pub invariant-loop-link : goal.invariant-loop-link
 invariant-loop-link l = record {
   near : IsNear (slot_at l.slots) (group l.self.way (length l.self.heads)) l.of l.limit l.before;
-  link : l.link ≡ after l.self.heads l.self.next l.of l.before;
+  link : l.link ≡ link_after l.self.heads l.self.next l.of l.before;
 }
 
 abbrev pub decreases-loop-link : goal.decreases-loop-link

@@ -1,5 +1,5 @@
 use Rattle.std.proofs.Common.{ℕ, ◌+◌, ◌<◌, ◌≤◌, cond, List, length, ◌∙◌, ap, subst, sym, arith}
-use Rattle.reclaim.specs.Ahead.{Kept, IsStepping, IsAheadOf, kept}
+use Rattle.reclaim.specs.Ahead.{Kept, IsStepping, IsAheadOf, kept_ahead}
 use Rattle.reclaim.specs.Stepping.{after_step}
 use Rattle.reclaim.proofs.ToldLaws.{step_within, step_fits, step_ahead}
 use Rattle.reclaim.proofs.ahead.Ahead.done.Goals as goal
@@ -19,6 +19,6 @@ take-requires-clause-pairs c = let told = c.requires.told in
 pub returns-clause-ahead : goal.returns-clause-ahead
 returns-clause-ahead c = λ w stepping.
     let t = c.self.inside.tally in let n = c.take.new.self in let one = c.take.ensures in let s = c.args.step.now in
-    subst (λ (xs : List ℕ). IsAheadOf (after_step w s) (kept xs n.gone n.doomed n.pairs)) (sym one.counts)
-    (step_ahead w s (kept t.counts.items t.gone t.doomed t.pairs) n.gone n.doomed n.pairs (subst (λ (k : Kept). IsStepping w s k) (sym c.self.view_is) stepping)
+    subst (λ (xs : List ℕ). IsAheadOf (after_step w s) (kept_ahead xs n.gone n.doomed n.pairs)) (sym one.counts)
+    (step_ahead w s (kept_ahead t.counts.items t.gone t.doomed t.pairs) n.gone n.doomed n.pairs (subst (λ (k : Kept). IsStepping w s k) (sym c.self.view_is) stepping)
     one.long one.gone one.doomed (one.taken ∙ ap (λ m. m + n.pairs) c.len-taken.ensures.value))

@@ -1,6 +1,6 @@
 use Rattle.std.proofs.Common.{length, ◌∙◌, ap, subst, sym}
 use Rattle.tsd_model.specs.World.{World}
-use Rattle.reclaim.specs.Ahead.{Kept, IsDeleting, kept}
+use Rattle.reclaim.specs.Ahead.{Kept, IsDeleting, kept_ahead}
 use Rattle.reclaim.proofs.HidingLaws.{unhidden_settled}
 use Rattle.reclaim.proofs.ahead.Ahead.lower.Goals as goal
 
@@ -14,4 +14,4 @@ lower-requires-clause-deleted c = let d = c.requires.deleted in
 
 pub returns-clause-settled : goal.returns-clause-settled
 returns-clause-settled c = λ b within. let n = c.lower.new.self in
-    unhidden_settled c.args.pointers.now c.lower.new.live (kept n.counts.items n.gone n.doomed n.pairs) c.lower.ensures.ahead c.lower.ensures.hidden b within
+    unhidden_settled c.args.pointers.now c.lower.new.live (kept_ahead n.counts.items n.gone n.doomed n.pairs) c.lower.ensures.ahead c.lower.ensures.hidden b within

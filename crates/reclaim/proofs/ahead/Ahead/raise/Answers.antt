@@ -1,7 +1,7 @@
 use Rattle.std.proofs.Common.{◌<◌, length, subst, sym}
 use Rattle.std.specs.Prelude.{slice_index}
 use Rattle.tsd_model.specs.Step.{with_pointer}
-use Rattle.reclaim.specs.Ahead.{Kept, IsAdding, kept}
+use Rattle.reclaim.specs.Ahead.{Kept, IsAdding, kept_ahead}
 use Rattle.reclaim.proofs.ToldLaws.{count_fits, raise_ahead, marks_same}
 use Rattle.reclaim.proofs.ahead.Ahead.raise.Goals as goal
 
@@ -17,4 +17,4 @@ pub returns-clause-ahead : goal.returns-clause-ahead
 returns-clause-ahead c = λ w a adding.
     let t = c.self.inside.tally in let one = c.raise.ensures in
     marks_same (with_pointer w a c.args.target) t c.raise.new.self one.others
-    (raise_ahead w a c.args.target (kept t.counts.items t.gone t.doomed t.pairs) c.raise.new.self.counts.items (subst (λ (k : Kept). IsAdding w a c.args.target k) (sym c.self.view_is) adding) one.counts)
+    (raise_ahead w a c.args.target (kept_ahead t.counts.items t.gone t.doomed t.pairs) c.raise.new.self.counts.items (subst (λ (k : Kept). IsAdding w a c.args.target k) (sym c.self.view_is) adding) one.counts)

@@ -1,7 +1,7 @@
 use Rattle.std.proofs.Common.{◌<◌, length, subst, sym}
 use Rattle.std.specs.Prelude.{slice_index}
 use Rattle.tsd_model.specs.Step.{with_new_blocks}
-use Rattle.reclaim.specs.Ahead.{Kept, IsGrowing, kept}
+use Rattle.reclaim.specs.Ahead.{Kept, IsGrowing, kept_ahead}
 use Rattle.reclaim.proofs.ToldLaws.{count_fits, growing_within, grow_ahead, marks_same}
 use Rattle.reclaim.proofs.ahead.Ahead.raise_all.Goals as goal
 
@@ -20,4 +20,4 @@ pub returns-clause-ahead : goal.returns-clause-ahead
 returns-clause-ahead c = λ w a growing.
     let t = c.self.inside.tally in let all = c.raise_all.ensures in
     marks_same (with_new_blocks w a c.args.targets.now) t c.raise_all.new.self all.others
-    (grow_ahead w a c.args.targets.now (kept t.counts.items t.gone t.doomed t.pairs) c.raise_all.new.self.counts.items (subst (λ (k : Kept). IsGrowing w c.args.targets.now k) (sym c.self.view_is) growing) all.long all.counts)
+    (grow_ahead w a c.args.targets.now (kept_ahead t.counts.items t.gone t.doomed t.pairs) c.raise_all.new.self.counts.items (subst (λ (k : Kept). IsGrowing w c.args.targets.now k) (sym c.self.view_is) growing) all.long all.counts)

@@ -3,7 +3,7 @@ use Rattle.std.proofs.lemmas.List.{length-set}
 use Rattle.std.specs.Prelude.{slice_index, slice_set}
 use Rattle.tsd_model.specs.World.{World, has_number}
 use Rattle.disk_laws.proofs.ReclaimLaws.{doomed_is_live}
-use Rattle.reclaim.specs.Ahead.{is_gone, kept}
+use Rattle.reclaim.specs.Ahead.{is_gone, kept_ahead}
 use Rattle.reclaim.specs.Counting.{left_at, IsCounting}
 use Rattle.reclaim.specs.Tables.{graph_of}
 use Rattle.reclaim.proofs.HidingLaws.{tables_with, graph_with, raw_twice, popped_unhidden, hidden_one, hides_as, none_waits}
@@ -13,7 +13,7 @@ use Rattle.reclaim.proofs.tally.Tally.lower.Goals as goal
 pub lower_one-requires-clause-within : goal.lower_one-requires-clause-within
 lower_one-requires-clause-within c =
     let s = c.args.self.now in let d = c.requires.deleted in
-    let at = deleting_counted d.0 d.1 c.args.target (kept s.counts.items s.gone s.doomed s.pairs) d.2 in
+    let at = deleting_counted d.0 d.1 c.args.target (kept_ahead s.counts.items s.gone s.doomed s.pairs) d.2 in
     omega (arith, at.0, d.2.ahead.counts_each)
 
 pub lower_one-requires-clause-gone : goal.lower_one-requires-clause-gone
@@ -25,7 +25,7 @@ lower_one-requires-clause-room c = let d = c.requires.deleted in c.requires.room
 pub lower_one-requires-clause-some : goal.lower_one-requires-clause-some
 lower_one-requires-clause-some c =
     let s = c.args.self.now in let d = c.requires.deleted in
-    (deleting_counted d.0 d.1 c.args.target (kept s.counts.items s.gone s.doomed s.pairs) d.2).1
+    (deleting_counted d.0 d.1 c.args.target (kept_ahead s.counts.items s.gone s.doomed s.pairs) d.2).1
 
 pub lower_one-requires-clause-fresh : goal.lower_one-requires-clause-fresh
 lower_one-requires-clause-fresh c = c.requires.deleted.2.target
@@ -33,7 +33,7 @@ lower_one-requires-clause-fresh c = c.requires.deleted.2.target
 pub lower_one-requires-clause-fits : goal.lower_one-requires-clause-fits
 lower_one-requires-clause-fits c =
     let s = c.args.self.now in let d = c.requires.deleted in
-    let fits = ahead_fits d.0 (kept s.counts.items s.gone s.doomed s.pairs) d.2.raw.laid_out d.2.ahead in
+    let fits = ahead_fits d.0 (kept_ahead s.counts.items s.gone s.doomed s.pairs) d.2.raw.laid_out d.2.ahead in
     omega (arith, fits, d.2.raw.lawful.blocks.1)
 
 pub loop-block-init : goal.loop-block-init

@@ -1,5 +1,5 @@
 use Rattle.std.proofs.Common.{◌≡◌, ◌≤◌, ◌+◌, ◌-◌, ◌++◌, false, ℕ, List}
-use Rattle.serving.specs.Goes.{left_in, Handed, Reads}
+use Rattle.serving.specs.Goes.{remaining, Handed, Reads}
 use Rattle.serving.specs.Ran.{Came, IsAtEnd}
 use Rattle.serving.proofs.intake.Intake.next.Given as goal
 
@@ -11,7 +11,7 @@ invariant-loop-request g l =
       limit : l.self.limit ≡ l.initial.self.limit;
       ends : g.S.Source.ends l.source ≡ g.S.Source.ends before;
       faults : g.S.Source.faults l.source ≡ g.S.Source.faults before;
-      left : left_in l.self ≤ left_in l.initial.self;
+      left : remaining l.self ≤ remaining l.initial.self;
       reads : (bytes : List ℕ) (qs : List g.row.R-Request.Denot)
           → Handed g.R.Protocol.spelling (λ x. g.R.Protocol.was_fed x l.initial.protocol) (IsAtEnd g.S.Source.told (g.S.Source.ended before) (g.S.Source.left_bytes before)) l.initial.self bytes qs
           → (more : List ℕ) × Came g.S.Source.told (g.S.Source.taken before) (g.S.Source.taken l.source) (g.S.Source.left_bytes before) (g.S.Source.left_bytes l.source) more

@@ -23,7 +23,7 @@ use Rattle.tsd_model.specs.ReplyForm.{AreNumbers}
 use Rattle.disk_laws.proofs.ByteLaws.{chosen_like, chosen_run_like}
 use Rattle.disk_laws.proofs.ChangeLaws.{chosen_are_free, chosen_run_is_free}
 use Rattle.tsd_core.specs.Seen.{dropped_each}
-use Rattle.intent_journal.specs.Records.{Record}
+use Rattle.intent_journal.specs.Records.{JournalRecord}
 use Rattle.volume_laws.specs.Rings.{HasBatches, HasNewBlocks}
 use Rattle.tsd_core.proofs.disk.Core.grow.Goals as goal
 
@@ -51,7 +51,7 @@ returns-clause-alloc g c = λ kind session shown h count picked.
       ready = e.ready;
       once = λ b. absurd (cc);
       owes = e.settled;
-      grown = λ b. then_ok c.allocate-outcome.result (λ ring. subst (λ (ns : List ℕ). (mid : List Record) × HasBatches (owed old.volume.tables) 33 old.volume.ring mid × HasNewBlocks old.volume.tables.geometry ns mid new.volume.ring) pick ring) e.ring;
+      grown = λ b. then_ok c.allocate-outcome.result (λ ring. subst (λ (ns : List ℕ). (mid : List JournalRecord) × HasBatches (owed old.volume.tables) 33 old.volume.ring mid × HasNewBlocks old.volume.tables.geometry ns mid new.volume.ring) pick ring) e.ring;
       rests = λ told b. absurd (cc);
       version = e.version;
       operation = other_names bs _ pick (same_change g.D.Device.told _ _ old.volume new.volume v w c.allocate-outcome.result (λ told. ap (with_new_blocks (world_on v) c.args.source) (there told)) e.operation);
@@ -91,7 +91,7 @@ returns-clause-contig g c = λ kind session shown h count picked.
       ready = e.ready;
       once = λ b. absurd (cc);
       owes = e.settled;
-      grown = λ b. then_ok c.allocate-outcome.result (λ ring. subst (λ (ns : List ℕ). (mid : List Record) × HasBatches (owed old.volume.tables) 33 old.volume.ring mid × HasNewBlocks old.volume.tables.geometry ns mid new.volume.ring) pick ring) e.ring;
+      grown = λ b. then_ok c.allocate-outcome.result (λ ring. subst (λ (ns : List ℕ). (mid : List JournalRecord) × HasBatches (owed old.volume.tables) 33 old.volume.ring mid × HasNewBlocks old.volume.tables.geometry ns mid new.volume.ring) pick ring) e.ring;
       rests = λ told b. absurd (cc);
       version = e.version;
       operation = other_names bs _ pick (same_change g.D.Device.told _ _ old.volume new.volume v w c.allocate-outcome.result (λ told. ap (with_new_blocks (world_on v) c.args.source) (there told)) e.operation);

@@ -8,7 +8,7 @@ use Rattle.image_world.specs.Debt.{owed}
 use Rattle.volume_laws.specs.Operations.{IsOperation}
 use Rattle.volume_laws.specs.Writes.{due, zeroed_cost}
 use Rattle.volume_laws.specs.Rings.{HasNewBlocks, HasBatches}
-use Rattle.intent_journal.specs.Records.{Record}
+use Rattle.intent_journal.specs.Records.{JournalRecord}
 use Rattle.volume_laws.proofs.Committed.{ok_map}
 use Rattle.volume_laws.proofs.Allocated.{told_free, told_room}
 use Rattle.volume.proofs.volume.Volume.allocate.Goals as goal

@@ -12,7 +12,7 @@ use Rattle.volume_laws.proofs.Committed.{ok_map}
 use Rattle.volume_laws.specs.Data.{KeepsData}
 use Rattle.volume_laws.specs.Rings.{HasBatch, HasNewBlocks}
 use Rattle.volume_laws.proofs.DataLaws.{data_then, data_both}
-use Rattle.intent_journal.specs.Records.{Record}
+use Rattle.intent_journal.specs.Records.{JournalRecord}
 use Rattle.volume_laws.proofs.Idle.{world_joined, owed_joined}
 use Rattle.volume_laws.proofs.OperationLaws.{as_either, kept_moments, kept_fails, kept_failed, within_fails, works_of, works_joined, faults_after}
 use Rattle.volume_laws.proofs.ZeroedLaws.{grow_moments}
@@ -133,5 +133,5 @@ returns-clause-ring g c =
     let bs = c.args.blocks.now in
     let same : c.zero_new.new.self.ring ≡ c.make_way.new.self.ring = ap (λ (v : Volume). v.ring) c.in_ok-zero_new.ensures.same in
     ok_map c.add_blocks.result _ _ (λ (new : HasBatch (3 * length bs) c.zero_new.new.self.ring c.add_blocks.new.self.ring).
-    (c.make_way.new.self.ring, c.in_ok-make_way.ensures.way, subst (λ (rs : List Record). HasBatch (3 * length bs) rs c.add_blocks.new.self.ring) same new))
+    (c.make_way.new.self.ring, c.in_ok-make_way.ensures.way, subst (λ (rs : List JournalRecord). HasBatch (3 * length bs) rs c.add_blocks.new.self.ring) same new))
     c.add_blocks.ensures.ring

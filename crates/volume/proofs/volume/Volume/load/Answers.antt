@@ -1,9 +1,9 @@
 use Rattle.std.proofs.Common.{rules, Err, List, false, ap, sym, ◌∙◌, subst}
 use Rattle.std.proofs.lemmas.Result.{err_from_is_err_and}
 use Rattle.image_device.proofs.Resting.{rests_joined}
-use Rattle.intent_journal.specs.Records.{Record}
+use Rattle.intent_journal.specs.Records.{JournalRecord}
 use Rattle.image_layout.specs.Areas.{sweep_flag}
-use Rattle.image_layout.specs.Image.{Image, is_open}
+use Rattle.image_layout.specs.Image.{Image, says_open}
 use Rattle.volume_laws.specs.Volume.{IsVolumeAt}
 use Rattle.image_world.specs.Loaded.{tables_with}
 use Rattle.volume.proofs.Loaded.{loaded_good, loaded_at, loading_failed, parts_fit}
@@ -54,7 +54,7 @@ pub returns-clause-read : goal.returns-clause-read
 returns-clause-read g c told =
     let view = g.D.Device.view in
     let x = (view c.args.dev.now).reads in
-    let flag = ap (λ (y : Image). is_open (y sweep_flag)) (sym (c.in_ok-tables.ensures.rests told).reads) ∙ sym (c.in_ok-is_sweeping.ensures.value told) in
+    let flag = ap (λ (y : Image). says_open (y sweep_flag)) (sym (c.in_ok-tables.ensures.rests told).reads) ∙ sym (c.in_ok-is_sweeping.ensures.value told) in
     loaded_good c.args.header.now c.in_ok-tables.tables c.in_ok-is_sweeping.is_sweeping x c.in_ok-tables.ensures.fit (c.in_ok-tables.ensures.read told).1 (c.requires.formatted told) (c.requires.closed told) (c.requires.header told) flag
 
 pub returns-clause-at : goal.returns-clause-at
@@ -65,8 +65,8 @@ returns-clause-at g c told =
     let s = c.in_ok-is_sweeping.is_sweeping in
     let one = c.in_ok-tables.ensures.rests told in
     let two = c.in_ok-is_sweeping.ensures.rests told in
-    let flag = ap (λ (y : Image). is_open (y sweep_flag)) (sym one.reads) ∙ sym (c.in_ok-is_sweeping.ensures.value told) in
-    subst (λ (rs : List Record). IsVolumeAt (record { tables = tables_with h t s; ring = rs; is_ready = false; is_spent = false }) (view c.read_flag.new.dev)) (sym c.requires.empty)
+    let flag = ap (λ (y : Image). says_open (y sweep_flag)) (sym one.reads) ∙ sym (c.in_ok-is_sweeping.ensures.value told) in
+    subst (λ (rs : List JournalRecord). IsVolumeAt (record { tables = tables_with h t s; ring = rs; is_ready = false; is_spent = false }) (view c.read_flag.new.dev)) (sym c.requires.empty)
     (loaded_at h t s false false (view c.args.dev.now) (view c.read_flag.new.dev) c.in_ok-tables.ensures.fit (c.in_ok-tables.ensures.read told).1 (c.requires.firm told) (c.requires.formatted told) (c.requires.closed told) (c.requires.header told) flag
     (two.reads ∙ one.reads) (two.loose ∙ one.loose))
 

@@ -3,7 +3,7 @@ use Rattle.volume_laws.proofs.OperationLaws.{no_op, none_within}
 use Rattle.std.proofs.Common.{◌≡◌, List, [], inr, ◌<◌, ◌∙◌, ap, sym, subst}
 use Rattle.tsd_model.specs.declared.geometry.Geometry.{Geometry}
 use Rattle.volume_laws.specs.Volume.{Volume}
-use Rattle.intent_journal.specs.Records.{Record, patches_of}
+use Rattle.intent_journal.specs.Records.{JournalRecord, patches_of}
 use Rattle.volume_laws.specs.Zeroed.{AreMissed}
 use Rattle.volume_laws.proofs.Committed.{ok_map}
 use Rattle.volume_laws.proofs.ZeroedLaws.{free_inside}
@@ -33,5 +33,5 @@ returns-then-holds_data-clause-way g c =
     let ring = ap (λ (w : Volume). w.ring) c.self.view_is in
     let held : ¬ AreMissed c.args.self.now.tables.geometry (patches_of c.args.self.now.ring) c.args.blocks.now =
     subst (λ (k : Geometry). ¬ AreMissed k (patches_of c.args.self.now.ring) c.args.blocks.now) size
-    (subst (λ (rs : List Record). ¬ AreMissed c.of.result.geometry (patches_of rs) c.args.blocks.now) ring (c.holds_data.ensures.held c.if-holds_data.true)) in
+    (subst (λ (rs : List JournalRecord). ¬ AreMissed c.of.result.geometry (patches_of rs) c.args.blocks.now) ring (c.holds_data.ensures.held c.if-holds_data.true)) in
     ok_map c.empty_ring.result _ _ (λ (same : c.empty_ring.new.self ≡ record c.args.self.now { ring = [] }). inr (ap (λ (w : Volume). w.ring) same, held)) c.empty_ring.ensures.same

@@ -9,7 +9,7 @@ use Rattle.tsd_model.specs.Geometry.{IsLawful, block_len}
 use Rattle.image_device.proofs.Outcomes.{on_ok}
 use Rattle.image_layout.specs.Image.{data_bytes}
 use Rattle.intent_journal.specs.Home.{home}
-use Rattle.intent_journal.specs.Records.{Record}
+use Rattle.intent_journal.specs.Records.{JournalRecord}
 use Rattle.intent_journal.specs.Ring.{IsRingAt}
 use Rattle.image_world.specs.Sound.{AreSound}
 use Rattle.image_world.specs.Tables.{Tables}
@@ -27,7 +27,7 @@ read_parts-outcome-requires g c =
     record {
       lawful = subst IsLawful (sym size) (subst (λ (t : Tables). AreSound t) is c.self.invariant.sound).slots.lawful;
       inside = subst (λ (k : Geometry). c.args.block < k.blocks) (sym size) (told_inside c.args.self.now c.args.block c.requires.live);
-      at = λ told. subst (λ (rs : List Record). IsRingAt rs (g.D.Device.view c.args.dev.now)) (sym (ap (λ (w : Volume). w.ring) c.self.view_is)) (c.requires.at told).ring;
+      at = λ told. subst (λ (rs : List JournalRecord). IsRingAt rs (g.D.Device.view c.args.dev.now)) (sym (ap (λ (w : Volume). w.ring) c.self.view_is)) (c.requires.at told).ring;
     }
 
 pub returns-clause-bytes : goal.returns-clause-bytes

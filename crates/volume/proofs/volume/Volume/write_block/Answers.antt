@@ -6,7 +6,7 @@ use Rattle.tsd_model.specs.Geometry.{block_len}
 use Rattle.tsd_model.specs.Step.{filled, with_contents}
 use Rattle.image_device.specs.View.{View}
 use Rattle.volume_laws.specs.Volume.{Volume, IsVolumeAt, world_on}
-use Rattle.intent_journal.specs.Records.{Record}
+use Rattle.intent_journal.specs.Records.{JournalRecord}
 use Rattle.image_device.specs.Calls.{Uses}
 use Rattle.intent_journal.specs.Ring.{committed, commit_writes}
 use Rattle.image_world.specs.Tables.{Tables}
@@ -103,8 +103,8 @@ returns-clause-cost g c = record {
       let size = c.of.ensures ∙ ap (λ (w : Volume). w.tables.geometry) c.self.view_is in
       let few : length c.put_block.new.batch ≤ c.args.self.now.tables.geometry.sectors = let most = c.put_block.ensures.homes in let e = ap (λ (k : Geometry). k.sectors) size in omega (arith, most, e) in
       let ring = ap (λ (w : Volume). w.ring) c.self.view_is in
-      let uses = subst (λ (rs : List Record). Uses (commit_writes rs c.put_block.new.batch) old new) ring c.commit-outcome.ensures.uses in
-      let records = subst (λ (rs : List Record). OnOk c.commit-outcome.result (c.commit-outcome.new.self ≡ committed rs c.put_block.new.batch)) ring c.commit-outcome.ensures.records in
+      let uses = subst (λ (rs : List JournalRecord). Uses (commit_writes rs c.put_block.new.batch) old new) ring c.commit-outcome.ensures.uses in
+      let records = subst (λ (rs : List JournalRecord). OnOk c.commit-outcome.result (c.commit-outcome.new.self ≡ committed rs c.put_block.new.batch)) ring c.commit-outcome.ensures.records in
       subst (λ (t : Tables). OnOk c.commit-outcome.result (IsPaid (batch_cost c.args.self.now.tables.geometry.sectors) c.args.self.now old (record { tables = t; ring = c.commit-outcome.new.self; is_ready = c.self.inside.is_ready; is_spent = c.is_err-self-inside.result }) new))
       (sym (ap (λ (w : Volume). w.tables) c.self.view_is))
       (paid c.commit-outcome.result c.args.self.now (record { tables = c.args.self.now.tables; ring = c.commit-outcome.new.self; is_ready = c.self.inside.is_ready; is_spent = c.is_err-self-inside.result }) c.put_block.new.batch c.args.self.now.tables.geometry.sectors old new few uses records refl);
