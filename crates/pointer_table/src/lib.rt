@@ -8,13 +8,14 @@
 //! `add` and `remove` change one slot and give the patch of its sector: where an image had the slots of the table, it
 //! has them again with the patch. Each question is answered by the pairs that the slots hold, ascending. An image whose
 //! sectors are those of `fresh_sector` has a table that holds no pair. A load that answers Ok leaves the device's count
-//! of faults as it was. Only `load` takes memory, and at no moment more than the table keeps: 22 bytes a slot and 16 a
-//! block. A slot has 8 bytes, three links of 4, and 2 for its share of the heads of buckets; a block has two heads and
-//! two ends.
+//! of faults as it was. Only `load` takes memory. The table keeps 22 bytes a slot and 16 a block: a slot has 8 bytes,
+//! three links of 4, and 2 for its share of the heads of buckets; a block has two heads and two ends. While it loads it
+//! takes 4 more for each slot that holds a pair.
 //!
 //! How it stays fast: the slots that hold pairs are threaded by source, by target and by bucket (`specs/Threads.antt`),
-//! and the empty ones are linked to a list (`specs/Empties.antt`), so no question or change looks at all of them. Links
-//! that were never set take room and touch no memory (`specs/Links.antt`).
+//! and the empty ones are linked to a list (`specs/Empties.antt`), so no question or change looks at all of them. Slots
+//! behind the last that ever held a pair, and links that were never set, take room and touch no memory
+//! (`specs/Raw.antt`, `specs/Links.antt`).
 #![tactic(auto)]
 
 mod empties;

@@ -1,4 +1,4 @@
-use Rattle.std.proofs.Common.{◌≡◌, ◌≤◌, length}
+use Rattle.std.proofs.Common.{◌≤◌, length}
 use Rattle.pointer_table.specs.Indexed.{HasLinksAndHeads, IsIndex}
 use Rattle.pointer_table.specs.Slots.{slot_at}
 use Rattle.pointer_table.proofs.EmptyLaws.{AreEmptiesFrom}

@@ -1,8 +1,5 @@
-use Rattle.std.proofs.Common.{◌≡◌, ◌-◌, List, Some, None, set, length, refl, sym, subst, ap, ◌∙◌, arith}
-use Rattle.pointer_table.specs.Slots.{slot_at}
+use Rattle.std.proofs.Common.{◌≡◌, ◌-◌, Some, None, set, length, ap, ◌∙◌, arith}
 use Rattle.pointer_table.specs.Table.{Table}
-use Rattle.pointer_table.specs.Threads.{IsWith}
-use Rattle.pointer_table.specs.declared.raw.RawSlot.{RawSlot}
 use Rattle.pointer_table.proofs.ChangeLaws.{Kept, emptied, some_held, change_after, stored_after}
 use Rattle.pointer_table.proofs.SlotLaws.{some_inside}
 use Rattle.pointer_table.proofs.table.PointerTable.clear.Goals as goal

@@ -1,6 +1,4 @@
-use Rattle.std.proofs.Common.{sym, ap, ◌∙◌, arith}
-use Rattle.tsd_model.specs.Pairs.{holds}
-use Rattle.pointer_table.specs.Slots.{pairs_in}
+use Rattle.std.proofs.Common.{arith}
 use Rattle.pointer_table.specs.Table.{Table}
 use Rattle.pointer_table.proofs.TableLaws.{are_pairs}
 use Rattle.pointer_table.proofs.table.PointerTable.least_targets.Goals as goal

@@ -1,11 +1,8 @@
-use Rattle.std.proofs.Common.{◌≡◌, ℕ, List, None, sym, subst, ap, ◌∙◌}
+use Rattle.std.proofs.Common.{◌≡◌, ℕ, None, sym, subst, ◌∙◌}
 use Rattle.std.specs.Prelude.{count_by, is_some}
 use Rattle.pointer_table.specs.Empties.{AreEmpties}
-use Rattle.pointer_table.specs.Indexed.{IsIndex}
 use Rattle.pointer_table.specs.Repeats.{IsLeastOfAll}
-use Rattle.pointer_table.specs.Slots.{slot_at}
 use Rattle.pointer_table.specs.Table.{IsTable}
-use Rattle.pointer_table.specs.declared.raw.RawSlot.{RawSlot}
 use Rattle.pointer_table.proofs.SlotLaws.{length-pairs_in}
 use Rattle.pointer_table.proofs.TableLaws.{made}
 use Rattle.pointer_table.proofs.table.PointerTable.of_slots.Goals as goal
