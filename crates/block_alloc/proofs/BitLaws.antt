@@ -12,6 +12,7 @@ use Rattle.tsd_model.specs.Geometry.{IsLawful}
 use Rattle.tsd_model.specs.declared.geometry.Geometry.{Geometry}
 use Rattle.block_alloc.specs.LiveMap.{is_live, free_count, IsTable}
 use Rattle.block_alloc.specs.Bytes.{bit_in, bits_of, AreBits, IsBitPut, IsMapKept}
+use Rattle.block_alloc.specs.Rows.{AreMost}
 
 pub length-bits_of : (bytes : List ℕ) (len : ℕ) → length (bits_of bytes len) ≡ len
 length-bits_of bytes len = length-map-range_with_len (bit_in bytes) 0 len
@@ -50,10 +51,10 @@ bits-put len old new b bit kept h put = record {
 }
 
 -- and with them a map
-pub kept-put : (blocks : ℕ) (bytes unhidden bytes' unhidden' : List ℕ) (b free free' : ℕ) (bit rest : Bool) → IsMapKept blocks bytes unhidden free → b < blocks
+pub kept-put : (blocks : ℕ) (bytes unhidden bytes' unhidden' : List ℕ) (b free free' : ℕ) (most most' : List ℕ) (bit rest : Bool) → IsMapKept blocks bytes unhidden free most → b < blocks
     → (rest ≡ true → bit ≡ true) → IsBitPut bytes bytes' b bit → IsBitPut unhidden unhidden' b rest → free' ≡ free_count (bits_of unhidden' blocks)
-    → IsMapKept blocks bytes' unhidden' free'
-kept-put blocks bytes unhidden bytes' unhidden' b free free' bit rest kept h within raw seen counted = record {
+    → AreMost (bits_of unhidden' blocks) most' → IsMapKept blocks bytes' unhidden' free' most'
+kept-put blocks bytes unhidden bytes' unhidden' b free free' most most' bit rest kept h within raw seen counted rows = record {
   bitmap = bits-put blocks bytes bytes' b bit kept.bitmap h raw;
   rest = bits-put blocks unhidden unhidden' b rest kept.rest h seen;
   are_live = λ k live. elim (cases_eq k b) [
@@ -61,6 +62,22 @@ kept-put blocks bytes unhidden bytes' unhidden' b free free' bit rest kept h wit
     | inr ne ↦ raw.others k ne ∙ kept.are_live k (sym (seen.others k ne) ∙ live)
   ];
   counted = counted;
+  rows = rows;
+}
+
+-- and where a block alone is hidden
+pub kept-seen : (blocks : ℕ) (bytes unhidden unhidden' : List ℕ) (b free free' : ℕ) (most most' : List ℕ) → IsMapKept blocks bytes unhidden free most → b < blocks
+    → IsBitPut unhidden unhidden' b false → free' ≡ free_count (bits_of unhidden' blocks) → AreMost (bits_of unhidden' blocks) most'
+    → IsMapKept blocks bytes unhidden' free' most'
+kept-seen blocks bytes unhidden unhidden' b free free' most most' kept h seen counted rows = record {
+  bitmap = kept.bitmap;
+  rest = bits-put blocks unhidden unhidden' b false kept.rest h seen;
+  are_live = λ k live. elim (cases_eq k b) [
+    | inl e ↦ absurd (false≢true (sym seen.same ∙ (ap (bit_in unhidden') (sym e) ∙ live)))
+    | inr ne ↦ kept.are_live k (sym (seen.others k ne) ∙ live)
+  ];
+  counted = counted;
+  rows = rows;
 }
 
 -- ---- how many are free
@@ -136,9 +153,9 @@ pub count-most : (len : ℕ) (bytes : List ℕ) → free_count (bits_of bytes le
 count-most len bytes = let most = free_count-le (bits_of bytes len) in let size = length-bits_of bytes len in omega (arith, most, size)
 
 -- ---- a map that is so kept is a table
-pub kept-table : (g : Geometry) (bytes unhidden : List ℕ) (free : ℕ) → IsLawful g → IsMapKept g.blocks bytes unhidden free
+pub kept-table : (g : Geometry) (bytes unhidden : List ℕ) (free : ℕ) (most : List ℕ) → IsLawful g → IsMapKept g.blocks bytes unhidden free most
     → IsTable (record { geometry = g; live = bits_of bytes g.blocks; unhidden = bits_of unhidden g.blocks })
-kept-table g bytes unhidden free lawful kept = record {
+kept-table g bytes unhidden free most lawful kept = record {
   lawful = lawful;
   each_block = length-bits_of bytes g.blocks;
   each_unhidden = length-bits_of unhidden g.blocks;

@@ -1,12 +1,9 @@
 -- The blocks of least rank, where those above a ceiling are passed by.
-use Rattle.std.proofs.Common.{◌≡◌, ℕ, zero, suc, ◌+◌, ◌-◌, ◌*◌, ◌/◌, ◌%◌, ◌<◌, ◌≤◌, ◌&&◌, ◌==◌, Bool, true, false, not, cond, nat_lt, nat_le, List, [], ◌∷◌, ◌++◌, length, take, drop, length-take, length-drop, get_or-take, get_or-drop, inl, inr, refl, sym, ◌∙◌, ap, subst, arith}
+use Rattle.std.proofs.Common.{◌≡◌, ℕ, zero, suc, ◌+◌, ◌-◌, ◌<◌, ◌≤◌, ◌&&◌, Bool, true, false, not, cond, nat_lt, nat_le, List, [], ◌∷◌, ◌++◌, length, take, inl, inr, refl, sym, ◌∙◌, ap, subst, arith}
 use Rattle.std.proofs.Common.{Option, Some, None}
-use Rattle.std.specs.Prelude.{filter, map, slice_index}
+use Rattle.std.specs.Prelude.{filter, map}
 use Rattle.std.specs.List.{list_all, range_with_len}
-use Rattle.std.specs.Int.{bit_at}
-use Rattle.std.proofs.lemmas.Nat.Bits.{bit_at_ones}
-use Rattle.block_alloc.specs.Bytes.{bit_in}
-use Rattle.std.proofs.lemmas.Bool.{and_parts, eqb-true, eq-eqb, cases_lt, cases_Bool, lt-ltb, le-ltb, le-leb, lt-leb, both_ways}
+use Rattle.std.proofs.lemmas.Bool.{cases_lt, cases_Bool, lt-ltb, le-ltb, le-leb, lt-leb, both_ways}
 use Rattle.tsd_model.specs.Placing.{in_rank_order, sorted_by_rank}
 use Rattle.block_alloc.specs.Choosing.{is_free_run, all_blocks, runs}
 use Rattle.block_alloc.specs.LiveMap.{is_live, is_free}
@@ -212,31 +209,3 @@ live_is_not_free live k holds_ = ap (λ t. nat_lt k (length live) && not t) hold
 -- one block more in front
 pub run_more : (live : List Bool) (b next end : ℕ) → next ≡ b + 1 → b < end → is_free live b ≡ true → list_all (is_free live) (range_with_len next (end - next)) ≡ true → list_all (is_free live) (range_with_len b (end - b)) ≡ true
 run_more live b next end e h free rest = ap (list_all (is_free live)) (range-from b next end e h) ∙ (ap (λ t. t && list_all (is_free live) (range_with_len next (end - next))) free ∙ rest)
-
--- ---- full groups
-all_at : (p : ℕ → Bool) (xs : List ℕ) (i : ℕ) → list_all p xs ≡ true → i < length xs → p (slice_index xs i) ≡ true
-all_at p [] i all h = absurd (omega arith)
-all_at p (x ∷ xs) zero all h = (and_parts (p x) (list_all p xs) all).0
-all_at p (x ∷ xs) (suc i) all h = all_at p xs i (and_parts (p x) (list_all p xs) all).1 (omega arith)
-
--- bytes of ones have no bit that is 0
-pub full_bits : (bytes part : List ℕ) (first b : ℕ) → ((i : ℕ) → i < 32 → slice_index part i ≡ slice_index bytes (first + i)) → length part ≡ 32 → list_all (λ byte. byte == 255) part ≡ true
-    → 8 * first ≤ b → b < 8 * first + 256 → bit_in bytes b ≡ true
-full_bits bytes part first b same size all low high =
-    let i : ℕ = b / 8 - first in
-    let few : i < 32 = omega arith in
-    let at : first + i ≡ b / 8 = omega arith in
-    let ones : slice_index part i ≡ 255 = eqb-true (slice_index part i) 255 (all_at (λ byte. byte == 255) part i all (omega (arith, few, size))) in
-    let byte : slice_index bytes (b / 8) ≡ 255 = sym (ap (slice_index bytes) at) ∙ (sym (same i few) ∙ ones) in
-    ap (λ n. bit_at n (b % 8) == 1) byte ∙ eq-eqb (bit_at 255 (b % 8)) 1 (bit_at_ones 8 (b % 8) (omega arith))
-
--- so many bytes from one on
-pub part_at : (bytes : List ℕ) (first size i : ℕ) → i < size → slice_index (take size (drop first bytes)) i ≡ slice_index bytes (first + i)
-part_at bytes first size i h = rw (get_or-take, get_or-drop)
-
-pub part_length : (bytes : List ℕ) (first size : ℕ) → first + size ≤ length bytes → length (take size (drop first bytes)) ≡ size
-part_length bytes first size fits = simp (length-take, length-drop) (omega arith)
-
--- no run begins at a block that isn't free
-pub no_run_within : (rank : ℕ → ℕ) (live : List Bool) (run : ℕ) (ceiling : Option ℕ) (b : ℕ) → 1 ≤ run → is_free live b ≡ false → is_run_within rank live run ceiling b ≡ false
-no_run_within rank live run ceiling b some no_ = ap (λ t. t && is_within ceiling (rank b)) (broken_run live b run b (omega arith) (omega arith) no_)

@@ -8,3 +8,4 @@ pub mod WorldLaws
 pub mod ChosenLaws
 pub mod FreshLaws
 pub mod GroupLaws
+pub mod RowLaws

@@ -4,6 +4,7 @@ use Rattle.std.specs.Prelude.{length, map, take, drop, slice_index}
 use Rattle.std.specs.List.{range_with_len}
 use Rattle.std.specs.Int.{bit_at, div_ceil}
 use Rattle.block_alloc.specs.LiveMap.{free_count}
+use Rattle.block_alloc.specs.Rows.{AreMost}
 
 -- ---- bits that bytes have
 abbrev pub bit_in : List ℕ → ℕ → Bool
@@ -18,13 +19,14 @@ pub record AreBits (blocks : ℕ) (bytes : List ℕ) : Type 0 where
   pub whole : length bytes ≡ div_ceil blocks 8
   pub ends : (b : ℕ) → blocks ≤ b → bit_in bytes b ≡ false
 
--- How a map of so many blocks is kept: the bits of the bitmap, those of the blocks that aren't hidden, and how many
--- blocks are free.
-pub record IsMapKept (blocks : ℕ) (bytes unhidden : List ℕ) (free : ℕ) : Type 0 where
+-- How a map of so many blocks is kept: the bits of the bitmap, those of the blocks that aren't hidden, how many blocks
+-- are free, and how many of them stand in a row at most, from a block of each group on.
+pub record IsMapKept (blocks : ℕ) (bytes unhidden : List ℕ) (free : ℕ) (most : List ℕ) : Type 0 where
   pub bitmap : AreBits blocks bytes
   pub rest : AreBits blocks unhidden
   pub are_live : (b : ℕ) → bit_in unhidden b ≡ true → bit_in bytes b ≡ true
   pub counted : free ≡ free_count (bits_of unhidden blocks)
+  pub rows : AreMost (bits_of unhidden blocks) most
 
 -- one bit was given a value, and all others are as before
 pub record IsBitPut (old new : List ℕ) (b : ℕ) (bit : Bool) : Type 0 where

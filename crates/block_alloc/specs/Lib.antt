@@ -6,3 +6,4 @@ pub mod Least
 pub mod Worlds
 pub mod Fresh
 pub mod Groups
+pub mod Rows

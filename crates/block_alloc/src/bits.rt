@@ -1,8 +1,7 @@
 //! Bits in bytes, eight a byte, the lowest first.
 
 ghost use Rattle.std.specs.Prelude.{◌≡◌, ℕ, ◌*◌, ◌+◌, ◌/◌, ◌%◌, ◌<◌, ◌≤◌, ◌≢◌};
-ghost use Rattle.std.specs.List.{list_all};
-ghost use Rattle.std.specs.Prelude.{◌==◌, ◌^◌, cond, true, false, length, slice_index, IfOk, IsTrue};
+ghost use Rattle.std.specs.Prelude.{cond, false, length, slice_index, IfOk};
 ghost use Rattle.std.specs.Int.{bit_at, div_ceil};
 ghost use Rattle.block_alloc.specs.LiveMap.{free_count};
 ghost use Rattle.block_alloc.specs.Bytes.{bit_in, bits_of, AreBits, IsBitPut};
@@ -14,33 +13,12 @@ use std::alloc::{AllocError, Global};
 /// How many bits a byte has.
 pub const BYTE_BITS: u32 = 8;
 
-/// How many bytes have the bits of a group of blocks.
-const FULL_BYTES: usize = 32;
-
 /// Bit b.
 pub fn bit_in(bytes: &[u8], b: u32) -> bool
     requires { b / 8 < length bytes.now }
     ensures { result ≡ bit_in bytes.now b }
 {
     bytes[(b / BYTE_BITS) as usize] >> (b % BYTE_BITS) & 1 == 1
-}
-
-/// Whether 32 bytes from a byte on are there and have no bit that is 0.
-pub fn are_full(bytes: &[u8], first: usize) -> bool
-    requires { first < 2 ^ 32 }
-    ensures { IsTrue result → (b : ℕ) → 8 * first ≤ b → b < 8 * first + 256 → bit_in bytes.now b ≡ true }
-{
-    if bytes.len() < first + FULL_BYTES {
-        return false;
-    }
-    is_all_ones(&bytes[first..first + FULL_BYTES])
-}
-
-/// Whether no bit of any byte is 0.
-fn is_all_ones(bytes: &[u8]) -> bool
-    ensures { result ≡ list_all (λ byte. byte == 255) bytes.now }
-{
-    bytes.iter().all(|byte| *byte == 255)
 }
 
 /// A byte with the bit of a block changed.

@@ -1,6 +1,6 @@
 //! Which free blocks are taken.
 
-ghost use Rattle.std.specs.Prelude.{◌≡◌, ℕ, ◌+◌, ◌*◌, ◌^◌, ◌≤◌, ◌<◌, Some, not, length, filter};
+ghost use Rattle.std.specs.Prelude.{◌≡◌, ℕ, ◌+◌, ◌*◌, ◌^◌, ◌≤◌, ◌<◌, Some, false, not, length, filter};
 ghost use Rattle.std.specs.Prelude.{IfOk, IfErr, OnOk};
 ghost use Rattle.tsd_model.specs.Rank.{rank_of};
 ghost use Rattle.tsd_model.specs.Verdict.{is_empty};
@@ -10,7 +10,9 @@ ghost use Rattle.block_alloc.specs.Choosing.{all_blocks, free_blocks, chosen, is
 ghost use Rattle.block_alloc.specs.Choosing.{IsRow, IsShort, IsRunRefusal};
 ghost use Rattle.block_alloc.specs.Groups.{is_run_within, IsKeptFrom};
 
-use crate::groups::{GROUP_BLOCKS, best_of, group_at, is_within, start_of, turns};
+use crate::groups::{
+    GROUP_BLOCKS, STRETCH_GROUPS, best_of, floor_of, group_at, is_within, start_of, turns,
+};
 use crate::least::{Least, Ranked};
 use crate::map::LiveMap;
 use place_policy::Placement;
@@ -176,15 +178,61 @@ impl LiveMap {
         ensures kept { let rank = rank_of placement.now.kind hint in result.kept.items ≡ least_of rank wanted
             (filter (is_run_within rank self.now.unhidden run ceiling) (all_blocks self.now.unhidden)) }
     {
-        let groups = self.groups();
+        let stretches = self.groups().div_ceil(STRETCH_GROUPS);
         let mut least = Least::new(wanted as usize);
-        for group in (0..groups).rev() {
-            let best = best_of(placement.kind(), hint, group);
-            if is_within(ceiling, rank(placement.kind(), hint, best)) {
-                self.offer_group(placement, hint, run, ceiling, group, &mut least);
+        for stretch in (0..stretches).rev() {
+            if is_within(ceiling, floor_of(placement.kind(), hint, stretch)) {
+                self.offer_stretch(placement, hint, run, ceiling, stretch, &mut least);
             }
         }
         least
+    }
+
+    /// Offers the blocks of a stretch where a run of so many free ones begins, if their rank is at most a ceiling.
+    fn offer_stretch(
+        &self,
+        placement: &Placement,
+        hint: u32,
+        run: u32,
+        ceiling: Option<u64>,
+        stretch: u32,
+        least: &mut Least,
+    )
+        requires run { (1 ≤ run) × (run ≤ 32) }
+        requires stretch { 4096 * stretch < self.now.geometry.blocks }
+        requires few { stretch < 2 ^ 20 }
+        ensures wanted { least.new.wanted ≡ least.old.wanted }
+        ensures kept { let rank = rank_of placement.now.kind hint in
+            IsKeptFrom rank self.now.unhidden run ceiling least.old.wanted (4096 * (stretch + 1)) least.old.kept.items
+            → IsKeptFrom rank self.now.unhidden run ceiling least.old.wanted (4096 * stretch) least.new.kept.items }
+    {
+        let first = STRETCH_GROUPS * stretch;
+        let end = self.groups().min(first + STRETCH_GROUPS);
+        for group in (first..end).rev() {
+            if self.may_hold(placement.kind(), hint, run, ceiling, group) {
+                self.offer_group(placement, hint, run, ceiling, group, least);
+            }
+        }
+    }
+
+    /// Whether a run of so many free blocks may begin in a group, at a block whose rank is at most a ceiling.
+    fn may_hold(
+        &self,
+        kind: PlaceKind,
+        hint: u32,
+        run: u32,
+        ceiling: Option<u64>,
+        group: u32,
+    ) -> bool
+        requires run { run ≤ 32 }
+        requires group { group < 2 ^ 24 }
+        ensures { result ≡ false → (b : ℕ) → 256 * group ≤ b → b < 256 * group + 256
+            → is_run_within (rank_of kind hint) self.now.unhidden run ceiling b ≡ false }
+    {
+        if self.lacks_run(group, run) {
+            return false;
+        }
+        is_within(ceiling, rank(kind, hint, best_of(kind, hint, group)))
     }
 
     /// Offers the blocks of a group where a run of so many free ones begins, if their rank is at most a ceiling.
@@ -205,9 +253,6 @@ impl LiveMap {
             → IsKeptFrom rank self.now.unhidden run ceiling least.old.wanted (256 * group) least.new.kept.items }
     {
         let blocks = self.geometry().blocks;
-        if self.is_full(group) {
-            return;
-        }
         let first = GROUP_BLOCKS * group;
         let end = blocks.min(first + GROUP_BLOCKS);
         for block in (first..end).rev() {
@@ -263,7 +308,7 @@ impl LiveMap {
         };
         for turn in 0..turns(kind, groups) {
             let group = group_at(kind, hint, groups, turn);
-            if group < groups && !self.is_full(group) {
+            if group < groups && !self.lacks_run(group, run) {
                 self.find_in(kind, hint, run, group, &mut found);
             }
             if found.left == 0 {

@@ -1,16 +1,43 @@
-//! Groups of 256 blocks in a row: which block of one has the least rank, and in which order they are gone through.
+//! Groups of 256 blocks in a row: which block of one has the least rank, and in which order they are gone through; and
+//! stretches of 16 groups.
 
 ghost use Rattle.std.specs.Prelude.{◌≡◌, ℕ, ◌+◌, ◌*◌, ◌^◌, ◌<◌, ◌≤◌};
 ghost use Rattle.tsd_model.specs.Rank.{rank_of};
 ghost use Rattle.block_alloc.specs.Groups.{is_within};
 
 use tsd_model::PlaceKind;
-use tsd_model::ranks::{ZONE_BLOCKS, ZONES};
+use tsd_model::ranks::{ZONE_BLOCKS, ZONES, near_rank, spread_rank};
 
 /// How many blocks a group has: those of one zone in a row.
 pub(crate) const GROUP_BLOCKS: u32 = 256;
 
 const _: () = prove!(GROUP_BLOCKS == ZONE_BLOCKS);
+
+/// How many groups a stretch has: one of each zone.
+pub(crate) const STRETCH_GROUPS: u32 = ZONES;
+
+/// How many blocks a stretch has.
+const STRETCH_BLOCKS: u32 = STRETCH_GROUPS * GROUP_BLOCKS;
+
+/// A rank that none of a stretch of 16 groups is below.
+pub(crate) fn floor_of(kind: PlaceKind, hint: u32, stretch: u32) -> u64
+    requires { stretch < 2 ^ 20 }
+    ensures { (b : ℕ) → 4096 * stretch ≤ b → b < 4096 * stretch + 4096 → result ≤ rank_of kind hint b }
+{
+    let first = STRETCH_BLOCKS * stretch;
+    let last = first + (STRETCH_BLOCKS - 1);
+    match kind {
+        PlaceKind::Low | PlaceKind::Zone => u64::from(first),
+        PlaceKind::Near => near_rank(hint, hint.max(first).min(last)),
+        PlaceKind::Spread => {
+            if first < hint && hint <= last {
+                0
+            } else {
+                spread_rank(hint, first)
+            }
+        }
+    }
+}
 
 /// The block of a group that has the least rank, whether it is one of the disk or not.
 pub(crate) fn best_of(kind: PlaceKind, hint: u32, group: u32) -> u32
@@ -33,14 +60,14 @@ pub(crate) fn best_of(kind: PlaceKind, hint: u32, group: u32) -> u32
     }
 }
 
-/// The block of a group from which on a ceiling is guessed. For `Spread` it is the one of least rank, since those below
-/// a hint in its group have the greatest ranks of all.
+/// The block of a group from which on a ceiling is guessed: its first one, but for `Near` and `Spread` the hint where
+/// it is in the group. For `Spread` those below the hint have the greatest ranks of all.
 pub(crate) fn start_of(kind: PlaceKind, hint: u32, group: u32) -> u32
     requires { group < 2 ^ 24 }
 {
     match kind {
-        PlaceKind::Low | PlaceKind::Near | PlaceKind::Zone => GROUP_BLOCKS * group,
-        PlaceKind::Spread => best_of(kind, hint, group),
+        PlaceKind::Near | PlaceKind::Spread if hint / GROUP_BLOCKS == group => hint,
+        _ => GROUP_BLOCKS * group,
     }
 }
 

@@ -9,7 +9,8 @@
 //! exactly where there are too few or no run is long enough, with both numbers. A live block can be hidden: it is free
 //! for each question and each choice, while its bit in the bitmap stays until it is set. An image whose sectors are
 //! those of `fresh_sector` has a map in which the primary blocks alone are live. A load that answers Ok leaves the
-//! device's count of faults as it was. Of all this it keeps two bits a block, and only `load` takes memory.
+//! device's count of faults as it was. Of all this it keeps two bits a block and a byte for each 256, and only `load`
+//! takes memory.
 #![tactic(auto)]
 
 mod bits;
@@ -21,6 +22,7 @@ mod groups;
 mod least;
 mod map;
 mod patches;
+mod rows;
 mod sectors;
 mod worlds;
 

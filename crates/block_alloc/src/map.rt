@@ -1,19 +1,19 @@
 //! Which blocks are live, a bit a block.
 
-ghost use Rattle.std.specs.Prelude.{◌≡◌, ℕ, ◌+◌, ◌*◌, ◌/◌, ◌^◌, ◌<◌, ◌≤◌, true, false, slice_set};
+ghost use Rattle.std.specs.Prelude.{◌≡◌, ℕ, ◌+◌, ◌*◌, ◌/◌, ◌<◌, ◌≤◌, true, false, slice_set};
 ghost use Rattle.std.specs.Prelude.{IfOk, IsTrue};
 ghost use Rattle.image_device.specs.Calls.{Rests, Uses};
 ghost use Rattle.image_device.specs.Counts.{CountsFaultOf};
 ghost use Rattle.image_layout.specs.Areas.{bitmap_start, slots_start};
 ghost use Rattle.tsd_model.specs.Geometry.{IsLawful};
-ghost use Rattle.block_alloc.specs.LiveMap.{IsTable, is_live, is_free, free_count};
+ghost use Rattle.block_alloc.specs.LiveMap.{IsTable, is_live, free_count};
+ghost use Rattle.block_alloc.specs.Choosing.{is_free_run};
 ghost use Rattle.block_alloc.specs.Bytes.{bitmap_sector_bytes};
 ghost use Rattle.block_alloc.specs.Stored.{IsStored, StoresSector, Completes, per_sector, sector_of};
 
-use crate::bits::{
-    are_full, bit_in, copy_of, count_zeros, cut_to, put_bit, put_counted, sector_from,
-};
+use crate::bits::{bit_in, copy_of, count_zeros, cut_to, put_bit, put_counted, sector_from};
 use crate::fault::LoadFault;
+use crate::rows::{most_at, most_of_groups, renew_round};
 use crate::sectors::read_sectors;
 use image_device::Device;
 use image_layout::sectors::SECTOR_BYTES;
@@ -38,6 +38,8 @@ pub struct LiveMap {
     unhidden: Vec<u8>,
     /// How many blocks are free.
     free: u32,
+    /// For each group of 256 how many free blocks stand in a row at most from one of its blocks on, up to 32.
+    most: Vec<u8>,
 }
 
 impl Model for LiveMap {
@@ -53,7 +55,8 @@ impl Model for LiveMap {
       unhidden = bits_of m.unhidden.items m.geometry.blocks;
     } };
 
-    ghost invariant = { λ m. IsLawful m.geometry × IsMapKept m.geometry.blocks m.bytes.items m.unhidden.items m.free };
+    ghost invariant = { λ m. IsLawful m.geometry × IsMapKept m.geometry.blocks m.bytes.items m.unhidden.items m.free
+        m.most.items };
 }
 
 impl LiveMap {
@@ -79,11 +82,13 @@ impl LiveMap {
         cut_to(&mut bytes, geometry.blocks);
         let unhidden = copy_of(alloc, &bytes)?;
         let free = count_zeros(&unhidden, geometry.blocks);
+        let most = most_of_groups(alloc, &unhidden, geometry.blocks)?;
         Ok(LiveMap {
             geometry: *geometry,
             bytes,
             unhidden,
             free,
+            most,
         })
     }
 
@@ -110,14 +115,13 @@ impl LiveMap {
         bit_in(&self.unhidden, block)
     }
 
-    /// Whether each block of a group of 256 is live and isn't hidden; of a group that the disk's last block cuts off it
-    /// needn't be told.
-    pub(crate) fn is_full(&self, group: u32) -> bool
-        requires { group < 2 ^ 24 }
+    /// Whether it is known that no run of so many free blocks begins in a group of 256.
+    pub(crate) fn lacks_run(&self, group: u32, run: u32) -> bool
+        requires { run ≤ 32 }
         ensures { IsTrue result → (b : ℕ) → 256 * group ≤ b → b < 256 * group + 256
-            → is_free self.now.unhidden b ≡ false }
+            → is_free_run self.now.unhidden run b ≡ false }
     {
-        are_full(&self.unhidden, 32 * group as usize)
+        most_at(&self.most, group) < run
     }
 
     /// Whether a block is live in the bitmap, hidden or not.
@@ -157,6 +161,7 @@ impl LiveMap {
     {
         let blocks = self.geometry.blocks;
         self.free = put_counted(&mut self.unhidden, blocks, block, false, self.free);
+        renew_round(&mut self.most, &self.unhidden, blocks, block);
     }
 
     /// Sets the bit of a block, and whether it is live and not hidden.
@@ -171,6 +176,7 @@ impl LiveMap {
         let blocks = self.geometry.blocks;
         put_bit(&mut self.bytes, block, bit);
         self.free = put_counted(&mut self.unhidden, blocks, block, unhidden, self.free);
+        renew_round(&mut self.most, &self.unhidden, blocks, block);
     }
 
     /// The sector of the bitmap that has a block's bit, as it now must read.

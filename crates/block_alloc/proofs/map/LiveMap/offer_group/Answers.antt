@@ -4,7 +4,6 @@ use Rattle.block_alloc.specs.Choosing.{is_free_run}
 use Rattle.block_alloc.specs.Groups.{is_within, is_run_within, IsKeptFrom}
 use Rattle.block_alloc.specs.Least.{in_order, ranked}
 use Rattle.block_alloc.specs.declared.least.Ranked.{Ranked}
-use Rattle.block_alloc.proofs.GroupLaws.{kept_by, no_run_within}
 use Rattle.block_alloc.proofs.OrderLaws.{least-from-yes}
 use Rattle.block_alloc.proofs.map.LiveMap.offer_group.Goals as goal
 
@@ -33,13 +32,3 @@ returns-clause-kept g c = λ before.
     let rank = rank_of c.args.placement.now.kind c.args.hint in
     let here : c.loop-block.block ≡ 256 * c.args.group = omega (arith, c.loop-block-test.false, c.loop-block.invariant.low) in
     subst (λ n. IsKeptFrom rank c.args.self.now.unhidden c.args.run c.args.ceiling c.args.least.now.wanted n c.loop-block.least.kept.items) here (c.loop-block.invariant.kept before)
-
--- no block of a full group is free
-pub returns-then-is_full-clause-kept : goal.returns-then-is_full-clause-kept
-returns-then-is_full-clause-kept g c = λ before.
-    let rank = rank_of c.args.placement.now.kind c.args.hint in
-    let live = c.args.self.now.unhidden in
-    let end : 256 * (c.args.group + 1) ≡ 256 * c.args.group + 256 = omega arith in
-    kept_by rank live c.args.run c.args.least.now.wanted (256 * c.args.group) c.args.ceiling 256 c.args.least.now.kept.items
-    (λ b low high. no_run_within rank live c.args.run c.args.ceiling b c.requires.run.0 (c.is_full.ensures c.if-is_full.true b low high))
-    (subst (λ n. IsKeptFrom rank live c.args.run c.args.ceiling c.args.least.now.wanted n c.args.least.now.kept.items) end before)
