@@ -1,4 +1,5 @@
-//! Groups of 256 blocks in a row: which block of one has the least rank, and in which order they are gone through.
+//! Groups of 256 blocks in a row: which block of one has the least rank, and in which order they are gone through; and
+//! stretches of 16 groups.
 
 ghost use Rattle.std.specs.Prelude.{◌≡◌, ℕ, ◌+◌, ◌*◌, ◌^◌, ◌<◌, ◌≤◌};
 ghost use Rattle.tsd_model.specs.Rank.{rank_of};
@@ -59,8 +60,8 @@ pub(crate) fn best_of(kind: PlaceKind, hint: u32, group: u32) -> u32
     }
 }
 
-/// The block of a group from which on a ceiling is guessed: its first one, but for `Near` and `Spread` the hint where it
-/// is one of the group. For `Spread` those below the hint have the greatest ranks of all.
+/// The block of a group from which on a ceiling is guessed: its first one, but for `Near` and `Spread` the hint where
+/// it is in the group. For `Spread` those below the hint have the greatest ranks of all.
 pub(crate) fn start_of(kind: PlaceKind, hint: u32, group: u32) -> u32
     requires { group < 2 ^ 24 }
 {
