@@ -67,6 +67,7 @@ impl FrameCutter {
     }
 
     /// Takes the piece up to the end of its first frame, or all of it. After a whole frame it begins a new one.
+    #[inline(never)]
     pub fn feed(&mut self, piece: &[u8]) -> Fed
         ensures within { result.used ≤ length piece.now }
         ensures some { result.whole ≡ true → 0 < result.used }
