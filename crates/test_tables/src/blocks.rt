@@ -1,11 +1,11 @@
 //! Maps that are loaded, how often a choice asks for a rank, and what is chosen of the largest disk.
 
-ghost use Rattle.std.specs.Prelude.{◌≡◌, ◌<◌, ◌≤◌};
+ghost use Rattle.std.specs.Prelude.{◌≡◌, ◌≤◌};
 ghost use Rattle.tsd_model.specs.Geometry.{IsLawful};
 
 use crate::placing::{counting_low, counting_near, near};
-use block_alloc::{LiveMap, LoadFault, RunRefusal, Short};
-use image_device::{Device, Failed, MemStation};
+use block_alloc::{LiveMap, RunRefusal, Short};
+use image_device::MemStation;
 use place_policy::Placement;
 use std::alloc::Global;
 use std::cell::Cell;
@@ -39,32 +39,6 @@ fn disk(blocks: u32) -> Geometry
     }
 }
 
-fn set(map: &mut LiveMap, block: u32, live: bool)
-    requires { block < map.old.geometry.blocks }
-    ensures { map.new.geometry ≡ map.old.geometry }
-{
-    if live {
-        map.set_live(block);
-    } else {
-        map.set_free(block);
-    }
-}
-
-/// Makes a block live or free, in a map and on a disk.
-fn change(
-    map: &mut LiveMap,
-    station: &mut MemStation,
-    block: u32,
-    live: bool,
-) -> Result<(), Failed> {
-    if block >= map.geometry().blocks {
-        return Err(Failed);
-    }
-    set(map, block, live);
-    let patch = map.patch(block);
-    station.write(patch.sector, &patch.bytes)
-}
-
 /// Sees which blocks are chosen for the least hint, or why none are.
 fn see_chosen(
     rt: &impl Abort,
@@ -94,19 +68,13 @@ fn see_run(
     assert_eq!(rt; map.choose_run(placement, 0, count), wanted);
 }
 
-/// Makes blocks live, in a map and on a disk.
-fn set_all_live(map: &mut LiveMap, station: &mut MemStation, blocks: &[u32]) -> Result<(), Failed> {
-    for block in blocks {
-        change(map, station, *block, true)?;
-    }
-    Ok(())
-}
-
-/// A map of eight blocks of which these are live.
-fn small(alloc: Global, live: &[u32]) -> Result<LiveMap, Fail> {
+/// A map of eight blocks of which block 0 is live.
+fn small(alloc: Global) -> Result<LiveMap, Fail> {
     let mut station = MemStation::new(alloc, Vec::new(alloc));
     let mut map = LiveMap::load(alloc, &mut station, &disk(8))?;
-    set_all_live(&mut map, &mut station, live)?;
+    if 0 < map.geometry().blocks {
+        map.set_live(0);
+    }
     Ok(map)
 }
 
@@ -129,7 +97,7 @@ fn count_asked(rt: &impl Abort, alloc: Global, fresh: &LiveMap) -> Result<(), Fa
 
 #[test]
 fn choosing_asks_for_each_rank_once(rt: HostRuntime) -> Result<(), Fail> {
-    let fresh = small(rt.alloc(), &[0])?;
+    let fresh = small(rt.alloc())?;
     count_asked(&rt, rt.alloc(), &fresh)
 }
 
@@ -151,7 +119,7 @@ fn count_too_few(rt: &impl Abort, alloc: Global, fresh: &LiveMap) -> Result<(), 
 
 #[test]
 fn too_few_blocks_ask_for_no_rank(rt: HostRuntime) -> Result<(), Fail> {
-    let fresh = small(rt.alloc(), &[0])?;
+    let fresh = small(rt.alloc())?;
     count_too_few(&rt, rt.alloc(), &fresh)
 }
 
