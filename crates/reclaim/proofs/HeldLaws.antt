@@ -105,10 +105,10 @@ pop_some old xs None held last = tt
 pop_some old xs (Some x) held last = (popped old xs x held last).1
 
 pub pop_none : (xs : List ℕ) (x : Option ℕ) → (IsSome x ↔ (0 < length xs)) → IsNone x ↔ (xs ≡ [])
-pop_none [] None is = (λ none. refl, λ empty. tt)
-pop_none [] (Some x) is = absurd (let some = is.0 tt in omega arith)
-pop_none (y ∷ ys) None is = absurd (is.1 (omega arith))
-pop_none (y ∷ ys) (Some x) is = (λ none. absurd none, λ empty. absurd (cc))
+pop_none [] None is = (λ none. refl, λ empty. refl)
+pop_none [] (Some x) is = absurd (let some = is.0 refl in omega arith)
+pop_none (y ∷ ys) None is = absurd (let some = is.1 (omega arith) in cc)
+pop_none (y ∷ ys) (Some x) is = (λ none. absurd (cc), λ empty. absurd (cc))
 
 -- ---- numbers by their places
 
