@@ -1,7 +1,7 @@
 //! A tree copied from one root of a disk to another, in either layout.
 //!
-//! What it stands on: `fs_port` says what a disk and a file system promise, `fs_trees` which asks make a tree again, and
-//! `fs_laws` that what one root reaches stays while another is written.
+//! What it stands on: `fs_port` says what a disk and a file system promise, `fs_trees` which asks make a tree again,
+//! and `fs_laws` that what one root reaches stays while another is written.
 //!
 //! What it promises (`specs/Copies`): the target's root has the source's tree afterwards, or the tree after the steps
 //! before the one that is refused. A crash at any moment leaves the source's tree, and under the target's root what was

@@ -47,3 +47,5 @@ no_usage_copy r ending e = subst IsCopyEnding e ending
 
 pub no_source_copy : (r : Status) → IsCopyEnding r → r ≡ status.SourceFault → ⊥
 no_source_copy r ending e = subst IsCopyEnding e ending
+
+pub ruleset other_endings = (no_usage_ending, no_source_ending, no_usage_verify, no_usage_copy, no_source_copy)

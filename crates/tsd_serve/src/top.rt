@@ -69,7 +69,7 @@ pub fn tsd<S: Source, P: Port>(
 }
 
 /// Does what a command says.
-#[tactic(auto, using(crate::proofs::Statuses::no_usage_ending, crate::proofs::Statuses::no_source_ending, crate::proofs::Statuses::no_usage_verify, crate::proofs::Statuses::no_usage_copy, crate::proofs::Statuses::no_source_copy))]
+#[tactic(auto, using(crate::proofs::Statuses::other_endings))]
 pub(crate) fn obey<S: Source, P: Port>(
     alloc: Global,
     words: Command,
