@@ -20,9 +20,9 @@ pub fn reply_of(disk: &mut PlainBlocks, request: &Request) -> Option<Reply> {
     disk.ask(request).ok()
 }
 
-/// A plain disk that doesn't tell its world, so that what a call asks of the world need not be known. It answers so many
-/// asks more, and then it fails. Of its sessions and of what is kept of capabilities it says what stands on a disk with
-/// session 1 open.
+/// A plain disk that doesn't tell its world, so that what a call asks of the world need not be known. It answers so
+/// many asks more, and then it fails. Of its sessions and of what is kept of capabilities it says what stands on a disk
+/// with session 1 open.
 #[derive(Drop)]
 pub struct Untold {
     /// How many asks more it answers.

@@ -78,8 +78,8 @@ fn shown_origins<F: DiskFacts>(facts: &F, block: u32, shown: &Shown) -> Origins
 }
 
 /// The greatest levels held at the sources of the pairs to a block. After the first sources two sides take turns, the
-/// other sources and the blocks at which anything is held: each alone finds what counts, and the first to end ends both.
-/// So does write from each origin.
+/// other sources and the blocks at which anything is held: each alone finds what counts, and the first to end ends
+/// both. So does write from each origin.
 fn led_by<F: DiskFacts>(holding: &Holding, facts: &F, block: u32) -> Origins
     requires held { IsHeldAt (F.world facts.now).geometry.blocks (F.world facts.now).geometry.primaries holding.now }
     requires within { block < (F.world facts.now).geometry.blocks }
@@ -107,8 +107,8 @@ fn led_by<F: DiskFacts>(holding: &Holding, facts: &F, block: u32) -> Origins
     best
 }
 
-/// A step over the blocks at which anything is held, which takes about as long as one over the sources. Below its result
-/// they are counted.
+/// A step over the blocks at which anything is held, which takes about as long as one over the sources. Below its
+/// result they are counted.
 fn add_held<F: DiskFacts>(
     holding: &Holding,
     facts: &F,

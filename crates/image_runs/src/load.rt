@@ -170,10 +170,7 @@ fn run<D: Device>(
     ensures works { Works (D.view dev.old) (D.view dev.new) }
     ensures faults { CountsFaultOf Status.DeviceFault result (D.view dev.old).faults (D.view dev.new).faults }
 {
-    let tally = match apply_all(core, dev, placement, draws, load) {
-        Ok(tally) => tally,
-        Err(why) => return Err(why),
-    };
+    let tally = apply_all(core, dev, placement, draws, load)?;
     match core.close(dev) {
         Ok(()) => Ok(Summary {
             count: load.count,

@@ -95,10 +95,8 @@ pub fn open_core<D: Device>(alloc: Global, dev: &mut D) -> Result<Core, Status>
     ensures works { Works (D.view dev.old) (D.view dev.new) }
     ensures faults { CountsFaultOf Status.DeviceFault result (D.view dev.old).faults (D.view dev.new).faults }
 {
-    match open_volume(alloc, dev) {
-        Ok(volume) => Ok(Core::new(alloc, volume)),
-        Err(why) => Err(why),
-    }
+    let volume = open_volume(alloc, dev)?;
+    Ok(Core::new(alloc, volume))
 }
 
 /// The status that says why an image wasn't opened.

@@ -18,38 +18,29 @@ pub(crate) fn refused(rule: Rule) -> Result<Reply, Failed>
 pub(crate) fn done(outcome: Result<(), Failed>) -> Result<Reply, Failed>
     ensures { result ≡ replied outcome (λ x. reply.Done) }
 {
-    match outcome {
-        Ok(()) => Ok(Reply::Done),
-        Err(failed) => Err(failed),
-    }
+    outcome?;
+    Ok(Reply::Done)
 }
 
 /// So many blocks became free.
 pub(crate) fn gone(outcome: Result<u32, Failed>) -> Result<Reply, Failed>
     ensures { result ≡ replied outcome (λ count. reply.Gone count) }
 {
-    match outcome {
-        Ok(count) => Ok(Reply::Gone(count)),
-        Err(failed) => Err(failed),
-    }
+    Ok(Reply::Gone(outcome?))
 }
 
 /// These bytes were read.
 pub(crate) fn bytes(outcome: Result<(), Failed>, bytes: Data) -> Result<Reply, Failed>
     ensures { result ≡ replied outcome (λ x. reply.Bytes bytes) }
 {
-    match outcome {
-        Ok(()) => Ok(Reply::Bytes(bytes)),
-        Err(failed) => Err(failed),
-    }
+    outcome?;
+    Ok(Reply::Bytes(bytes))
 }
 
 /// These blocks are new.
 pub(crate) fn blocks(outcome: Result<(), Failed>, blocks: BlockList) -> Result<Reply, Failed>
     ensures { result ≡ replied outcome (λ x. reply.Blocks blocks) }
 {
-    match outcome {
-        Ok(()) => Ok(Reply::Blocks(blocks)),
-        Err(failed) => Err(failed),
-    }
+    outcome?;
+    Ok(Reply::Blocks(blocks))
 }
