@@ -1,9 +1,11 @@
 //! What a certificate shows of a volume, without a search.
 
 ghost use Rattle.std.specs.Prelude.{◌≡◌, ◌↔◌, ℕ, ◌<◌, ◌^◌, length, count_by, is_some, MatchOption};
-ghost use Rattle.std.specs.Prelude.{IfSome, IsTrue};
+ghost use Rattle.std.specs.Prelude.{IfSome, IsTrue, true};
 ghost use Rattle.tsd_model.specs.Reach.{reach};
-ghost use Rattle.tsd_model.specs.World.{has_number, primary_blocks};
+ghost use Rattle.tsd_model.specs.Pairs.{holds};
+ghost use Rattle.tsd_model.specs.Valid.{IsSized};
+ghost use Rattle.tsd_model.specs.World.{has_number, is_live, primary_blocks};
 ghost use Rattle.volume_laws.specs.Volume.{IsVolumeReady, told_by};
 ghost use Rattle.image_audit.specs.Certificates.{ListsPrimaries, HasGoodEntries, IsClosed, IsClosedAt, IsGoodEntry};
 ghost use Rattle.image_audit.specs.Certificates.{IsVerdict};
@@ -32,7 +34,6 @@ pub fn verify(volume: &Volume, certificate: &Certificate) -> Verdict
     ensures found { AreReached (told_by volume.now) (primary_blocks (told_by volume.now)) certificate.now.entries
         → result ≡ Verdict.Yes (count_by is_some certificate.now.entries) }
 {
-    let _size = volume.geometry();
     let entries = certificate.entries();
     if let Some(block) = primary_out(volume, entries) {
         return Verdict::Primary { block };
@@ -59,8 +60,11 @@ fn count_listed(entries: &[Option<Entry>]) -> u32
 /// The least primary block that isn't listed.
 fn primary_out(volume: &Volume, entries: &[Option<Entry>]) -> Option<u32>
     requires blocks { length entries.now ≡ volume.now.tables.geometry.blocks }
-    ensures { MatchOption result (ListsPrimaries (told_by volume.now) entries.now)
+    ensures out { MatchOption result (ListsPrimaries (told_by volume.now) entries.now)
         (IsLeastPrimaryOut (told_by volume.now) entries.now) }
+    ensures sized { IsSized (told_by volume.now) }
+    ensures ends { (a b : ℕ) → holds (told_by volume.now).pairs a b ≡ true
+        → (is_live (told_by volume.now) a ≡ true) × (is_live (told_by volume.now) b ≡ true) }
 {
     for block in 0..volume.geometry().primaries {
         if entries[block as usize].is_none() {

@@ -5,6 +5,7 @@ use Rattle.tsd_model.specs.declared.geometry.Geometry.{Geometry}
 use Rattle.tsd_model.specs.Valid.{IsSized}
 use Rattle.tsd_model.specs.World.{World, is_live}
 use Rattle.volume_laws.specs.Volume.{told_by}
+use Rattle.volume_laws.proofs.QuestionLaws.{told_size}
 use Rattle.image_audit.specs.Certificates.{IsLeastPrimaryOut, IsLeastBadEntry, IsLeastOut, ListsPrimaries, HasGoodEntries, IsClosed}
 use Rattle.image_audit.specs.Laws.{IsWholeWorld}
 use Rattle.image_audit.proofs.VerdictLaws.{shown_reached, found_primaries, found_closed, found_no_bad}
@@ -16,29 +17,29 @@ whole_of w sized ends = record { each_block = sized.each_block; targets = λ a b
 pub returns-in-Some-clause-found : goal.returns-in-Some-clause-found
 returns-in-Some-clause-found c found =
     let w = told_by c.args.volume.now in
-    let size = c.geometry-size.ensures in
-    let out = subst (λ es. IsLeastPrimaryOut w es c.in-Some.block) c.entries-entries.ensures c.in-Some.ensures in
+    let size = c.primary_out.ensures in
+    let out = subst (λ es. IsLeastPrimaryOut w es c.in-Some.block) c.entries-entries.ensures c.in-Some.ensures.out in
     absurd (both_ways _ out.out (found_primaries w (whole_of w size.sized size.ends) size.sized.lawful.primaries.2 c.args.certificate.now.entries found c.in-Some.block out.primary))
 
 pub returns-in-Some-first_bad-clause-found : goal.returns-in-Some-first_bad-clause-found
 returns-in-Some-first_bad-clause-found c found =
     let w = told_by c.args.volume.now in
-    let size = c.geometry-size.ensures in
+    let size = c.primary_out.ensures in
     let out = subst (λ es. IsLeastBadEntry w es c.in-Some-first_bad.block) c.entries-entries.ensures c.in-Some-first_bad.ensures in
     absurd (found_no_bad w (whole_of w size.sized size.ends) size.sized.lawful.primaries.2 c.args.certificate.now.entries found c.in-Some-first_bad.block out.bad)
 
 pub returns-in-Some-first_out-clause-found : goal.returns-in-Some-first_out-clause-found
 returns-in-Some-first_out-clause-found c found =
     let w = told_by c.args.volume.now in
-    let size = c.geometry-size.ensures in
+    let size = c.primary_out.ensures in
     let out = subst (λ es. IsLeastOut w es c.in-Some-first_out.source c.in-Some-first_out.target) c.entries-entries.ensures c.in-Some-first_out.ensures in
     absurd (found_closed w (whole_of w size.sized size.ends) size.sized.lawful.primaries.2 c.args.certificate.now.entries found c.in-Some-first_out.source c.in-Some-first_out.target out.leaves)
 
 pub count_listed-requires : goal.count_listed-requires
 count_listed-requires c =
-    let size = c.geometry-size.ensures in
+    let size = c.primary_out.ensures in
     let most : (told_by c.args.volume.now).geometry.blocks ≤ 1048576 = size.sized.lawful.blocks.1 in
-    let told : (told_by c.args.volume.now).geometry.blocks ≡ c.args.volume.now.tables.geometry.blocks = ap (λ (g : Geometry). g.blocks) size.told in
+    let told : (told_by c.args.volume.now).geometry.blocks ≡ c.args.volume.now.tables.geometry.blocks = ap (λ (g : Geometry). g.blocks) (told_size c.args.volume.now.tables).0 in
     let long : length c.entries-entries.result.now ≡ length c.args.certificate.now.entries = ap length c.entries-entries.ensures in
     let same : length c.args.certificate.now.entries ≡ c.args.volume.now.tables.geometry.blocks = c.requires.blocks in
     omega (arith, most, told, long, same)
@@ -46,8 +47,8 @@ count_listed-requires c =
 pub returns-clause-reached : goal.returns-clause-reached
 returns-clause-reached c n is =
     let w = told_by c.args.volume.now in
-    let size = c.geometry-size.ensures in
+    let size = c.primary_out.ensures in
     shown_reached w (whole_of w size.sized size.ends) size.sized.lawful.primaries.2 c.args.certificate.now.entries
-    (subst (ListsPrimaries w) c.entries-entries.ensures c.in_default.ensures)
+    (subst (ListsPrimaries w) c.entries-entries.ensures c.in_default.ensures.out)
     (subst (HasGoodEntries w) c.entries-entries.ensures c.in_default-first_bad.ensures)
     (subst (IsClosed w) c.entries-entries.ensures c.in_default-first_out.ensures)
