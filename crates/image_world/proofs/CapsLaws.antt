@@ -1,11 +1,13 @@
--- A failed loading of the records, told by the fault that the loading of the tables makes of it.
+-- A failed loading of the counts or of the records, told by the fault that the loading of the tables makes of it.
 use Rattle.std.proofs.Common.{◌≡◌, ℕ, refl, Ok, Err, Result}
 use native.Mathlib.Omega.{arith}
 use Rattle.std.specs.Prelude.{IsErrOf}
 use Rattle.image_device.specs.Counts.{Rose}
 use Rattle.cap_store.specs.declared.fault.LoadFault.{LoadFault as CapFault}
 use Rattle.cap_store.specs.declared.fault.LoadFault.TheVariants as cap_fault
-use Rattle.image_world.specs.LoadFaults.{of_caps}
+use Rattle.ref_counts.specs.declared.fault.LoadFault.{LoadFault as CountFault}
+use Rattle.ref_counts.specs.declared.fault.LoadFault.TheVariants as count_fault
+use Rattle.image_world.specs.LoadFaults.{of_counts, of_caps}
 use Rattle.image_world.specs.declared.fault.LoadFault.{LoadFault}
 use Rattle.image_world.specs.declared.fault.LoadFault.TheVariants as fault
 
@@ -19,6 +21,14 @@ module _ {T S : Type 0} where
   pub rose_after_caps : (n m : ℕ) (r : Result T LoadFault) (why : CapFault) → r ≡ Err (of_caps why) → (IsErrOf {T = S} (Err why) cap_fault.Device → Rose n m) → IsErrOf r fault.Device → Rose n m
   rose_after_caps n m r cap_fault.NoMemory is cause device = grind arith
   rose_after_caps n m r cap_fault.Device is cause device = cause refl
+
+  pub same_after_counts : {n m : ℕ} (r : Result T LoadFault) (why : CountFault) → r ≡ Err (of_counts why) → (¬ IsErrOf {T = S} (Err why) count_fault.Device → n ≡ m) → ¬ IsErrOf r fault.Device → n ≡ m
+  same_after_counts r count_fault.NoMemory is same other = same (λ (e : IsErrOf {T = S} (Err count_fault.NoMemory) count_fault.Device). cc)
+  same_after_counts r count_fault.Device is same other = absurd (other is)
+
+  pub rose_after_counts : (n m : ℕ) (r : Result T LoadFault) (why : CountFault) → r ≡ Err (of_counts why) → (IsErrOf {T = S} (Err why) count_fault.Device → Rose n m) → IsErrOf r fault.Device → Rose n m
+  rose_after_counts n m r count_fault.NoMemory is cause device = grind arith
+  rose_after_counts n m r count_fault.Device is cause device = cause refl
 
 -- what is loaded didn't fail
 pub loaded_is_no_fault : {T E : Type 0} (x : T) (e : E) → IsErrOf (Ok x) e → ⊥

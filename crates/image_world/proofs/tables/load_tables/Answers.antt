@@ -8,7 +8,7 @@ use Rattle.image_device.proofs.Resting.{rests_joined}
 use Rattle.tsd_model.specs.declared.geometry.Geometry.{Geometry}
 use Rattle.image_world.specs.Faults.{AreRight}
 use Rattle.image_world.proofs.LoadLaws.{are_read, are_stored, do_fit, failed}
-use Rattle.image_world.proofs.CapsLaws.{same_after_caps, rose_after_caps, loaded_is_no_fault}
+use Rattle.image_world.proofs.CapsLaws.{same_after_caps, rose_after_caps, same_after_counts, rose_after_counts, loaded_is_no_fault}
 use Rattle.image_world.proofs.TestLaws.{right_on}
 use Rattle.image_world.proofs.tables.load_tables.Goals as goal
 
@@ -86,4 +86,16 @@ returns-in_err-caps-clause-faults g c =
       λ device. subst (λ n. Rose n (view c.load-4.new.dev).faults) before
           (rose_after_caps (view c.load-3.new.dev).faults (view c.load-4.new.dev).faults c.from_residual-in_err-caps.result c.in_err-caps.field-0.0 same c.in_err-caps.ensures.faults.0 device),
       λ other. same_after_caps c.from_residual-in_err-caps.result c.in_err-caps.field-0.0 same c.in_err-caps.ensures.faults.1 other ∙ before,
+    )
+
+pub returns-in_err-counts-clause-faults : goal.returns-in_err-counts-clause-faults
+returns-in_err-counts-clause-faults g c =
+    let view = g.D.Device.view in
+    let is = err_from_is_err_and c.from_residual-in_err-counts.result c.from_residual-in_err-counts.ensures.1 in
+    let same = is.1 ∙ ap (λ y. Err y) is.2 in
+    let before = c.in_ok-live.ensures.faults.1 (loaded_is_no_fault c.in_ok-live.live live_fault.Device)
+    ∙ c.in_ok-pointers.ensures.faults.1 (loaded_is_no_fault c.in_ok-pointers.pointers slot_fault.Device) in (
+      λ device. subst (λ n. Rose n (view c.load-3.new.dev).faults) before
+          (rose_after_counts (view c.load-2.new.dev).faults (view c.load-3.new.dev).faults c.from_residual-in_err-counts.result c.in_err-counts.field-0.0 same c.in_err-counts.ensures.faults.0 device),
+      λ other. same_after_counts c.from_residual-in_err-counts.result c.in_err-counts.field-0.0 same c.in_err-counts.ensures.faults.1 other ∙ before,
     )
