@@ -98,8 +98,8 @@ these g c =
     subst (λ (u : Tables). IsDropped c.args.self.now.tables c.args.source c.args.target u c.put-2.new.self)
     (same_bits i.header c.remove.new.self c.lower.new.self i.live c.lower-2.new.live i.caps i.is_sweeping c.lower-2.ensures.raw) (these_raw g c)
 
-pub lower-2-requires : goal.lower-2-requires
-lower-2-requires g c =
+pub lower-requires-2 : goal.lower-requires-2
+lower-requires-2 g c =
     let i = c.self.inside in
     let v = c.self.invariant in
     let t = c.args.self.now.tables in
