@@ -86,94 +86,69 @@ pub enum Parsed<'a> {
     },
 }
 
-/// The request, and Bad where there is none. It is no `match`: the way through a variant that doesn't exist would leave
-/// the answer's room unwritten, and so the caller would clear its own.
+/// The request, and Bad where there is none.
 pub fn request(parsed: Parsed<'_>) -> Request
     ensures { result ≡ unwrap_or (request_parsed parsed.entry) ask.Bad }
 {
-    if let Parsed::Begin { session } = parsed {
-        return Request::Begin { session };
-    }
-    if let Parsed::End { session } = parsed {
-        return Request::End { session };
-    }
-    if let Parsed::Read { access } = parsed {
-        return Request::Read {
+    match parsed {
+        Parsed::Bad => Request::Bad,
+        Parsed::Begin { session } => Request::Begin { session },
+        Parsed::End { session } => Request::End { session },
+        Parsed::Read { access } => Request::Read {
             session: access.session,
             block: access.block,
             shown: access.shown,
-        };
-    }
-    if let Parsed::Write { access, word } = parsed {
-        return write(&access, word);
-    }
-    if let Parsed::Alloc {
-        access,
-        hint,
-        count,
-    } = parsed
-    {
-        return Request::Alloc {
+        },
+        Parsed::Write { access, word } => write(&access, word),
+        Parsed::Alloc {
+            access,
+            hint,
+            count,
+        } => Request::Alloc {
             session: access.session,
             source: access.block,
             shown: access.shown,
             hint,
             count,
-        };
-    }
-    if let Parsed::Contig {
-        access,
-        hint,
-        count,
-    } = parsed
-    {
-        return Request::Contig {
+        },
+        Parsed::Contig {
+            access,
+            hint,
+            count,
+        } => Request::Contig {
             session: access.session,
             source: access.block,
             shown: access.shown,
             hint,
             count,
-        };
-    }
-    if let Parsed::GetFree = parsed {
-        return Request::GetFree;
-    }
-    if let Parsed::Create { access, target } = parsed {
-        return Request::Create {
+        },
+        Parsed::GetFree => Request::GetFree,
+        Parsed::Create { access, target } => Request::Create {
             session: access.session,
             source: access.block,
             shown: access.shown,
             target,
-        };
-    }
-    if let Parsed::Delete { access, target } = parsed {
-        return Request::Delete {
+        },
+        Parsed::Delete { access, target } => Request::Delete {
             session: access.session,
             source: access.block,
             shown: access.shown,
             target,
-        };
-    }
-    if let Parsed::SetCap { access, caps } = parsed {
-        return Request::SetCap {
+        },
+        Parsed::SetCap { access, caps } => Request::SetCap {
             session: access.session,
             block: access.block,
             shown: access.shown,
             caps,
-        };
-    }
-    if let Parsed::Sweep { session, shown } = parsed {
-        return Request::Sweep { session, shown };
-    }
-    if let Parsed::List { access, start } = parsed {
-        return Request::List {
+        },
+        Parsed::Sweep { session, shown } => Request::Sweep { session, shown },
+        Parsed::List { access, start } => Request::List {
             session: access.session,
             source: access.block,
             shown: access.shown,
             start,
-        };
+        },
     }
-    Request::Bad
 }
 
 /// A write of the bytes that the word spells, and Bad where it spells none.
