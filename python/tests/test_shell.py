@@ -29,6 +29,7 @@ FAKE = Path(__file__).resolve().parent / "fake_shell.py"
 READ, WRITE = "aa" * 16, "bb" * 16
 SIZES = (0, 1, 4096, 4097, 1000000)
 USAGE = 2
+PAUSE = 0.2
 ESCAPES = re.compile(rb"\x1b\[[0-9;?]*[A-Za-z]|\x07")
 
 
@@ -264,7 +265,11 @@ class OverFake(InFolder):
             terminal.ask("put evil")
             self.assertEqual("a?[2Jb?\n", terminal.ask("cat evil"))
             self.assertIn("nothing of that name is there", terminal.ask("get nothing"))
-            terminal.type("ls \x03")
+            # A Ctrl-C that comes while the prompt is written is only seen at the next key: so it waits for an echo.
+            terminal.type("ls ")
+            terminal.wait_for("ls ")
+            time.sleep(PAUSE)
+            terminal.type("\x03")
             terminal.wait_for("tsd> ")
             self.assertEqual("evil\n", terminal.ask("ls /"))
         self.assertEqual(0o700, (self.folder / "state" / "tsd").stat().st_mode & 0o777)
