@@ -1,6 +1,6 @@
 """Graphs that are large at one place: hubs of many targets and of many sources, whose pairs are taken away and put back
-in ascending, descending and drawn order, with lists from numbers that aren't held between; and sweeps of a disk of which
-half is lost in cycles. What is tried is that the replies are right, and that each run comes within a minute.
+in ascending, descending and drawn order, with lists from numbers that aren't held between; and sweeps of a disk of
+which half is lost in cycles. What is tried is that the replies are right, and that each run comes within a minute.
 """
 
 from __future__ import annotations
@@ -58,8 +58,8 @@ def listed(held: List[int], start: int) -> str:
 
 
 def access_rows(targets: int) -> Rows:
-    """What sessions that hold few blocks attain at the hub of sources: from its first source, from its last one where the
-    first leads to it no more, and from none of them."""
+    """What sessions that hold few blocks attain at the hub of sources: from its first source, from its last one where
+    the first leads to it no more, and from none of them."""
     denied = "no denied none read"
     return [
         ("open 2", "ok"),
@@ -86,7 +86,8 @@ def access_rows(targets: int) -> Rows:
 
 def hub_rows(order: List[int], targets: int) -> Rows:
     """Pairs of the hub of targets are deleted in this order, and made again in it; between them the hub is listed from
-    targets that it hasn't any more. Then pairs of the hub of sources are deleted in it, and the first ones made again."""
+    targets that it hasn't any more. Then pairs of the hub of sources are deleted in it, and the first ones made
+    again."""
     gone = set(order)
     held = [target for target in range(1, targets + 1) if target not in gone]
     starts = order[::len(order) // 20]

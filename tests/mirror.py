@@ -1,7 +1,7 @@
 """Two images as one disk (`mirror`): the script of a run over two real files, one of which fails at a size that its
 system allows no file to pass, at each of its calls in turn, or can't be opened; runs that are killed before each call,
-and what a stop leaves of either image; which image holds what was answered then; and words that are refused. Expected values come from `tsd help mirror` and
-README."""
+and what a stop leaves of either image; which image holds what was answered then; and words that are refused. Expected
+values come from `tsd help mirror` and README."""
 
 from __future__ import annotations
 
@@ -50,7 +50,8 @@ def at_most(count: int) -> Callable[[], None]:
 
 def told(run: Run) -> List[bytes]:
     """The lines on standard error without the system's words, which stand behind the last colon."""
-    return [line if line.startswith(b"tsd: side lost") else line.rpartition(b": ")[0] for line in run.error.splitlines()]
+    lines = run.error.splitlines()
+    return [line if line.startswith(b"tsd: side lost") else line.rpartition(b": ")[0] for line in lines]
 
 
 def both_results(folder: Path, program: Program) -> Iterator[Result]:
@@ -59,7 +60,8 @@ def both_results(folder: Path, program: Program) -> Iterator[Result]:
     run = program.run(["mirror", one, two, *FRESH], WRITE_ONE)
     yield compared("fresh over a mirror", (0, b"ok\nok\n", b""), tuple(run))
     yield compared("fresh leaves two alike", without_end(one), without_end(two))
-    yield compared("both are for their owner alone", (0o600, 0o600), (one.stat().st_mode % 0o1000, two.stat().st_mode % 0o1000))
+    modes = (one.stat().st_mode % 0o1000, two.stat().st_mode % 0o1000)
+    yield compared("both are for their owner alone", (0o600, 0o600), modes)
     for words, text, wanted in SCRIPTS:
         run = program.run(["mirror", one, two, *words], text)
         name = f"{' '.join(words)} over a mirror"
@@ -122,12 +124,14 @@ def refused_results(folder: Path, program: Program) -> Iterator[Result]:
     before = one.read_bytes()
     for other in (one, link, hard, folder / "." / "same.img"):
         run = program.run(["mirror", one, other, *FRESH], b"")
-        yield compared(f"one file as {other.name} too", (2, b"", b"tsd: usage"), (run.status, run.out, run.error.splitlines()[0]))
+        found = (run.status, run.out, run.error.splitlines()[0])
+        yield compared(f"one file as {other.name} too", (2, b"", b"tsd: usage"), found)
     yield compared("nothing was written", before, one.read_bytes())
     new = folder / "new.img"
     run = program.run(["mirror", new, folder / "." / "new.img", *FRESH], b"")
     yield compared("one missing file twice", (2, False), (run.status, new.exists()))
-    for words in ([], [new], [new, one], [new, one, "ran"], [new, one, "run"], [new, one, "fresh", "7", "1", R, W, "near"]):
+    fresh_of_seven = [new, one, "fresh", "7", "1", R, W, "near"]
+    for words in ([], [new], [new, one], [new, one, "ran"], [new, one, "run"], fresh_of_seven):
         run = program.run(["mirror", *words], b"")
         yield compared(f"{len(words)} words behind mirror", (2, b"", False), (run.status, run.out, new.exists()))
 
