@@ -1,4 +1,4 @@
-//! Tests of the journal: worked batches and descriptors, how often is written, and calls that fail once.
+//! Tests of the journal: worked batches and descriptors, and how often is written.
 //!
 //! They use public calls alone and show what no clause says. They stand in a crate of their own, so that a change of a
 //! test proves no other crate again. Nothing stands on it, and it promises nothing.
@@ -8,8 +8,6 @@
 mod batches;
 #[cfg(test)]
 mod descriptors;
-#[cfg(test)]
-mod faults;
 #[cfg(test)]
 mod steps;
 #[cfg(test)]

@@ -3,7 +3,7 @@
 ghost use Rattle.std.specs.Prelude.{OnOk, []};
 ghost use Rattle.intent_journal.specs.Ring.{IsRingAt};
 
-use image_device::{Device, Failed, MemStation};
+use image_device::{Device, Failed};
 use intent_journal::{Batch, BatchFull, ReplayFault, Replayed, Ring, is_lawful_home};
 use std::alloc::Global;
 use std::test::Fail;
@@ -16,12 +16,12 @@ pub struct Step {
     pub fill: u8,
 }
 
-/// A run of equal steps.
-pub const NINE_OF_ONE: [Step; 9] = [Step {
+/// A step of one home.
+pub const ONE: [Step; 1] = [Step {
     first: 131,
     end: 132,
     fill: 1,
-}; 9];
+}];
 
 /// Makes a batch that of a step.
 fn fill(batch: &mut Batch, step: &Step) -> Result<(), BatchFull> {
@@ -42,40 +42,19 @@ pub fn open<D: Device>(dev: &mut D, ring: &mut Ring) -> Result<Replayed, ReplayF
     ring.replay(dev)
 }
 
-/// Commits a batch for each step, and tells how many were answered.
+/// Commits a batch for each step.
 pub fn commit_all<D: Device>(
     dev: &mut D,
     ring: &mut Ring,
     batch: &mut Batch,
     steps: &[Step],
-    done: &mut usize,
 ) -> Result<(), Failed>
     requires { D.told → IsRingAt ring.old (D.view dev.old) }
     ensures { D.told → OnOk result (IsRingAt ring.new (D.view dev.new)) }
 {
-    for (index, step) in steps.iter().enumerate() {
+    for step in steps {
         fill(batch, step).map_err(|_| Failed)?;
         ring.commit(dev, batch)?;
-        *done = index + 1;
-    }
-    Ok(())
-}
-
-/// Opens, commits all steps, and at the end makes a checkpoint where that is asked for. Tells how many steps were
-/// answered.
-pub fn run<D: Device>(
-    alloc: Global,
-    dev: &mut D,
-    steps: &[Step],
-    checkpoint: bool,
-    done: &mut usize,
-) -> Result<(), Failed> {
-    let mut ring = Ring::new(alloc).map_err(|_| Failed)?;
-    let mut batch = Batch::new(alloc).map_err(|_| Failed)?;
-    open(dev, &mut ring).map_err(|_| Failed)?;
-    commit_all(dev, &mut ring, &mut batch, steps, done)?;
-    if checkpoint {
-        ring.checkpoint(dev)?;
     }
     Ok(())
 }
@@ -105,27 +84,4 @@ pub fn filled<D: Device>(dev: &mut D, sector: u32) -> Result<Option<u8>, Fail> {
     let mut bytes = [0; 512];
     dev.read(sector, &mut bytes)?;
     Ok(fill_of(&bytes))
-}
-
-/// What fills a sector after these steps.
-fn fill_after(steps: &[Step], sector: u32) -> u8 {
-    let mut byte = 0;
-    for step in steps {
-        if step.first <= sector && sector < step.end {
-            byte = step.fill;
-        }
-    }
-    byte
-}
-
-/// Whether the homes from 131 to 243 hold what they do after these steps.
-pub fn holds_all(image: &mut MemStation, steps: &[Step]) -> Result<bool, Fail> {
-    let mut bytes = [0; 512];
-    for sector in 131..244 {
-        image.read(sector, &mut bytes)?;
-        if bytes != [fill_after(steps, sector); 512] {
-            return Ok(false);
-        }
-    }
-    Ok(true)
 }

@@ -1,6 +1,6 @@
 //! How often is written, and what a ring tells of its records.
 
-use super::steps::{NINE_OF_ONE, Step, commit_all, filled, filled_over, open};
+use super::steps::{ONE, Step, commit_all, filled, filled_over, open};
 use image_device::MemStation;
 use intent_journal::{Batch, Ring};
 use std::test::Fail;
@@ -18,7 +18,7 @@ fn a_commit_writes_its_homes_and_two_sectors(rt: HostRuntime) -> Result<(), Fail
             end: 140 + homes,
             fill: 9,
         };
-        commit_all(&mut station, &mut ring, &mut batch, &[step], &mut 0)?;
+        commit_all(&mut station, &mut ring, &mut batch, &[step])?;
         assert_eq!(rt; station.write_calls(), writes, "{homes} homes");
         assert_eq!(rt; ring.bodies(), homes);
         assert_eq!(rt; ring.holds(140), homes > 0);
@@ -45,13 +45,7 @@ fn a_ninth_record_wants_a_checkpoint(rt: HostRuntime) -> Result<(), Fail> {
         (8, 24),
         (1, 36),
     ] {
-        commit_all(
-            &mut station,
-            &mut ring,
-            &mut batch,
-            &NINE_OF_ONE[..1],
-            &mut 0,
-        )?;
+        commit_all(&mut station, &mut ring, &mut batch, &ONE)?;
         assert_eq!(rt; (ring.records(), station.write_calls()), (records, writes));
     }
     ring.checkpoint(&mut station)?;
@@ -84,7 +78,7 @@ fn a_read_gives_the_last_body(rt: HostRuntime) -> Result<(), Fail> {
             fill: 2,
         },
     ];
-    commit_all(&mut station, &mut ring, &mut batch, &steps, &mut 0)?;
+    commit_all(&mut station, &mut ring, &mut batch, &steps)?;
     let read = [
         filled_over(&mut station, &ring, 200)?,
         filled_over(&mut station, &ring, 201)?,
