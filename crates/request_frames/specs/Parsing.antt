@@ -1,5 +1,5 @@
 -- The request that the bytes of a body say, where the bytes to write still stand in the body.
-use Rattle.std.specs.Prelude.{ℕ, List, Option, Some, None}
+use Rattle.std.specs.Prelude.{ℕ, Bool, true, false, List, Option, Some, None}
 use Rattle.tsd_model.specs.declared.requests.Request.{Request}
 use Rattle.tsd_model.specs.declared.requests.Request.TheVariants as ask
 use Rattle.request_frames.specs.declared.reader.Access.{Access}
@@ -24,6 +24,38 @@ request_parsed (say.Delete p b) = Some (ask.Delete p.session p.block p.shown b)
 request_parsed (say.SetCap p caps) = Some (ask.SetCap p.session p.block p.shown caps)
 request_parsed (say.Sweep s c) = Some (ask.Sweep s c)
 request_parsed (say.List p b) = Some (ask.List p.session p.block p.shown b)
+
+-- whether it names pointers of a block, or is to make some
+abbrev pub names_pointers : Parsed → Bool
+names_pointers say.Bad = false
+names_pointers (say.Begin s) = false
+names_pointers (say.End s) = false
+names_pointers (say.Read p) = false
+names_pointers (say.Write p w) = false
+names_pointers say.GetFree = false
+names_pointers (say.Sweep s c) = false
+names_pointers (say.Alloc p h n) = true
+names_pointers (say.Contig p h n) = true
+names_pointers (say.Create p b) = true
+names_pointers (say.Delete p b) = true
+names_pointers (say.SetCap p caps) = true
+names_pointers (say.List p b) = true
+
+-- whether it makes blocks, or capabilities
+abbrev pub is_making : Parsed → Bool
+is_making say.Bad = false
+is_making (say.Begin s) = false
+is_making (say.End s) = false
+is_making (say.Read p) = false
+is_making (say.Write p w) = false
+is_making say.GetFree = false
+is_making (say.Sweep s c) = false
+is_making (say.Alloc p h n) = true
+is_making (say.Contig p h n) = true
+is_making (say.Create p b) = false
+is_making (say.Delete p b) = false
+is_making (say.SetCap p caps) = true
+is_making (say.List p b) = false
 
 abbrev pub request_said : Option Parsed → Option Request
 request_said None = None

@@ -12,7 +12,7 @@ ghost use Rattle.request_frames.specs.Parsing.{ended, request_parsed, request_sa
 use crate::codes::{
     ALLOC, BEGIN, CONTIG, CREATE, DELETE, END, GET_FREE, LIST, READ, SET_CAP, SWEEP, WRITE,
 };
-use crate::parsed::{Parsed, request};
+use crate::parsed::{Parsed, put_request};
 use crate::reader::BodyReader;
 use tsd_model::{CapPair, Request};
 
@@ -28,7 +28,9 @@ pub fn decode_body(body: &[u8]) -> Request
     // As a function that computes.
     ensures value { result ≡ request_of body.now }
 {
-    request(read_body(body))
+    let mut request = Request::Bad;
+    put_request(&read_body(body), &mut request);
+    request
 }
 
 /// What a body says. It stays a call, so that the room of the request is cleared once and beside no other.

@@ -1,9 +1,9 @@
 -- What is printed is spelled as the grammar wants it, and texts in the order in which they are written.
-use Rattle.std.proofs.Common.{◌≡◌, ◌≢◌, ℕ, zero, suc, ◌+◌, ◌-◌, ◌*◌, ◌^◌, ◌<◌, ◌≤◌, Bool, true, false, cond, ◌&&◌, ◌==◌, List, [], ◌∷◌, ◌++◌, length, take, map, flat_map, decimal, refl, sym, ◌∙◌, ap, arith, Ok, inl, inr, append-nil, get_or}
+use Rattle.std.proofs.Common.{◌≡◌, ◌≢◌, ℕ, zero, suc, ◌+◌, ◌-◌, ◌*◌, ◌^◌, ◌<◌, ◌≤◌, Bool, true, false, cond, ◌&&◌, ◌==◌, List, [], ◌∷◌, ◌++◌, length, take, drop, map, flat_map, decimal, refl, sym, ◌∙◌, ap, arith, Ok, inl, inr, append-nil, get_or}
 use Rattle.std.specs.List.{list_all, join_with_byte}
 use Rattle.std.proofs.lemmas.Fmt.{decimal_is_IsNumeral, length-decimal-le}
 use Rattle.std.proofs.lemmas.Bool.{ne_eqb}
-use Rattle.std.proofs.lemmas.List.{take_more}
+use Rattle.std.proofs.lemmas.List.{take_more, take-append-drop}
 use Rattle.hex.specs.Hex.{decode_of, encode_lower}
 use Rattle.script_text.specs.Grammar.{IsNumber, IsData}
 use Rattle.script_text.specs.Texts.{data_text, target_words, up_to_last}
@@ -29,17 +29,22 @@ targets_after (b ∷ bs) h = ap (λ xs. 32 ∷ xs) (sym (numbers_after (decimal 
 
 -- ---- bytes without the zeros at their end
 
-all_zero : List ℕ → Bool
+abbrev all_zero : List ℕ → Bool
 all_zero bs = list_all (λ x. x == 0) bs
 
-zero_more : (bs : List ℕ) → list_all (λ x. x == 0) (bs ++ 0 ∷ []) ≡ list_all (λ x. x == 0) bs
-zero_more [] = refl
-zero_more (b ∷ bs) = ap (λ t. (b == 0) && t) (zero_more bs)
+zeros_more : (bs zs : List ℕ) → all_zero zs ≡ true → all_zero (bs ++ zs) ≡ all_zero bs
+zeros_more [] zs h = h
+zeros_more (b ∷ bs) zs h = ap (λ t. (b == 0) && t) (zeros_more bs zs h)
 
--- a zero at the end is cut off
-pub cut_zero : (bs : List ℕ) → up_to_last (bs ++ 0 ∷ []) ≡ up_to_last bs
-cut_zero [] = refl
-cut_zero (b ∷ bs) = λ i. cond ((b == 0) && zero_more bs i) [] (b ∷ cut_zero bs i)
+-- zeros at the end are cut off
+cut_zeros : (bs zs : List ℕ) → all_zero zs ≡ true → up_to_last (bs ++ zs) ≡ up_to_last bs
+cut_zeros [] [] h = refl
+cut_zeros [] (z ∷ zs) h = ap (λ t. cond t [] (z ∷ up_to_last zs)) h
+cut_zeros (b ∷ bs) zs h = λ i. cond ((b == 0) && zeros_more bs zs h i) [] (b ∷ cut_zeros bs zs h i)
+
+pub zeros_less : (bs front zeros : List ℕ) (n : ℕ) → front ≡ take n bs → zeros ≡ drop n bs → list_all (λ x. x == 0) zeros ≡ true → up_to_last front ≡ up_to_last bs
+zeros_less bs front zeros n at_front behind zero_there =
+    sym (cut_zeros front zeros zero_there) ∙ (λ i. up_to_last (at_front i ++ behind i)) ∙ ap up_to_last (take-append-drop n bs)
 
 other_more : (bs : List ℕ) (x : ℕ) → x ≢ 0 → list_all (λ y. y == 0) (bs ++ x ∷ []) ≡ false
 other_more [] x h = ap (λ t. t && true) (ne_eqb x 0 h)
@@ -59,7 +64,7 @@ last_of_front bs end some within = let back : end - 1 + 1 ≡ end = omega arith 
 
 pub one_less : (bs : List ℕ) (end : ℕ) → 0 < end → end ≤ length bs → get_or bs (end - 1) 0 ≡ 0 → up_to_last (take (end - 1) bs) ≡ up_to_last (take end bs)
 one_less bs end some within zero_there =
-    sym (cut_zero (take (end - 1) bs)) ∙ ap (λ x. up_to_last (take (end - 1) bs ++ x ∷ [])) (sym zero_there) ∙ ap up_to_last (last_of_front bs end some within)
+    sym (cut_zeros (take (end - 1) bs) (0 ∷ []) refl) ∙ ap (λ x. up_to_last (take (end - 1) bs ++ x ∷ [])) (sym zero_there) ∙ ap up_to_last (last_of_front bs end some within)
 
 pub no_less : (bs : List ℕ) (end : ℕ) → 0 < end → end ≤ length bs → get_or bs (end - 1) 0 ≢ 0 → up_to_last (take end bs) ≡ take end bs
 no_less bs end some within other =

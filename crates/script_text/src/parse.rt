@@ -11,7 +11,7 @@ ghost use Rattle.script_text.specs.Reading.{create_of, delete_of, set_cap_of, sw
 ghost use Rattle.script_text.specs.Reading.{request_of};
 ghost use Rattle.script_text.specs.Parsing.{ended, request_parsed, request_said};
 
-use crate::parsed::{Parsed, request};
+use crate::parsed::{Parsed, put_request};
 use crate::words::Words;
 use tsd_model::{CapPair, Request};
 
@@ -19,6 +19,7 @@ use tsd_model::{CapPair, Request};
 pub const LINE_MAX: usize = 8400;
 
 /// The request that a line spells, and Bad where it spells none. The line comes without its line feed.
+#[inline(never)]
 pub fn parse_line(line: &[u8]) -> Request
     // What is read is spelled so.
     ensures spelled { (result ≡ Request.Bad) ⊎ IsLine line.now result }
@@ -29,7 +30,9 @@ pub fn parse_line(line: &[u8]) -> Request
     // As a function that computes.
     ensures value { result ≡ request_of line.now }
 {
-    request(read_line(line))
+    let mut request = Request::Bad;
+    put_request(&read_line(line), &mut request);
+    request
 }
 
 /// What a line says. It stays a call, so that the room of the request is cleared once and beside no other.

@@ -1,10 +1,10 @@
 //! What the words of a line say.
 //!
 //! It is small: a `Request` has room for a whole block, and each one that is made or handed on clears that room. So it
-//! is put together once, where it is returned.
+//! is put together once, in the caller's room for it.
 
-ghost use Rattle.std.specs.Prelude.{◌≡◌, unwrap_or};
-ghost use Rattle.script_text.specs.Parsing.{request_parsed, write_parsed};
+ghost use Rattle.std.specs.Prelude.{◌≡◌, true, unwrap_or};
+ghost use Rattle.script_text.specs.Parsing.{is_making, names_pointers, request_parsed, write_parsed};
 ghost use Rattle.tsd_model.specs.declared.requests.Request.TheVariants as ask;
 
 use crate::fields::read_data;
@@ -86,83 +86,145 @@ pub enum Parsed<'a> {
     },
 }
 
-/// The request, and Bad where there is none.
-pub fn request(parsed: Parsed<'_>) -> Request
-    ensures { result ≡ unwrap_or (request_parsed parsed.entry) ask.Bad }
+/// Puts the request into the room for it, and Bad where there is none. Each way writes the room once, so that it
+/// needn't be cleared before: a `match` has a way for no variant too, which writes nothing.
+#[inline(never)]
+pub fn put_request(parsed: &Parsed<'_>, into: &mut Request)
+    ensures { into.new ≡ unwrap_or (request_parsed parsed.now) ask.Bad }
 {
-    match parsed {
-        Parsed::Bad => Request::Bad,
-        Parsed::Begin { session } => Request::Begin { session },
-        Parsed::End { session } => Request::End { session },
-        Parsed::Read { access } => Request::Read {
+    if let Parsed::Bad = *parsed {
+        *into = Request::Bad;
+        return;
+    }
+    if let Parsed::GetFree = *parsed {
+        *into = Request::GetFree;
+        return;
+    }
+    if let Parsed::Begin { session } = *parsed {
+        *into = Request::Begin { session };
+        return;
+    }
+    if let Parsed::End { session } = *parsed {
+        *into = Request::End { session };
+        return;
+    }
+    if let Parsed::Sweep { session, shown } = *parsed {
+        *into = Request::Sweep { session, shown };
+        return;
+    }
+    if let Parsed::Read { access } = *parsed {
+        *into = Request::Read {
             session: access.session,
             block: access.block,
             shown: access.shown,
-        },
-        Parsed::Write { access, word } => write(&access, word),
-        Parsed::Alloc {
-            access,
-            hint,
-            count,
-        } => Request::Alloc {
-            session: access.session,
-            source: access.block,
-            shown: access.shown,
-            hint,
-            count,
-        },
-        Parsed::Contig {
-            access,
-            hint,
-            count,
-        } => Request::Contig {
-            session: access.session,
-            source: access.block,
-            shown: access.shown,
-            hint,
-            count,
-        },
-        Parsed::GetFree => Request::GetFree,
-        Parsed::Create { access, target } => Request::Create {
-            session: access.session,
-            source: access.block,
-            shown: access.shown,
-            target,
-        },
-        Parsed::Delete { access, target } => Request::Delete {
-            session: access.session,
-            source: access.block,
-            shown: access.shown,
-            target,
-        },
-        Parsed::SetCap { access, caps } => Request::SetCap {
-            session: access.session,
-            block: access.block,
-            shown: access.shown,
-            caps,
-        },
-        Parsed::Sweep { session, shown } => Request::Sweep { session, shown },
-        Parsed::List { access, start } => Request::List {
+        };
+        return;
+    }
+    if let Parsed::Write { access, word } = *parsed {
+        put_write(&access, word, into);
+        return;
+    }
+    put_pointers(parsed, into);
+}
+
+/// The same of a request that names pointers of a block, or is to make some.
+#[inline(never)]
+fn put_pointers(parsed: &Parsed<'_>, into: &mut Request)
+    requires { names_pointers parsed.now ≡ true }
+    ensures { into.new ≡ unwrap_or (request_parsed parsed.now) ask.Bad }
+{
+    if let Parsed::List { access, start } = *parsed {
+        *into = Request::List {
             session: access.session,
             source: access.block,
             shown: access.shown,
             start,
-        },
+        };
+        return;
     }
+    if let Parsed::Create { access, target } = *parsed {
+        *into = Request::Create {
+            session: access.session,
+            source: access.block,
+            shown: access.shown,
+            target,
+        };
+        return;
+    }
+    if let Parsed::Delete { access, target } = *parsed {
+        *into = Request::Delete {
+            session: access.session,
+            source: access.block,
+            shown: access.shown,
+            target,
+        };
+        return;
+    }
+    put_making(parsed, into);
+}
+
+/// The same of a request that makes blocks, or capabilities.
+#[inline(never)]
+fn put_making(parsed: &Parsed<'_>, into: &mut Request)
+    requires { is_making parsed.now ≡ true }
+    ensures { into.new ≡ unwrap_or (request_parsed parsed.now) ask.Bad }
+{
+    if let Parsed::Alloc {
+        access,
+        hint,
+        count,
+    } = *parsed
+    {
+        *into = Request::Alloc {
+            session: access.session,
+            source: access.block,
+            shown: access.shown,
+            hint,
+            count,
+        };
+        return;
+    }
+    if let Parsed::Contig {
+        access,
+        hint,
+        count,
+    } = *parsed
+    {
+        *into = Request::Contig {
+            session: access.session,
+            source: access.block,
+            shown: access.shown,
+            hint,
+            count,
+        };
+        return;
+    }
+    if let Parsed::SetCap { access, caps } = *parsed {
+        *into = Request::SetCap {
+            session: access.session,
+            block: access.block,
+            shown: access.shown,
+            caps,
+        };
+        return;
+    }
+    *into = Request::Bad;
 }
 
 /// A write of the bytes that the word spells, and Bad where it spells none.
-fn write(access: &Access, word: &[u8]) -> Request
-    ensures { result ≡ unwrap_or (write_parsed access.now word.now) ask.Bad }
+#[inline(never)]
+fn put_write(access: &Access, word: &[u8], into: &mut Request)
+    ensures { into.new ≡ unwrap_or (write_parsed access.now word.now) ask.Bad }
 {
     let mut bytes = Data::new();
     if !read_data(word, &mut bytes) {
-        return Request::Bad;
+        *into = Request::Bad;
+        return;
     }
-    Request::Write {
+    *into = Request::Write {
         session: access.session,
         block: access.block,
         shown: access.shown,
         bytes,
-    }
+    };
 }

@@ -1,26 +1,9 @@
 -- Answers over a table that may still hold levels at free blocks.
 use Rattle.std.proofs.Common.{◌≡◌, ℕ, true, false, refl, sym, ◌∙◌, ap, ◌-◌, Option, Some, None}
-use Rattle.tsd_model.specs.Pairs.{without_pair}
-use Rattle.tsd_model.specs.World.{World, free_count}
-use Rattle.tsd_model.specs.Sessions.{fitted}
-use Rattle.tsd_model.specs.Verdict.{is_begin, verdict}
-use Rattle.tsd_model.specs.Doomed.{settle}
-use Rattle.tsd_model.specs.Reach.{swept}
-use Rattle.tsd_model.specs.Step.{State, gives, step, run_at, targets_from, without_pointer}
-use Rattle.tsd_model.specs.Run.{starved, answer}
-use Rattle.tsd_model.specs.declared.replies.Reply.{Reply}
+use Rattle.tsd_core.proofs.Common.{without_pair, World, free_count, fitted, is_begin, verdict, settle, swept, State, gives, step, run_at, targets_from, without_pointer, starved, answer, Reply, Rule, PlaceKind, Request, AreLike, free_count_like, chosen_like, chosen_run_like, settle_like, swept_like, fitted_like, Table, with_sessions, table_after, world_after, reply_to, is_read, IsOver, state_over, IsStarved, IsAnswer}
 use Rattle.tsd_model.specs.declared.replies.Reply.TheVariants as reply
-use Rattle.tsd_model.specs.declared.replies.Rule.{Rule}
-use Rattle.tsd_model.specs.declared.requests.PlaceKind.{PlaceKind}
-use Rattle.tsd_model.specs.declared.requests.Request.{Request}
 use Rattle.tsd_model.specs.declared.requests.Request.TheVariants as ask
-use Rattle.disk_laws.specs.Bytes.{AreLike}
 use Rattle.disk_laws.proofs.AnswerLaws.{refused_answer}
-use Rattle.disk_laws.proofs.ByteLaws.{free_count_like, chosen_like, chosen_run_like}
-use Rattle.disk_laws.proofs.LikeLaws.{settle_like, swept_like, fitted_like}
-use Rattle.grant_table.specs.Table.{Table, with_sessions}
-use Rattle.tsd_core.specs.Seen.{table_after, world_after, reply_to, is_read, IsOver, state_over, IsStarved}
-use Rattle.tsd_model.specs.Run.{IsAnswer}
 use Rattle.tsd_core.proofs.StepSeen.{verdict_over, step_over}
 
 -- a refused request

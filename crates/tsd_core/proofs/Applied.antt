@@ -1,52 +1,19 @@
 -- From a request that was judged and carried out to what is said of it.
 use Rattle.std.proofs.Common.{◌≡◌, ◌⊎◌, ℕ, ◌+◌, ◌≤◌, ◌||◌, Bool, true, false, List, length, refl, sym, ◌∙◌, ap, subst, arith, inl, inr, Option, Some, None}
-use Rattle.std.specs.Prelude.{Result, Ok, IsOk, IfSome, is_none, cond, filter}
-use Rattle.tsd_model.specs.World.{World, has_number}
-use Rattle.tsd_model.specs.Sessions.{Sessions, fitted, no_sessions}
-use Rattle.tsd_model.specs.Step.{State, Outcome, raised_by, without_pointer}
-use Rattle.tsd_model.specs.Verdict.{is_begin, verdict}
-use Rattle.tsd_model.specs.declared.replies.Reply.{Reply}
+use Rattle.tsd_core.proofs.Common.{Ok, IsOk, IfSome, is_none, filter, World, has_number, Sessions, fitted, no_sessions, State, Outcome, raised_by, without_pointer, is_begin, verdict, Reply, Rule, PlaceKind, Request, View, IsSound, Failed, leaves_both, weakened, home, tables_of, AreLike, doomed_like, fitted_like, Geometry, doomed_pairs, Table, IsTable, IsMadeFor, with_sessions, world_after, reply_to, is_read, IsOver, IsStarved, state_over, IsAnswer, Volume, world_on, IsVolumeAt, behind, owed, LeavesEither, LeavesOwed, made, due, Core, IsCoreReady, IsCoreAt, told_world, sessions_of, state_on, made_by, made_in, cost_of, LeavesDebt, IsKnown, IsChanged, IsCarriedOut, is_refusal, IsToldAnswer, told_verdict, asks_nothing, next_world, IsApplied, bytes_given, most_homes, data_none, batch_none}
+use Rattle.std.specs.Prelude.{Result, cond}
 use Rattle.tsd_model.specs.declared.replies.Reply.TheVariants as reply
-use Rattle.tsd_model.specs.declared.replies.Rule.{Rule}
-use Rattle.tsd_model.specs.declared.requests.PlaceKind.{PlaceKind}
-use Rattle.tsd_model.specs.declared.requests.Request.{Request}
 use Rattle.tsd_model.specs.declared.requests.Request.TheVariants as ask
-use Rattle.image_device.specs.View.{View, IsSound}
-use Rattle.image_device.specs.declared.device.Failed.{Failed}
-use Rattle.image_device.proofs.Moments.{leaves_both, weakened}
 use Rattle.image_device.proofs.Parts.{part_stays}
-use Rattle.intent_journal.specs.Home.{home}
-use Rattle.image_world.specs.Tables.{tables_of}
-use Rattle.disk_laws.specs.Bytes.{AreLike}
-use Rattle.disk_laws.proofs.LikeLaws.{doomed_like, fitted_like}
 use Rattle.disk_laws.proofs.FitLaws.{geometry-change}
-use Rattle.tsd_model.specs.declared.geometry.Geometry.{Geometry}
-use Rattle.graph_laws.specs.Counts.{doomed_pairs}
-use Rattle.grant_table.specs.Table.{Table, IsTable, IsMadeFor, with_sessions}
-use Rattle.tsd_core.specs.Seen.{world_after, reply_to, is_read, IsOver, IsStarved, state_over}
-use Rattle.tsd_model.specs.Run.{IsAnswer}
 use Rattle.tsd_core.proofs.StepSeen.{step_over, verdict_over}
 use Rattle.tsd_core.proofs.AnswerSeen.{refused_over, granted_over, starved_over, reply_like, without_like}
 use Rattle.tsd_core.proofs.FormLaws.{refusal_fits}
-use Rattle.volume_laws.specs.Volume.{Volume, world_on}
-use Rattle.volume_laws.specs.Volume.{IsVolumeAt}
-use Rattle.image_world.specs.Behind.{behind}
-use Rattle.image_world.specs.Debt.{owed}
-use Rattle.volume_laws.specs.Moments.{LeavesEither, LeavesOwed, made}
-use Rattle.volume_laws.specs.Writes.{due}
-use Rattle.tsd_core.specs.Core.{Core, IsCoreReady, IsCoreAt, told_world, sessions_of, state_on}
-use Rattle.tsd_core.specs.Work.{made_by, made_in, cost_of, LeavesDebt}
-use Rattle.tsd_core.specs.Carrying.{IsKnown, IsChanged, IsCarriedOut}
-use Rattle.tsd_model.specs.ReplyForm.{is_refusal}
-use Rattle.tsd_core.specs.Applying.{IsToldAnswer, told_verdict, asks_nothing, next_world, IsApplied}
 use Rattle.tsd_core.proofs.AtLaws.{at_volume, at_core, like_at}
 use Rattle.tsd_core.proofs.Likes.{like_itself}
 use Rattle.tsd_core.proofs.Operations.{then_ok, if_map, if_kept, and_ok, and_ok3}
 use Rattle.tsd_core.proofs.BehindLaws.{AreInside, leaves_behind, given_inside}
 use Rattle.tsd_core.proofs.Quiet.{still_stands, still_owes, rests_none}
-use Rattle.tsd_core.specs.Journal.{bytes_given, most_homes}
-use Rattle.volume_laws.proofs.DataLaws.{data_none}
-use Rattle.volume_laws.proofs.RingLaws.{batch_none}
 
 -- ---- the core over a world
 

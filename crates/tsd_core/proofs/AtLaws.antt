@@ -1,14 +1,8 @@
 -- A core at a device, and its volume there.
 use Rattle.std.proofs.Common.{refl, subst}
-use Rattle.image_device.specs.View.{View}
-use Rattle.image_world.specs.Tables.{Tables}
+use Rattle.tsd_core.proofs.Common.{View, Tables, Stands, world_of, AreLike, Volume, told_by, world_on, IsVolumeAt, Core, IsCoreAt}
 use Rattle.image_world.specs.Raw.{blank_of}
-use Rattle.image_world.specs.Stands.{Stands, world_of}
 use Rattle.image_world.proofs.WorldLaws.{told_like}
-use Rattle.disk_laws.specs.Bytes.{AreLike}
-use Rattle.volume_laws.specs.Volume.{Volume, told_by, world_on}
-use Rattle.volume_laws.specs.Volume.{IsVolumeAt}
-use Rattle.tsd_core.specs.Core.{Core, IsCoreAt}
 
 pub at_volume : (c : Core) (v : View) → IsCoreAt c v → IsVolumeAt c.volume v
 at_volume c v at = record {

@@ -1,33 +1,13 @@
 -- What lies behind an image isn't touched by what is written to the blocks of its disk.
 use Rattle.std.proofs.Common.{◌≡◌, ℕ, ◌+◌, ◌*◌, ◌<◌, ◌≤◌, true, false, ◌||◌, ◌&&◌, nat_le, nat_lt, List, [], ◌∷◌, refl, arith, Option, None}
 use Rattle.std.specs.Prelude.{Result}
-use Rattle.std.proofs.lemmas.Bool.Decides.{nat_tests}
+use Rattle.tsd_core.proofs.Common.{nat_tests, World, is_free, Sessions, chosen, chosen_run, run_at, IsSized, verdict, Geometry, Rule, PlaceKind, Request, LeavesPart, View, Failed, weakened, Image, behind, AllOf, AllOf-map, AllFree, chosen_are_free, chosen_run_is_free, granted_passes, HasSameData, KeepsData, bytes_given}
 use Rattle.std.proofs.Math.Nat.{mul-le-mul_left}
-use Rattle.tsd_model.specs.World.{World, is_free}
-use Rattle.tsd_model.specs.Sessions.{Sessions}
-use Rattle.tsd_model.specs.Placing.{chosen, chosen_run}
-use Rattle.tsd_model.specs.Step.{run_at}
-use Rattle.tsd_model.specs.Valid.{IsSized}
-use Rattle.tsd_model.specs.Verdict.{verdict}
-use Rattle.tsd_model.specs.declared.geometry.Geometry.{Geometry}
-use Rattle.tsd_model.specs.declared.replies.Rule.{Rule}
-use Rattle.tsd_model.specs.declared.requests.PlaceKind.{PlaceKind}
-use Rattle.tsd_model.specs.declared.requests.Request.{Request}
 use Rattle.tsd_model.specs.declared.requests.Request.TheVariants as ask
-use Rattle.image_device.specs.Runs.{LeavesPart}
-use Rattle.image_device.specs.View.{View}
-use Rattle.image_device.specs.declared.device.Failed.{Failed}
-use Rattle.image_device.proofs.Moments.{weakened}
 use Rattle.image_device.proofs.Sets.{or_false}
 use Rattle.image_layout.specs.Areas.{total}
-use Rattle.image_layout.specs.Image.{Image}
 use Rattle.image_layout.specs.Offsets.{data_sector}
-use Rattle.image_world.specs.Behind.{behind}
-use Rattle.disk_laws.proofs.ChangeLaws.{AllOf, AllOf-map, AllFree, chosen_are_free, chosen_run_is_free}
-use Rattle.disk_laws.proofs.RuleLaws.{granted_passes}
-use Rattle.volume_laws.specs.Data.{HasSameData, KeepsData}
 use Rattle.volume_laws.specs.Zeroed.{is_part, is_data}
-use Rattle.tsd_core.specs.Journal.{bytes_given}
 use Rattle.tsd_core.proofs.FormLaws.{free_below}
 
 -- these blocks are of a disk of this size

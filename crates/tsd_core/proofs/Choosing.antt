@@ -1,19 +1,9 @@
 -- Chosen blocks may be given out.
 use Rattle.std.proofs.Common.{◌≡◌, ℕ, zero, suc, ◌+◌, ◌≤◌, Bool, true, false, List, [], ◌∷◌, length, ◌∙◌, subst, arith, Some, None}
-use Rattle.std.proofs.lemmas.List.{get_or-map, length-map}
-use Rattle.std.specs.Prelude.{map, is_some, slice_get}
-use Rattle.std.specs.List.{range_with_len}
-use Rattle.tsd_model.specs.World.{World, is_free}
-use Rattle.tsd_model.specs.Placing.{hint_block, chosen, chosen_run}
-use Rattle.tsd_model.specs.Step.{run_at}
-use Rattle.tsd_model.specs.declared.requests.Hint.{Hint}
-use Rattle.tsd_model.specs.declared.requests.PlaceKind.{PlaceKind}
-use Rattle.disk_laws.proofs.ChangeLaws.{AllOf, AllFree, chosen_are_free, chosen_run_is_free}
-use Rattle.disk_laws.proofs.GraphLaws.{length-range}
+use Rattle.tsd_core.proofs.Common.{get_or-map, length-map, map, is_some, slice_get, range_with_len, World, is_free, hint_block, chosen, chosen_run, run_at, Hint, PlaceKind, AllOf, AllFree, chosen_are_free, chosen_run_is_free, length-range, AreToBeTaken}
 use Rattle.block_alloc.specs.Worlds.{IsMapOf}
 use Rattle.block_alloc.proofs.ChosenLaws.{chosen-apart, run-free, run-inside}
 use Rattle.block_alloc.proofs.WorldLaws.{chosen_same, chosen_run_same}
-use Rattle.tsd_core.specs.Growing.{AreToBeTaken}
 
 -- which blocks of a world are live
 abbrev pub live_map : World → List Bool

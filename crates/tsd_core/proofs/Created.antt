@@ -1,8 +1,6 @@
 -- A pointer more: whether it waits for a slot.
 use Rattle.std.proofs.Common.{◌≡◌, ◌≢◌, ℕ, ◌+◌, ◌-◌, ◌==◌, ◌||◌, true, false, cond, inl, inr, arith, Result}
-use Rattle.std.specs.Prelude.{OnOk}
-use Rattle.std.proofs.lemmas.Bool.{cases_Bool}
-use Rattle.std.proofs.lemmas.Bool.Decides.{nat_tests}
+use Rattle.tsd_core.proofs.Common.{OnOk, cases_Bool, nat_tests}
 use Rattle.tsd_core.proofs.Operations.{then_ok}
 
 pub some_slot : (a b : ℕ) → (false || ((a == b) || false)) ≡ false → a ≢ b

@@ -1,26 +1,8 @@
 -- Replies have a form that lines and frames can send.
 use Rattle.std.proofs.Common.{◌≡◌, ℕ, zero, suc, ◌-◌, ◌^◌, ◌<◌, ◌≤◌, Bool, true, false, cond, ◌&&◌, ◌||◌, ◌==◌, nat_lt, nat_le, List, [], ◌∷◌, ◌++◌, length, refl, subst, arith, inl, inr, ◌⊎◌, Option, Some, None}
-use Rattle.std.proofs.lemmas.Bool.{ltb-true, ltb-false, or_parts, and_parts, or_right}
-use Rattle.std.proofs.lemmas.List.{length-take}
+use Rattle.tsd_core.proofs.Common.{ltb-true, ltb-false, or_parts, and_parts, or_right, length-take, map, filter, take, count_by, is_none, unwrap_or, option_map_or, is_pair, holds, World, contents, is_live, is_free, free_count, Sessions, session_of, needs, wanted_blocks, Check, first_rule, denied, session_rules, block_rules, level_rules, pair_rules, room_rules, rules_before_room, verdict, targets_from, IsSized, AreNumbers, RuleHasNumbers, HasForm, Need, Rule, Request, AllOf, AllOf-map, AllFree, holds_first, live_below, NoRule, none_split, none_apply, NoneApply}
 use Rattle.std.proofs.lemmas.List.Sums.{sum_by-cons}
-use Rattle.std.specs.Prelude.{map, filter, take, count_by, is_none, unwrap_or}
-use Rattle.std.specs.Option.{option_map_or}
-use Rattle.tsd_model.specs.Pairs.{is_pair, holds}
-use Rattle.tsd_model.specs.World.{World, contents, is_live, is_free, free_count}
-use Rattle.tsd_model.specs.Sessions.{Sessions}
-use Rattle.tsd_model.specs.Needs.{session_of, needs, wanted_blocks}
-use Rattle.tsd_model.specs.Verdict.{Check, first_rule, denied, session_rules, block_rules, level_rules, pair_rules, room_rules, rules_before_room, verdict}
-use Rattle.tsd_model.specs.Step.{targets_from}
-use Rattle.tsd_model.specs.Valid.{IsSized}
-use Rattle.tsd_model.specs.ReplyForm.{AreNumbers, RuleHasNumbers, HasForm}
-use Rattle.tsd_model.specs.declared.needs.Need.{Need}
 use Rattle.tsd_model.specs.declared.replies.Reply.TheVariants as reply
-use Rattle.tsd_model.specs.declared.replies.Rule.{Rule}
-use Rattle.tsd_model.specs.declared.requests.Request.{Request}
-use Rattle.disk_laws.proofs.ChangeLaws.{AllOf, AllOf-map, AllFree}
-use Rattle.tsd_model.proofs.PairLaws.{holds_first}
-use Rattle.disk_laws.proofs.DoomLaws.{live_below}
-use Rattle.disk_laws.proofs.RuleLaws.{NoRule, none_split, none_apply, NoneApply}
 
 -- ---- numbers
 

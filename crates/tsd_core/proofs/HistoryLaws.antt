@@ -1,17 +1,9 @@
 -- Runs of answers.
 use Rattle.std.proofs.Common.{◌≡◌, Bool, List, [], ◌∷◌, ◌++◌, length, length-append, refl, sym, ◌∙◌, ap, subst, arith}
-use Rattle.tsd_model.specs.World.{World}
-use Rattle.tsd_model.specs.Step.{State}
-use Rattle.tsd_model.specs.Run.{answer, after, at_rest}
-use Rattle.tsd_model.specs.Valid.{IsValid}
-use Rattle.tsd_model.specs.declared.requests.PlaceKind.{PlaceKind}
-use Rattle.tsd_model.specs.declared.requests.Request.{Request}
-use Rattle.tsd_model.specs.declared.replies.Reply.{Reply}
+use Rattle.tsd_core.proofs.Common.{World, State, answer, after, at_rest, IsValid, PlaceKind, Request, Reply, reached_stays, last_pointer, IsAnswer}
 use Rattle.disk_laws.proofs.AttainedLaws.{attained_by_history}
 use Rattle.disk_laws.proofs.GrantLaws.{levels_are_grants}
-use Rattle.disk_laws.proofs.ReclaimLaws.{reached_stays, last_pointer}
 use Rattle.disk_laws.proofs.RunLaws.{answer_valid}
-use Rattle.tsd_model.specs.Run.{IsAnswer}
 use Rattle.tsd_core.specs.Histories.{WasRun, AccessIsByGrants, LeavesByTheLaws}
 
 after_more : (kind : PlaceKind) (s : State) (wants : List Bool) (qs : List Request) (want : Bool) (q : Request) → length wants ≡ length qs

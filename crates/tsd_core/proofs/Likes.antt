@@ -1,10 +1,6 @@
 -- Worlds that are like, and what is told of them.
 use Rattle.std.proofs.Common.{◌≡◌, ℕ, ◌*◌, ◌≤◌, refl, sym, subst, arith, inl, inr}
-use Rattle.tsd_model.specs.World.{World}
-use Rattle.tsd_model.specs.Geometry.{IsLawful, block_len}
-use Rattle.tsd_model.specs.ReplyForm.{IsBlockSize}
-use Rattle.tsd_model.specs.declared.geometry.Geometry.{Geometry}
-use Rattle.disk_laws.specs.Bytes.{AreLike}
+use Rattle.tsd_core.proofs.Common.{World, IsLawful, block_len, IsBlockSize, Geometry, AreLike}
 
 pub like_itself : (w : World) → AreLike w w
 like_itself w = record { geometry = refl; version = refl; count = refl; live = λ b. refl; pairs = refl; records = refl }

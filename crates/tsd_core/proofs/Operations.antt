@@ -1,24 +1,10 @@
 -- From a call on the volume to the request that it carries out.
 use Rattle.std.proofs.Common.{◌≡◌, ◌∙◌, ℕ, ◌+◌, ◌≤◌, true, false, List, arith, inl, subst}
-use Rattle.std.specs.Prelude.{Result, Ok, Err, OnOk, OnErr, IfOk}
-use Rattle.tsd_model.specs.ReplyForm.{HasForm}
-use Rattle.tsd_model.specs.World.{World}
-use Rattle.tsd_model.specs.declared.replies.Reply.{Reply}
+use Rattle.tsd_core.proofs.Common.{Ok, Err, OnOk, OnErr, IfOk, HasForm, World, Reply, PlaceKind, Request, View, Uses, Failed, with_sessions, table_change, reply_to, is_read, world_after, LeavesEither, Volume, world_on, due, IsPaid, Core, told_world, DoesRequest, IsCarriedOut, replied}
+use Rattle.std.specs.Prelude.{Result}
 use Rattle.tsd_model.specs.declared.replies.Reply.TheVariants as reply
-use Rattle.tsd_model.specs.declared.requests.PlaceKind.{PlaceKind}
-use Rattle.tsd_model.specs.declared.requests.Request.{Request}
-use Rattle.image_device.specs.View.{View}
-use Rattle.image_device.specs.Calls.{Uses}
 use Rattle.image_device.specs.Counts.{CountsFault}
-use Rattle.image_device.specs.declared.device.Failed.{Failed}
-use Rattle.grant_table.specs.Table.{with_sessions}
-use Rattle.tsd_core.specs.Seen.{table_change, reply_to, is_read, world_after}
-use Rattle.volume_laws.specs.Moments.{LeavesEither}
 use Rattle.volume_laws.specs.Operations.{IsOperation}
-use Rattle.volume_laws.specs.Volume.{Volume, world_on}
-use Rattle.volume_laws.specs.Writes.{due, IsPaid}
-use Rattle.tsd_core.specs.Core.{Core, told_world}
-use Rattle.tsd_core.specs.Carrying.{DoesRequest, IsCarriedOut, replied}
 
 -- ---- outcomes
 

@@ -1,31 +1,12 @@
 -- Each block that a deletion dooms lost a pair to it: so the cost of a request by the pairs that it removes.
 use Rattle.std.proofs.Common.{◌≡◌, ℕ, zero, suc, ◌+◌, ◌-◌, ◌*◌, ◌≤◌, Bool, true, false, not, cond, ◌&&◌, ◌||◌, ◌==◌, List, [], ◌∷◌, length, refl, sym, ◌∙◌, ap, subst, arith, Option, Some, None}
-use Rattle.std.proofs.lemmas.Bool.{and_parts, and_from, both_ways, ltb-false, ne_eqb, false_from_ne_true, not-true, not-false}
-use Rattle.std.specs.Prelude.{filter, is_none}
-use Rattle.std.specs.List.{range_with_len}
-use Rattle.tsd_model.specs.Pairs.{is_pair, holds}
-use Rattle.tsd_model.specs.World.{World, has_number, free_count}
-use Rattle.tsd_model.specs.Doomed.{doomed, settle}
-use Rattle.tsd_model.specs.Valid.{IsValid}
-use Rattle.tsd_model.specs.Verdict.{is_granted, verdict}
-use Rattle.tsd_model.specs.Step.{State, judged, without_pointer}
-use Rattle.tsd_model.specs.declared.caps.Shown.{Shown}
-use Rattle.tsd_model.specs.declared.replies.Rule.{Rule}
-use Rattle.tsd_model.specs.declared.requests.PlaceKind.{PlaceKind}
-use Rattle.tsd_model.specs.declared.requests.Request.{Request}
+use Rattle.tsd_core.proofs.Common.{and_parts, and_from, both_ways, ltb-false, ne_eqb, false_from_ne_true, not-true, not-false, filter, is_none, range_with_len, is_pair, holds, World, has_number, free_count, doomed, settle, IsValid, is_granted, verdict, State, judged, without_pointer, Shown, Rule, PlaceKind, Request, holds-filter, is_pair_same, target_stays, doomed_is_live, granted_passes, stays, doomed_pairs, made, made_by, made_in, cost_in}
 use Rattle.tsd_model.specs.declared.requests.Request.TheVariants as ask
 use Rattle.tsd_model.proofs.CountLaws.{filter_held, none_pass, count-without_pair}
-use Rattle.tsd_model.proofs.PairLaws.{holds-filter, is_pair_same}
 use Rattle.tsd_model.proofs.SizeLaws.{length-filter_le}
-use Rattle.disk_laws.proofs.DoomLaws.{target_stays}
-use Rattle.disk_laws.proofs.ReclaimLaws.{doomed_is_live}
-use Rattle.disk_laws.proofs.RuleLaws.{granted_passes}
-use Rattle.graph_laws.specs.Counts.{stays, doomed_pairs}
 use Rattle.graph_laws.proofs.DoomedLaws.{doomed_is_no_primary}
 use Rattle.graph_laws.proofs.SettleLaws.{holds-settle}
 use Rattle.graph_laws.proofs.WeightLaws.{doomed_listed, free_count-settle}
-use Rattle.volume_laws.specs.Moments.{made}
-use Rattle.tsd_core.specs.Work.{made_by, made_in, cost_in}
 use Rattle.tsd_core.specs.Costs.{removed_by, reclaimed_by}
 
 -- ---- blocks that are each led to are no more than the pairs

@@ -1,30 +1,6 @@
 -- Requests that ask nothing of the device.
 use Rattle.std.proofs.Common.{◌≡◌, ◌⊎◌, ℕ, ◌+◌, ◌≤◌, true, false, refl, sym, ◌∙◌, ap, subst, arith, inl}
-use Rattle.std.specs.Prelude.{Ok}
-use Rattle.tsd_model.specs.World.{World}
-use Rattle.tsd_model.specs.ReplyForm.{HasForm}
-use Rattle.tsd_model.specs.declared.replies.Reply.{Reply}
-use Rattle.tsd_model.specs.declared.requests.PlaceKind.{PlaceKind}
-use Rattle.tsd_model.specs.declared.requests.Request.{Request}
-use Rattle.image_device.specs.View.{View, IsSound}
-use Rattle.image_device.proofs.Moments.{started, firm_image}
-use Rattle.image_layout.specs.Image.{Image}
-use Rattle.intent_journal.specs.Home.{home}
-use Rattle.image_world.specs.Tables.{tables_of}
-use Rattle.image_world.specs.Stands.{Stands}
-use Rattle.tsd_core.specs.Seen.{world_after, is_read, IsStarved}
-use Rattle.volume_laws.specs.Volume.{Volume, world_on, told_by}
-use Rattle.volume_laws.specs.Volume.{IsVolumeAt}
-use Rattle.volume_laws.specs.Volume.{IsVolumeReady}
-use Rattle.image_world.specs.Debt.{owed}
-use Rattle.volume_laws.specs.Moments.{StandsForEither, LeavesEither, LeavesOwed}
-use Rattle.tsd_core.specs.Core.{Core, IsCoreReady, IsCoreAt, told_world}
-use Rattle.tsd_core.specs.Work.{made_by}
-use Rattle.tsd_core.specs.Journal.{bytes_given, most_homes, owed_then, makes_blocks}
-use Rattle.image_device.specs.Calls.{Rests}
-use Rattle.volume_laws.proofs.DataLaws.{data_none}
-use Rattle.volume_laws.proofs.RingLaws.{batch_none}
-use Rattle.tsd_core.specs.Carrying.{DoesRequest, IsChanged, IsCarriedOut}
+use Rattle.tsd_core.proofs.Common.{Ok, World, HasForm, Reply, PlaceKind, Request, View, IsSound, started, firm_image, Image, home, tables_of, Stands, world_after, is_read, IsStarved, Volume, world_on, told_by, IsVolumeAt, IsVolumeReady, owed, StandsForEither, LeavesEither, LeavesOwed, Core, IsCoreReady, IsCoreAt, told_world, made_by, bytes_given, most_homes, owed_then, makes_blocks, Rests, data_none, batch_none, DoesRequest, IsChanged, IsCarriedOut}
 use Rattle.volume_laws.proofs.OperationLaws.{works_none}
 use Rattle.tsd_core.proofs.AtLaws.{at_volume, stands_at}
 use Rattle.tsd_core.proofs.Likes.{like_as}

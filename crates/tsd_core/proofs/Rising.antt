@@ -1,19 +1,8 @@
 -- Levels that have risen.
 use Rattle.std.proofs.Common.{◌≡◌, ℕ, ◌-◌, ◌<◌, refl, sym, ◌∙◌, arith}
-use Rattle.std.proofs.lemmas.List.{get_or_append_left}
-use Rattle.std.proofs.lemmas.List.FromFn.{length-map-range_with_len, get_or-map-range_with_len}
-use Rattle.std.specs.Prelude.{slice_get, slice_index_or, unwrap_or, replicate}
-use Rattle.tsd_model.specs.World.{World}
-use Rattle.tsd_model.specs.Sessions.{Sessions}
-use Rattle.tsd_model.specs.Attained.{attained_from, attained_origins}
-use Rattle.tsd_model.specs.Needs.{session_of, needs}
-use Rattle.tsd_model.specs.Step.{raised_by}
-use Rattle.tsd_model.specs.declared.caps.Shown.{Shown}
+use Rattle.tsd_core.proofs.Common.{get_or_append_left, length-map-range_with_len, get_or-map-range_with_len, slice_get, slice_index_or, unwrap_or, replicate, World, Sessions, attained_from, attained_origins, session_of, needs, raised_by, Shown, Request, attained_at, raised_need}
 use Rattle.tsd_model.specs.declared.requests.Level.TheVariants as level
-use Rattle.tsd_model.specs.declared.requests.Request.{Request}
 use Rattle.tsd_model.specs.declared.requests.Request.TheVariants as ask
-use Rattle.grant_table.specs.Granted.{attained_at}
-use Rattle.tsd_core.specs.Granted.{raised_need}
 
 -- the level attained from a primary block, in the list of them
 pub attained_at_origin : (w : World) (v : Sessions) (s b : ℕ) (shown : Shown) (o : ℕ) → o < w.geometry.primaries → attained_from w v s b shown o ≡ slice_index_or (attained_at w v s b shown) o level.Bare

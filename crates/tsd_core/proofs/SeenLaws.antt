@@ -1,19 +1,10 @@
 -- What is seen of a table, after a change.
 use Rattle.std.proofs.Common.{◌≡◌, ℕ, zero, suc, ◌-◌, ◌<◌, Bool, true, false, cond, not, ◌&&◌, ◌||◌, ◌==◌, List, [], ◌∷◌, length, refl, sym, ◌∙◌, ap, subst, arith, inl, inr, Option, Some, None}
-use Rattle.std.proofs.lemmas.Bool.{cases_eq, cases_lt, eq-eqb, ne_eqb}
-use Rattle.std.proofs.lemmas.List.{ext_get_or, get_or-set_same, get_or-set_other, get_or_past, get_or-map, length-set, length-map}
-use Rattle.std.proofs.lemmas.List.FromFn.{length-map-range_with_len, get_or-map-range_with_len}
-use Rattle.std.specs.Prelude.{map, replicate, slice_index_or, slice_set, option_map, is_some, IfSome}
-use Rattle.std.specs.List.{range_with_len}
-use Rattle.tsd_model.specs.World.{has_number}
-use Rattle.tsd_model.specs.Sessions.{Levels, Held, Sessions, held_by, with_held, is_open, raised_level, raised_held, raised_sessions, dropped_from, greater}
-use Rattle.tsd_model.specs.declared.requests.Level.{Level}
+use Rattle.tsd_core.proofs.Common.{cases_eq, cases_lt, eq-eqb, ne_eqb, ext_get_or, get_or-set_same, get_or-set_other, get_or_past, get_or-map, length-set, length-map, length-map-range_with_len, get_or-map-range_with_len, map, replicate, slice_index_or, slice_set, option_map, is_some, IfSome, range_with_len, has_number, Levels, Held, Sessions, held_by, with_held, is_open, raised_level, raised_held, raised_sessions, dropped_from, greater, Level, Table, IsTable, IsHeldAt, with_sessions, dropped_at, levels_seen, seen, dropped_each}
 use Rattle.tsd_model.specs.declared.requests.Level.TheVariants as level
 use Rattle.tsd_model.proofs.SessionLaws.{held-map}
-use Rattle.grant_table.specs.Table.{Table, IsTable, IsHeldAt, with_sessions, dropped_at}
 use Rattle.grant_table.proofs.HeldLaws.{length-raised_held, get-raised_held}
 use Rattle.grant_table.proofs.TableLaws.{table_set, held_raised, IfSome-map}
-use Rattle.tsd_core.specs.Seen.{levels_seen, seen, dropped_each}
 
 -- ---- at one block
 

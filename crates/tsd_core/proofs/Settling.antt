@@ -1,18 +1,6 @@
 -- What is left to be reclaimed, over calls that keep the world.
 use Rattle.std.proofs.Common.{◌≡◌, ◌⊎◌, ℕ, ◌+◌, ◌-◌, ◌≤◌, false, ◌∙◌, sym, ap, subst, arith, inl, inr}
-use Rattle.tsd_model.specs.Sessions.{fitted}
-use Rattle.tsd_model.specs.World.{World}
-use Rattle.image_device.specs.View.{View}
-use Rattle.image_device.proofs.Moments.{leaves_both, weakened, joined}
-use Rattle.image_layout.specs.Image.{Image}
-use Rattle.image_world.specs.Stands.{Stands, world_of}
-use Rattle.grant_table.specs.Table.{IsMadeFor, Table}
-use Rattle.volume_laws.specs.Volume.{IsVolumeAt, IsVolumeReady, Volume, world_on}
-use Rattle.image_world.specs.Debt.{debt, owed}
-use Rattle.volume_laws.specs.Moments.{LeavesWorld, LeavesOwed}
-use Rattle.volume_laws.specs.Writes.{Works}
-use Rattle.tsd_core.specs.Core.{Core, IsCoreReady, state_on, told_state, told_world}
-use Rattle.tsd_core.specs.Work.{LeavesNoDebt}
+use Rattle.tsd_core.proofs.Common.{fitted, World, View, leaves_both, weakened, joined, Image, Stands, world_of, IsMadeFor, Table, IsVolumeAt, IsVolumeReady, Volume, world_on, debt, owed, LeavesWorld, LeavesOwed, Works, Core, IsCoreReady, state_on, told_state, told_world, LeavesNoDebt}
 
 pub debt_at : (vol : Volume) (v : View) → IsVolumeAt vol v → debt v.reads ≡ owed vol.tables
 debt_at vol v at = ap owed at.tables

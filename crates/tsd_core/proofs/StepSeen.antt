@@ -1,36 +1,9 @@
 -- A granted request over a table that may still hold levels at free blocks: what is seen of the table is what the rules say.
 use Rattle.std.proofs.Common.{◌≡◌, ℕ, Bool, true, false, cond, not, ◌&&◌, ◌||◌, ◌==◌, nat_le, List, [], ◌∷◌, length, refl, sym, ◌∙◌, ap, subst, arith, Option, Some, None}
-use Rattle.std.proofs.lemmas.Bool.{and_parts, or_parts, eq-eqb, eqb-true}
-use Rattle.std.proofs.lemmas.List.{length-set}
-use Rattle.std.proofs.lemmas.List.FromFn.{length-map-range_with_len}
-use Rattle.std.specs.Prelude.{map, replicate, is_some, is_none, option_map}
-use Rattle.tsd_model.specs.Geometry.{block_len}
-use Rattle.tsd_model.specs.Pairs.{holds}
-use Rattle.tsd_model.specs.World.{World, contents, is_live, is_free, has_number}
-use Rattle.tsd_model.specs.Reach.{reach, restricted, swept}
-use Rattle.tsd_model.specs.Doomed.{doomed, settle}
-use Rattle.tsd_model.specs.Placing.{chosen, chosen_run}
-use Rattle.tsd_model.specs.Sessions.{Sessions, with_held, raised_sessions, levels_at_live, fitted, dropped_from}
-use Rattle.tsd_model.specs.Attained.{attained_from}
-use Rattle.tsd_model.specs.Needs.{session_of, needs}
-use Rattle.tsd_model.specs.Verdict.{verdict}
-use Rattle.tsd_model.specs.Step.{gives, change, fitted_outcome, judged, step, raised_at, raised_for, raised_by, filled, with_contents, with_pointer, without_pointer, with_new_blocks, zeros, run_at}
-use Rattle.tsd_model.specs.declared.needs.Need.{Need}
-use Rattle.tsd_model.specs.declared.replies.Rule.{Rule}
-use Rattle.tsd_model.specs.declared.requests.Level.{Level}
+use Rattle.tsd_core.proofs.Common.{and_parts, or_parts, eq-eqb, eqb-true, length-set, length-map-range_with_len, map, replicate, is_some, is_none, option_map, block_len, holds, World, contents, is_live, is_free, has_number, reach, restricted, swept, doomed, settle, chosen, chosen_run, Sessions, with_held, raised_sessions, levels_at_live, fitted, dropped_from, attained_from, session_of, needs, verdict, gives, change, fitted_outcome, judged, step, raised_at, raised_for, raised_by, filled, with_contents, with_pointer, without_pointer, with_new_blocks, zeros, run_at, Need, Rule, Level, PlaceKind, Request, AreLike, contents_like, attained_from_like, verdict_like, chosen_like, chosen_run_like, fitted_like, AllFree, contents-other, chosen_are_free, chosen_run_is_free, live_below, live-restricted, Passes, granted_passes, Table, IsTable, with_sessions, seen, IsOver, dropped_each, table_after, world_after, reply_to}
 use Rattle.tsd_model.specs.declared.requests.Level.TheVariants as level
-use Rattle.tsd_model.specs.declared.requests.PlaceKind.{PlaceKind}
-use Rattle.tsd_model.specs.declared.requests.Request.{Request}
 use Rattle.tsd_model.specs.declared.requests.Request.TheVariants as ask
-use Rattle.disk_laws.specs.Bytes.{AreLike}
-use Rattle.disk_laws.proofs.ByteLaws.{contents_like, attained_from_like, verdict_like, chosen_like, chosen_run_like}
-use Rattle.disk_laws.proofs.LikeLaws.{fitted_like}
-use Rattle.disk_laws.proofs.ChangeLaws.{AllFree, contents-other, chosen_are_free, chosen_run_is_free}
-use Rattle.disk_laws.proofs.DoomLaws.{live_below, live-restricted}
-use Rattle.disk_laws.proofs.RuleLaws.{Passes, granted_passes}
 use Rattle.disk_laws.proofs.ValidLaws.{named_is_live, one_is_live}
-use Rattle.grant_table.specs.Table.{Table, IsTable, with_sessions}
-use Rattle.tsd_core.specs.Seen.{seen, IsOver, dropped_each, table_after, world_after, reply_to}
 use Rattle.tsd_core.proofs.SeenLaws.{same_seen, seen_twice, seen_dropped_each, seen_dropped_from, map-with_held, raised_seen, table_raised}
 use Rattle.tsd_core.proofs.VerdictSeen.{ComesFrom, attained_from-fitted, verdict-fitted}
 

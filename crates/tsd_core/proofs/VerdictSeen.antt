@@ -1,20 +1,8 @@
 -- What isn't seen of a table changes no verdict and no attained level, since pairs come from live blocks.
 use Rattle.std.proofs.Common.{◌≡◌, ℕ, true, false, cond, not, ◌&&◌, ◌==◌, List, [], ◌∷◌, ◌++◌, refl, ◌∙◌, ap}
-use Rattle.std.proofs.lemmas.Bool.{and_from, eq-eqb, or_left, or_right}
-use Rattle.std.specs.Prelude.{map, filter, unwrap_or}
-use Rattle.std.specs.Option.{option_map_or}
-use Rattle.tsd_model.specs.Pairs.{is_pair, holds, sources_to}
-use Rattle.tsd_model.specs.World.{World, is_live, is_primary, primary_blocks}
-use Rattle.tsd_model.specs.Sessions.{Sessions, level_le, greatest, is_open, levels_from, level_from, levels_at_live, fitted}
-use Rattle.tsd_model.specs.Attained.{shown_level, led_level, attained_from, attained}
-use Rattle.tsd_model.specs.Needs.{session_of, needs}
-use Rattle.tsd_model.specs.Verdict.{check, first_rule, is_bad, has_bad_session, is_begin, block_rules, pair_rules, room_rules, verdict}
-use Rattle.tsd_model.specs.declared.caps.Shown.{Shown}
-use Rattle.tsd_model.specs.declared.needs.Need.{Need}
+use Rattle.tsd_core.proofs.Common.{and_from, eq-eqb, or_left, or_right, map, filter, unwrap_or, option_map_or, is_pair, holds, sources_to, World, is_live, is_primary, primary_blocks, Sessions, level_le, greatest, is_open, levels_from, level_from, levels_at_live, fitted, shown_level, led_level, attained_from, attained, session_of, needs, check, first_rule, is_bad, has_bad_session, is_begin, block_rules, pair_rules, room_rules, verdict, Shown, Need, Level, Request}
 use Rattle.tsd_model.specs.declared.replies.Rule.TheVariants as rule
-use Rattle.tsd_model.specs.declared.requests.Level.{Level}
 use Rattle.tsd_model.specs.declared.requests.Level.TheVariants as level
-use Rattle.tsd_model.specs.declared.requests.Request.{Request}
 use Rattle.disk_laws.proofs.HeldLaws.{level-fitted}
 use Rattle.tsd_core.proofs.SeenLaws.{open-map}
 

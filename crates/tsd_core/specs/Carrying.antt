@@ -79,3 +79,7 @@ pub record IsCarriedOut (told : Type 0) (kind : PlaceKind) (q : Request) (old ne
 abbrev pub replied : {T : Type 0} → Result T Failed → (T → Reply) → Result Reply Failed
 replied (Ok x) reply_of = Ok (reply_of x)
 replied (Err e) reply_of = Err e
+
+-- the outcome of a call that puts its reply into a room: the reply that stands there then, unless it failed
+abbrev pub left_in : {T : Type 0} → Result T Failed → Reply → Result Reply Failed
+left_in outcome into = replied outcome (λ x. into)

@@ -21,9 +21,10 @@ ghost use Rattle.image_world.specs.Behind.{behind};
 ghost use Rattle.image_world.specs.Debt.{owed};
 ghost use Rattle.tsd_core.specs.Work.{made_in, cost_in, write_limit, LeavesDebt, SameSize};
 ghost use Rattle.tsd_core.specs.Applying.{IsToldAnswer, told_verdict, asks_nothing, next_world, IsApplied};
+ghost use Rattle.tsd_core.specs.Carrying.{left_in};
 
 use crate::disk::Core;
-use crate::outcome::refused;
+use crate::outcome::{answered, refused};
 use crate::told::Told;
 use image_device::{Device, Failed};
 use place_policy::Placement;
@@ -33,6 +34,7 @@ impl Core {
     /// Applies a request: the step of the disk by its rules. A begin that no rule refuses may find no memory; no other
     /// request takes any. `Failed` comes only where the device's count of faults rose; the core is spent then, and
     /// nothing in it is used again.
+    #[inline(always)]
     pub fn apply<D: Device>(
         &mut self,
         dev: &mut D,
@@ -108,11 +110,12 @@ impl Core {
         ensures works { Works (D.view dev.old) (D.view dev.new) }
         ensures faults { CountsFault result (D.view dev.old).faults (D.view dev.new).faults }
     {
-        self.judge(dev, placement, request)
+        self.outcome_of(dev, placement, request)
     }
 
-    /// The verdict on a request, and the request where it is granted.
-    fn judge<D: Device>(
+    /// What `apply` answers. It is made where it is wanted, so that no room for it is cleared.
+    #[inline(always)]
+    fn outcome_of<D: Device>(
         &mut self,
         dev: &mut D,
         placement: &Placement,
@@ -125,12 +128,34 @@ impl Core {
         ensures asks_nothing { IfOk result (λ r. (is_refusal r || asks_nothing request.now) ≡ true
             → dev.new ≡ dev.old) }
     {
+        let mut reply = Reply::Done;
+        let outcome = self.judge(dev, placement, request, &mut reply);
+        answered(outcome, reply)
+    }
+
+    /// The verdict on a request, and the request where it is granted. Its reply is put where the caller has a room for
+    /// it, and all of that room is written.
+    #[inline(never)]
+    fn judge<D: Device>(
+        &mut self,
+        dev: &mut D,
+        placement: &Placement,
+        request: &Request,
+        into: &mut Reply,
+    ) -> Result<(), Failed>
+        requires ready { IsCoreReady self.old }
+        requires at { D.told → IsCoreAt self.old (D.view dev.old) }
+        ensures applied { IsApplied D.told placement.now.kind request.now self.old self.new (D.view dev.old)
+            (D.view dev.new) (left_in result into.new) }
+        ensures asks_nothing { IfOk (left_in result into.new)
+            (λ r. (is_refusal r || asks_nothing request.now) ≡ true → dev.new ≡ dev.old) }
+    {
         self.check();
         match self.grants.verdict(&Told::of(&self.volume), request) {
-            Err(rule) => refused(rule),
+            Err(rule) => refused(rule, into),
             Ok(granted) => {
                 self.raise(request, &granted);
-                self.carry_out(dev, placement, request)
+                self.carry_out(dev, placement, request, into)
             }
         }
     }

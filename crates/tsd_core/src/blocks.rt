@@ -1,4 +1,5 @@
-//! Reading and writing blocks, and their capabilities.
+//! Reading and writing blocks, and their capabilities. Each call but a read puts a reply into its room first, so that
+//! the room is written on each of its ways.
 
 ghost use Rattle.std.specs.Prelude.{◌≡◌, ℕ, ◌+◌, ◌<◌, ◌≤◌, true, false, length, Some, None, IfOk};
 ghost use Rattle.std.specs.Prelude.{IfSome, OnOk, slice_index_or, Ok};
@@ -9,28 +10,33 @@ ghost use Rattle.tsd_model.specs.declared.caps.Shown.{Shown as AnyShown};
 ghost use Rattle.tsd_model.specs.declared.requests.PlaceKind.{PlaceKind};
 ghost use Rattle.tsd_model.specs.declared.requests.Request.TheVariants as ask;
 ghost use Rattle.tsd_core.specs.Core.{IsCoreReady, IsCoreAt, told_world};
-ghost use Rattle.tsd_core.specs.Carrying.{IsKnown, IsCarriedOut};
+ghost use Rattle.tsd_core.specs.Carrying.{IsKnown, IsCarriedOut, left_in};
 
 use crate::disk::Core;
-use crate::outcome::{bytes, done};
+use crate::outcome::bytes;
 use image_device::{Device, Failed};
 use tsd_model::{CapPair, Data, Reply};
 
 impl Core {
     /// Reads a block.
     #[inline(never)]
-    pub(crate) fn read<D: Device>(&mut self, dev: &mut D, block: u32) -> Result<Reply, Failed>
+    pub(crate) fn read<D: Device>(
+        &mut self,
+        dev: &mut D,
+        block: u32,
+        into: &mut Reply,
+    ) -> Result<(), Failed>
         requires live { is_live (told_world self.old) block ≡ true }
         requires known { IsKnown self.old.volume }
         requires ready { IsCoreReady self.old }
         requires at { D.told → IsCoreAt self.old (D.view dev.old) }
         ensures { (kind : PlaceKind) (session : ℕ) (shown : AnyShown)
             → IsCarriedOut D.told kind (ask.Read session block shown) self.old self.new (D.view dev.old)
-            (D.view dev.new) result }
+            (D.view dev.new) (left_in result into.new) }
     {
-        let mut into = Data::new();
-        let outcome = self.volume.read_block(dev, block, &mut into);
-        bytes(outcome, into)
+        let mut data = Data::new();
+        let outcome = self.volume.read_block(dev, block, &mut data);
+        bytes(outcome, data, into)
     }
 
     /// Gives a block these bytes, and zeros behind them.
@@ -40,7 +46,8 @@ impl Core {
         dev: &mut D,
         block: u32,
         bytes: &Data,
-    ) -> Result<Reply, Failed>
+        into: &mut Reply,
+    ) -> Result<(), Failed>
         requires live { is_live (told_world self.old) block ≡ true }
         requires size { length bytes.now ≤ block_len (told_world self.old).geometry }
         requires known { IsKnown self.old.volume }
@@ -48,9 +55,10 @@ impl Core {
         requires at { D.told → IsCoreAt self.old (D.view dev.old) }
         ensures { (kind : PlaceKind) (session : ℕ) (shown : AnyShown)
             → IsCarriedOut D.told kind (ask.Write session block shown bytes.now) self.old self.new (D.view dev.old)
-            (D.view dev.new) result }
+            (D.view dev.new) (left_in result into.new) }
     {
-        done(self.volume.write_block(dev, block, bytes))
+        *into = Reply::Done;
+        self.volume.write_block(dev, block, bytes)
     }
 
     /// Gives a primary block these capabilities, and ends what was held from it.
@@ -60,16 +68,18 @@ impl Core {
         dev: &mut D,
         block: u32,
         caps: &CapPair,
-    ) -> Result<Reply, Failed>
+        into: &mut Reply,
+    ) -> Result<(), Failed>
         requires primary { block < (told_world self.old).geometry.primaries }
         requires known { IsKnown self.old.volume }
         requires ready { IsCoreReady self.old }
         requires at { D.told → IsCoreAt self.old (D.view dev.old) }
         ensures { (kind : PlaceKind) (session : ℕ) (shown : AnyShown)
             → IsCarriedOut D.told kind (ask.SetCap session block shown caps.now) self.old self.new (D.view dev.old)
-            (D.view dev.new) result }
+            (D.view dev.new) (left_in result into.new) }
     {
+        *into = Reply::Done;
         self.grants.drop_from(block);
-        done(self.volume.set_caps(dev, block, caps))
+        self.volume.set_caps(dev, block, caps)
     }
 }

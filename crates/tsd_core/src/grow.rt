@@ -1,4 +1,4 @@
-//! Allocation.
+//! Allocation. Each call puts a reply into its room first, so that the room is written on each of its ways.
 
 ghost use Rattle.std.specs.Prelude.{◌≡◌, ℕ, ◌+◌, ◌<◌, ◌≤◌, true, false, length, Some, None, IfOk};
 ghost use Rattle.std.specs.Prelude.{IfSome, OnOk, slice_index_or, Ok};
@@ -9,7 +9,7 @@ ghost use Rattle.tsd_model.specs.declared.caps.Shown.{Shown as AnyShown};
 ghost use Rattle.tsd_model.specs.declared.requests.PlaceKind.{PlaceKind};
 ghost use Rattle.tsd_model.specs.declared.requests.Request.TheVariants as ask;
 ghost use Rattle.tsd_core.specs.Core.{IsCoreReady, IsCoreAt, told_world};
-ghost use Rattle.tsd_core.specs.Carrying.{IsKnown, IsCarriedOut};
+ghost use Rattle.tsd_core.specs.Carrying.{IsKnown, IsCarriedOut, left_in};
 ghost use Rattle.tsd_model.specs.Placing.{chosen, chosen_run, hint_block, runs};
 ghost use Rattle.tsd_model.specs.Step.{run_at};
 ghost use Rattle.tsd_model.specs.Verdict.{is_empty};
@@ -22,7 +22,7 @@ ghost use Rattle.grant_table.specs.Table.{with_sessions};
 ghost use Rattle.tsd_core.specs.Growing.{AreToBeTaken};
 
 use crate::disk::Core;
-use crate::outcome::blocks;
+use crate::outcome::{blocks, refused};
 use block_alloc::RunRefusal;
 use grant_table::Grants;
 use image_device::{Device, Failed};
@@ -40,7 +40,8 @@ impl Core {
         source: u32,
         hint: &Hint,
         count: u32,
-    ) -> Result<Reply, Failed>
+        into: &mut Reply,
+    ) -> Result<(), Failed>
         requires source { is_live (told_world self.old) source ≡ true }
         requires count { (1 ≤ count) × (count ≤ 32) }
         requires enough { count ≤ free_count (told_world self.old) }
@@ -50,14 +51,18 @@ impl Core {
         requires at { D.told → IsCoreAt self.old (D.view dev.old) }
         ensures { (session : ℕ) (shown : AnyShown)
             → IsCarriedOut D.told placement.now.kind (ask.Alloc session source shown hint.now count) self.old self.new
-            (D.view dev.old) (D.view dev.new) result }
+            (D.view dev.old) (D.view dev.new) (left_in result into.new) }
     {
+        *into = Reply::Done;
         match self.volume.choose(placement, hint_block(hint), count) {
-            Ok(blocks) => self.grow(dev, source, blocks),
-            Err(short) => Ok(Reply::Refused(Rule::Full {
-                free: short.free,
-                wanted: short.wanted,
-            })),
+            Ok(blocks) => self.grow(dev, source, blocks, into),
+            Err(short) => {
+                let rule = Rule::Full {
+                    free: short.free,
+                    wanted: short.wanted,
+                };
+                refused(rule, into)
+            }
         }
     }
 
@@ -70,7 +75,8 @@ impl Core {
         source: u32,
         hint: &Hint,
         count: u32,
-    ) -> Result<Reply, Failed>
+        into: &mut Reply,
+    ) -> Result<(), Failed>
         requires source { is_live (told_world self.old) source ≡ true }
         requires count { (1 ≤ count) × (count ≤ 32) }
         requires enough { count ≤ free_count (told_world self.old) }
@@ -81,18 +87,17 @@ impl Core {
         requires at { D.told → IsCoreAt self.old (D.view dev.old) }
         ensures { (session : ℕ) (shown : AnyShown)
             → IsCarriedOut D.told placement.now.kind (ask.Contig session source shown hint.now count) self.old self.new
-            (D.view dev.old) (D.view dev.new) result }
+            (D.view dev.old) (D.view dev.new) (left_in result into.new) }
     {
+        *into = Reply::Done;
         match self.volume.choose_run(placement, hint_block(hint), count) {
-            Ok(first) => self.grow(dev, source, run_of(first, count)),
-            Err(RunRefusal::Short { free, wanted }) => Ok(Reply::Refused(Rule::Full {
-                free,
-                wanted,
-            })),
-            Err(RunRefusal::NoRun { free, wanted }) => Ok(Reply::Refused(Rule::NoRun {
-                free,
-                wanted,
-            })),
+            Ok(first) => self.grow(dev, source, run_of(first, count), into),
+            Err(RunRefusal::Short { free, wanted }) => {
+                refused(Rule::Full { free, wanted }, into)
+            }
+            Err(RunRefusal::NoRun { free, wanted }) => {
+                refused(Rule::NoRun { free, wanted }, into)
+            }
         }
     }
 
@@ -102,7 +107,8 @@ impl Core {
         dev: &mut D,
         source: u32,
         new_blocks: BlockList,
-    ) -> Result<Reply, Failed>
+        into: &mut Reply,
+    ) -> Result<(), Failed>
         requires source { is_live (told_world self.old) source ≡ true }
         requires new { AreToBeTaken (told_world self.old) new_blocks }
         requires room { length (told_world self.old).pairs + length new_blocks ≤ (told_world self.old).geometry.slots }
@@ -112,15 +118,15 @@ impl Core {
         ensures alloc { (kind : PlaceKind) (session : ℕ) (shown : AnyShown) (h : AnyHint) (count : ℕ)
             → new_blocks ≡ chosen kind (told_world self.old) h count
             → IsCarriedOut D.told kind (ask.Alloc session source shown h count) self.old self.new (D.view dev.old)
-            (D.view dev.new) result }
+            (D.view dev.new) (left_in result into.new) }
         ensures contig { (kind : PlaceKind) (session : ℕ) (shown : AnyShown) (h : AnyHint) (count : ℕ)
             → new_blocks ≡ run_at (chosen_run kind (told_world self.old) h count) count
             → IsCarriedOut D.told kind (ask.Contig session source shown h count) self.old self.new (D.view dev.old)
-            (D.view dev.new) result }
+            (D.view dev.new) (left_in result into.new) }
     {
         drop_at(&mut self.grants, new_blocks.as_slice());
         let outcome = self.volume.allocate(dev, source, &new_blocks);
-        blocks(outcome, new_blocks)
+        blocks(outcome, new_blocks, into)
     }
 }
 

@@ -1,6 +1,5 @@
 use Rattle.std.proofs.Common.{◌≡◌, drop}
-use Rattle.tsd_core.specs.Seen.{dropped_each}
-use Rattle.grant_table.specs.Table.{with_sessions}
+use Rattle.tsd_core.proofs.Common.{dropped_each, with_sessions}
 use Rattle.tsd_core.proofs.grow.drop_at.Given as goal
 
 abbrev pub invariant-loop-block : goal.invariant-loop-block

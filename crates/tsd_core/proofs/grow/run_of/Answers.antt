@@ -1,8 +1,7 @@
 use Rattle.std.proofs.Common.{◌≡◌, suc, ◌+◌, ◌-◌, ◌<◌, [], ◌∷◌, ◌++◌, length, sym, ◌∙◌, ap, arith}
-use Rattle.std.specs.Prelude.{Result, Ok, Err, IsOk, OnOk}
-use Rattle.std.specs.List.{range_with_len}
+use Rattle.tsd_core.proofs.Common.{Ok, Err, IsOk, OnOk, range_with_len, length-range}
+use Rattle.std.specs.Prelude.{Result}
 use Rattle.tsd_model.proofs.RangeLaws.{range_with_len-next}
-use Rattle.disk_laws.proofs.GraphLaws.{length-range}
 use Rattle.tsd_core.proofs.grow.run_of.Goals as goal
 
 where_ok : {T E P : Type 0} (r : Result T E) → IsOk r → OnOk r P → P

@@ -1,5 +1,5 @@
 use Rattle.std.proofs.Common.{◌≡◌, ◌-◌, ◌+◌, ◌≤◌}
-use Rattle.std.specs.List.{range_with_len}
+use Rattle.tsd_core.proofs.Common.{range_with_len}
 use Rattle.tsd_core.proofs.grow.run_of.Given as goal
 
 abbrev pub invariant-loop-block : goal.invariant-loop-block

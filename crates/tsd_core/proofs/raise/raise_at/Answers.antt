@@ -1,11 +1,6 @@
 use Rattle.std.proofs.Common.{◌≡◌, sym, ◌∙◌, ap, subst, arith, Option}
-use Rattle.std.specs.Prelude.{slice_index_or}
-use Rattle.tsd_model.specs.Attained.{attained_from}
-use Rattle.tsd_model.specs.declared.needs.Need.{Need}
+use Rattle.tsd_core.proofs.Common.{slice_index_or, attained_from, Need, attained_at, attained_for, with_sessions, raised_need}
 use Rattle.tsd_model.specs.declared.requests.Level.TheVariants as level
-use Rattle.grant_table.specs.Granted.{attained_at, attained_for}
-use Rattle.grant_table.specs.Table.{with_sessions}
-use Rattle.tsd_core.specs.Granted.{raised_need}
 use Rattle.tsd_core.proofs.Rising.{attained_at_origin}
 use Rattle.tsd_core.proofs.raise.raise_at.Goals as goal
 

@@ -1,9 +1,6 @@
 use Rattle.std.proofs.Common.{◌≡◌, length, sym, ◌∙◌, ap, subst}
-use Rattle.tsd_model.specs.Placing.{chosen}
+use Rattle.tsd_core.proofs.Common.{chosen, told_by, Core, told_world, AreToBeTaken}
 use Rattle.tsd_model.specs.declared.requests.Hint.TheVariants as hint
-use Rattle.volume_laws.specs.Volume.{told_by}
-use Rattle.tsd_core.specs.Core.{Core, told_world}
-use Rattle.tsd_core.specs.Growing.{AreToBeTaken}
 use Rattle.tsd_core.proofs.Choosing.{new_chosen}
 use Rattle.tsd_core.proofs.disk.Core.alloc.Goals as goal
 

@@ -1,23 +1,11 @@
 use Rattle.std.proofs.Common.{◌≡◌, [], sym, ◌∙◌, ap, subst, arith}
-use Rattle.std.specs.Prelude.{Result, Ok, Err, OnOk, IsErrAnd}
-use Rattle.image_device.proofs.Outcomes.{on_ok}
-use Rattle.volume_laws.specs.Volume.{IsVolumeAt, IsVolumeReady, Volume, told_by, world_on}
-use Rattle.image_world.specs.Debt.{owed}
-use Rattle.volume_laws.specs.Writes.{due, IsPaid}
+use Rattle.tsd_core.proofs.Common.{Ok, Err, OnOk, IsErrAnd, on_ok, IsVolumeAt, IsVolumeReady, Volume, told_by, world_on, owed, due, IsPaid, either_same, Core, IsCoreAt, told_world, HasSameData, KeepsData, data_then, LeavesOnly, LeavesPart, behind, Failed, View, Geometry}
+use Rattle.std.specs.Prelude.{Result}
 use Rattle.volume_laws.proofs.QuietLaws.{quiet_at}
-use Rattle.volume_laws.proofs.StepOps.{either_same}
-use Rattle.tsd_core.specs.Core.{Core, IsCoreAt, told_world}
 use Rattle.tsd_core.proofs.AtLaws.{at_volume}
 use Rattle.tsd_core.proofs.Operations.{then_ok}
 use Rattle.tsd_core.proofs.Settling.{owes_no_more, owing_joined, ready_still, state_still, told_still, worlds_joined}
-use Rattle.volume_laws.specs.Data.{HasSameData, KeepsData}
-use Rattle.volume_laws.proofs.DataLaws.{data_then}
-use Rattle.image_device.specs.Runs.{LeavesOnly, LeavesPart}
-use Rattle.image_world.specs.Behind.{behind}
 use Rattle.tsd_core.proofs.BehindLaws.{leaves_behind}
-use Rattle.image_device.specs.declared.device.Failed.{Failed}
-use Rattle.image_device.specs.View.{View}
-use Rattle.tsd_model.specs.declared.geometry.Geometry.{Geometry}
 use Rattle.tsd_core.proofs.disk.Core.close.Goals as goal
 
 all_ok : {T E A B C P : Type 0} (r : Result T E) → (A → B → C → P) → OnOk r A → OnOk r B → OnOk r C → OnOk r P

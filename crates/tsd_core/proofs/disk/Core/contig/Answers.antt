@@ -1,15 +1,6 @@
 use Rattle.std.proofs.Common.{◌≡◌, ℕ, Some, length, sym, ◌∙◌, ap, subst, arith}
-use Rattle.tsd_model.specs.Placing.{chosen_run, hint_block}
-use Rattle.tsd_model.specs.Step.{run_at}
-use Rattle.tsd_model.specs.World.{World}
-use Rattle.tsd_model.specs.declared.requests.Hint.{Hint}
-use Rattle.tsd_model.specs.declared.requests.PlaceKind.{PlaceKind}
+use Rattle.tsd_core.proofs.Common.{chosen_run, hint_block, run_at, World, Hint, PlaceKind, length-range, told_by, Core, told_world, AreToBeTaken, IsKnown}
 use Rattle.tsd_model.specs.declared.requests.Hint.TheVariants as hint
-use Rattle.disk_laws.proofs.GraphLaws.{length-range}
-use Rattle.volume_laws.specs.Volume.{told_by}
-use Rattle.tsd_core.specs.Core.{Core, told_world}
-use Rattle.tsd_core.specs.Growing.{AreToBeTaken}
-use Rattle.tsd_core.specs.Carrying.{IsKnown}
 use Rattle.tsd_core.proofs.Choosing.{new_run, run_inside}
 use Rattle.tsd_core.proofs.disk.Core.contig.Goals as goal
 

@@ -1,20 +1,11 @@
 use Rattle.std.proofs.Common.{ℕ, ◌+◌, ◌*◌, length, refl, sym, subst, arith}
 use Rattle.tsd_model.specs.declared.replies.Reply.TheVariants as reply
 use Rattle.tsd_model.specs.declared.requests.Request.TheVariants as ask
-use Rattle.disk_laws.specs.Bytes.{AreLike}
-use Rattle.volume_laws.specs.Volume.{told_by, world_on}
-use Rattle.image_world.specs.Debt.{owed}
-use Rattle.volume_laws.specs.Moments.{LeavesOwed}
-use Rattle.volume_laws.specs.Writes.{batch_cost, due}
-use Rattle.tsd_core.specs.Seen.{world_after}
-use Rattle.tsd_core.specs.Core.{Core, IsCoreAt}
-use Rattle.tsd_core.specs.Work.{cost_of}
-use Rattle.tsd_core.specs.Carrying.{DoesRequest, IsKnown, IsCarriedOut}
+use Rattle.tsd_core.proofs.Common.{AreLike, told_by, world_on, owed, LeavesOwed, batch_cost, due, world_after, Core, IsCoreAt, cost_of, DoesRequest, IsKnown, IsCarriedOut, left_in, pairs_of}
 use Rattle.tsd_core.proofs.AtLaws.{at_volume, like_at}
 use Rattle.tsd_core.proofs.Likes.{like_as}
 use Rattle.tsd_core.proofs.Operations.{then_ok, if_ok, at_most, most_due, paid_more, carried_out}
 use Rattle.tsd_core.proofs.Created.{some_slot, then_owed}
-use Rattle.image_world.specs.Tables.{pairs_of}
 use Rattle.tsd_core.proofs.disk.Core.create.Goals as goal
 
 pub returns : goal.returns
@@ -46,7 +37,6 @@ returns g c = λ kind session shown.
       sweep_paid = λ b. absurd (cc);
       swept = λ b. absurd (cc);
     } in
-    subst (λ (x : Core). IsCarriedOut g.D.Device.told kind q x new v w c.done.result) c.self.view_is
-    (subst (IsCarriedOut g.D.Device.told kind q old new v w) (sym c.done.ensures)
+    subst (λ (x : Core). IsCarriedOut g.D.Device.told kind q x new v w (left_in c.add_pointer.result reply.Done)) c.self.view_is
     (carried_out g.D.Device.told kind q old new v w c.add_pointer.result (λ x. reply.Done) does refl
-    (if_ok c.add_pointer.result (λ x e. refl)) (λ x e. absurd (cc)) (λ told. if_ok c.add_pointer.result (λ x e. absurd (cc))) (if_ok c.add_pointer.result (λ x. record { body = tt; numbers = tt }))))
+    (if_ok c.add_pointer.result (λ x e. refl)) (λ x e. absurd (cc)) (λ told. if_ok c.add_pointer.result (λ x e. absurd (cc))) (if_ok c.add_pointer.result (λ x. record { body = tt; numbers = tt })))

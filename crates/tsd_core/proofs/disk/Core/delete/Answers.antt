@@ -1,24 +1,12 @@
 use Rattle.std.proofs.Common.{not, ◌^◌, ◌≡◌, ℕ, ◌+◌, ◌-◌, ◌*◌, ◌<◌, refl, sym, ◌∙◌, ap, subst, arith}
-use Rattle.tsd_model.specs.World.{free_count, has_number}
-use Rattle.tsd_model.specs.Doomed.{doomed, settle}
-use Rattle.tsd_model.specs.Step.{without_pointer}
+use Rattle.tsd_core.proofs.Common.{free_count, has_number, doomed, settle, without_pointer, AreLike, checkpoint_writes, told_by, world_on, made, batch_cost, world_after, Core, IsCoreAt, cost_of, DoesRequest, IsKnown, IsCarriedOut, left_in, owed}
 use Rattle.tsd_model.specs.declared.replies.Reply.TheVariants as reply
 use Rattle.tsd_model.specs.declared.requests.Request.TheVariants as ask
-use Rattle.disk_laws.specs.Bytes.{AreLike}
-use Rattle.intent_journal.specs.Ring.{checkpoint_writes}
-use Rattle.volume_laws.specs.Volume.{told_by, world_on}
-use Rattle.volume_laws.specs.Moments.{made}
-use Rattle.volume_laws.specs.Writes.{batch_cost}
-use Rattle.tsd_core.specs.Seen.{world_after}
 use Rattle.tsd_core.proofs.StepSeen.{length-restricted}
 use Rattle.tsd_core.proofs.FormLaws.{gone_fits}
-use Rattle.tsd_core.specs.Core.{Core, IsCoreAt}
-use Rattle.tsd_core.specs.Work.{cost_of}
-use Rattle.tsd_core.specs.Carrying.{DoesRequest, IsKnown, IsCarriedOut}
 use Rattle.tsd_core.proofs.AtLaws.{at_volume, like_at}
 use Rattle.tsd_core.proofs.Likes.{like_as}
 use Rattle.tsd_core.proofs.Operations.{then_ok, if_ok, if_both, at_most, most_due, paid_more, carried_out}
-use Rattle.image_world.specs.Debt.{owed}
 use Rattle.tsd_core.proofs.disk.Core.delete.Goals as goal
 
 pub returns : goal.returns
@@ -52,7 +40,7 @@ returns g c = λ kind session shown.
       sweep_paid = λ b. absurd (cc);
       swept = λ b. absurd (cc);
     } in
-    subst (λ (x : Core). IsCarriedOut g.D.Device.told kind q x new v w c.gone.result) c.self.view_is
+    subst (λ (x : Core). IsCarriedOut g.D.Device.told kind q x new v w (left_in c.gone.result c.gone.new.into)) c.self.view_is
     (subst (IsCarriedOut g.D.Device.told kind q old new v w) (sym c.gone.ensures)
     (carried_out g.D.Device.told kind q old new v w c.drop_pointer.result (λ count. reply.Gone count) does refl
     (if_both c.drop_pointer.result (λ x (same : told_by new.volume ≡ settle cut) h e. ap reply.Gone (h ∙ ap (λ u. free_count u - free_count t) same)) e.told e.lost) (λ x e. absurd (cc)) (λ told. if_ok c.drop_pointer.result (λ x e. absurd (cc))) (if_both c.drop_pointer.result (λ x (same : told_by new.volume ≡ settle cut) (h : x ≡ free_count (told_by new.volume) - free_count t). record { body = tt; numbers = subst (λ n. n < 2 ^ 32) (sym (h ∙ ap (λ u. free_count u - free_count t) same)) (gone_fits t (settle cut) long known.sized) }) e.told e.lost)))

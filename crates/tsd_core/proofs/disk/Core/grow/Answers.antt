@@ -1,30 +1,13 @@
 use Rattle.std.proofs.Common.{◌≡◌, ℕ, List, ◌+◌, ◌*◌, ◌≤◌, sym, ◌∙◌, ap, subst, arith}
 use Rattle.std.specs.Prelude.{length}
-use Rattle.tsd_model.specs.Geometry.{IsLawful}
-use Rattle.tsd_model.specs.Placing.{chosen, chosen_run}
-use Rattle.tsd_model.specs.Step.{run_at, with_new_blocks}
+use Rattle.tsd_core.proofs.Common.{IsLawful, chosen, chosen_run, run_at, with_new_blocks, AreLike, with_sessions, told_by, world_on, owed, LeavesOwed, batch_cost, due, world_after, Core, IsCoreAt, cost_of, DoesRequest, IsKnown, IsCarriedOut, left_in, AreNumbers, chosen_like, chosen_run_like, chosen_are_free, chosen_run_is_free, dropped_each, HasBatches, HasNewBlocks}
 use Rattle.tsd_model.specs.declared.replies.Reply.TheVariants as reply
 use Rattle.tsd_model.specs.declared.requests.Request.TheVariants as ask
-use Rattle.disk_laws.specs.Bytes.{AreLike}
-use Rattle.grant_table.specs.Table.{with_sessions}
-use Rattle.volume_laws.specs.Volume.{told_by, world_on}
-use Rattle.image_world.specs.Debt.{owed}
-use Rattle.volume_laws.specs.Moments.{LeavesOwed}
-use Rattle.volume_laws.specs.Writes.{batch_cost, due}
-use Rattle.tsd_core.specs.Seen.{world_after}
 use Rattle.tsd_core.proofs.FormLaws.{free_numbers}
-use Rattle.tsd_core.specs.Core.{Core, IsCoreAt}
-use Rattle.tsd_core.specs.Work.{cost_of}
-use Rattle.tsd_core.specs.Carrying.{DoesRequest, IsKnown, IsCarriedOut}
 use Rattle.tsd_core.proofs.AtLaws.{at_volume, like_at}
 use Rattle.tsd_core.proofs.Likes.{like_as, sectors_of_blocks}
 use Rattle.tsd_core.proofs.Operations.{then_ok, if_ok, at_most, most_due, paid_more, carried_out, same_change, other_names}
-use Rattle.tsd_model.specs.ReplyForm.{AreNumbers}
-use Rattle.disk_laws.proofs.ByteLaws.{chosen_like, chosen_run_like}
-use Rattle.disk_laws.proofs.ChangeLaws.{chosen_are_free, chosen_run_is_free}
-use Rattle.tsd_core.specs.Seen.{dropped_each}
 use Rattle.intent_journal.specs.Records.{JournalRecord}
-use Rattle.volume_laws.specs.Rings.{HasBatches, HasNewBlocks}
 use Rattle.tsd_core.proofs.disk.Core.grow.Goals as goal
 
 pub returns-clause-alloc : goal.returns-clause-alloc
@@ -62,7 +45,7 @@ returns-clause-alloc g c = λ kind session shown h count picked.
       sweep_paid = λ b. absurd (cc);
       swept = λ b. absurd (cc);
     } in
-    subst (λ (x : Core). IsCarriedOut g.D.Device.told kind q x new v w c.blocks-2.result) c.self.view_is
+    subst (λ (x : Core). IsCarriedOut g.D.Device.told kind q x new v w (left_in c.blocks-2.result c.blocks-2.new.into)) c.self.view_is
     (subst (IsCarriedOut g.D.Device.told kind q old new v w) (sym c.blocks-2.ensures)
     (carried_out g.D.Device.told kind q old new v w c.allocate-outcome.result (λ x. reply.Blocks bs) does (c.drop_at.ensures ∙ ap (λ cs. with_sessions old.grants (dropped_each cs old.grants.sessions)) (c.as_slice.ensures.value ∙ pick))
     (if_ok c.allocate-outcome.result (λ x e. ap reply.Blocks pick)) (λ x e. absurd (cc)) (λ told. if_ok c.allocate-outcome.result (λ x e. absurd (cc))) (if_ok c.allocate-outcome.result (λ x. record { body = (c.requires.new.some, c.requires.new.few); numbers = subst AreNumbers (sym pick) (free_numbers t (chosen kind t h count) known.sized (chosen_are_free kind t h count)) }))))
@@ -102,7 +85,7 @@ returns-clause-contig g c = λ kind session shown h count picked.
       sweep_paid = λ b. absurd (cc);
       swept = λ b. absurd (cc);
     } in
-    subst (λ (x : Core). IsCarriedOut g.D.Device.told kind q x new v w c.blocks-2.result) c.self.view_is
+    subst (λ (x : Core). IsCarriedOut g.D.Device.told kind q x new v w (left_in c.blocks-2.result c.blocks-2.new.into)) c.self.view_is
     (subst (IsCarriedOut g.D.Device.told kind q old new v w) (sym c.blocks-2.ensures)
     (carried_out g.D.Device.told kind q old new v w c.allocate-outcome.result (λ x. reply.Blocks bs) does (c.drop_at.ensures ∙ ap (λ cs. with_sessions old.grants (dropped_each cs old.grants.sessions)) (c.as_slice.ensures.value ∙ pick))
     (if_ok c.allocate-outcome.result (λ x e. ap reply.Blocks pick)) (λ x e. absurd (cc)) (λ told. if_ok c.allocate-outcome.result (λ x e. absurd (cc))) (if_ok c.allocate-outcome.result (λ x. record { body = (c.requires.new.some, c.requires.new.few); numbers = subst AreNumbers (sym pick) (free_numbers t (run_at (chosen_run kind t h count) count) known.sized (chosen_run_is_free kind t h count)) }))))

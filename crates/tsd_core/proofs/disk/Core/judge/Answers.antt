@@ -1,12 +1,6 @@
 use Rattle.std.proofs.Common.{◌≡◌, Some, None, Option, subst, sym}
 use Rattle.std.specs.Prelude.{Result}
-use Rattle.tsd_model.specs.Verdict.{verdict}
-use Rattle.tsd_model.specs.declared.replies.Reply.{Reply}
-use Rattle.tsd_model.specs.declared.replies.Rule.{Rule}
-use Rattle.image_device.specs.declared.device.Failed.{Failed}
-use Rattle.volume_laws.specs.Volume.{Volume, told_by}
-use Rattle.tsd_core.specs.Applying.{IsApplied}
-use Rattle.tsd_core.specs.Core.{Core, told_world}
+use Rattle.tsd_core.proofs.Common.{verdict, Reply, Rule, Failed, Volume, told_by, IsApplied, left_in, Core, told_world}
 use Rattle.tsd_core.proofs.Applied.{refused_applied, granted_applied, refused_asks}
 use Rattle.tsd_core.proofs.Operations.{if_map}
 use Rattle.tsd_core.proofs.disk.Core.judge.Goals as goal
@@ -22,7 +16,7 @@ returns-in-Err-clause-applied g c =
 
 pub returns-in-Ok-clause-applied : goal.returns-in-Ok-clause-applied
 returns-in-Ok-clause-applied g c =
-    granted_applied g.D.Device.told c.args.placement.now.kind c.args.request.now c.args.self.now c.raise.new.self c.carry_out.new.self (g.D.Device.view c.args.dev.now) (g.D.Device.view c.carry_out.new.dev) c.carry_out.result
+    granted_applied g.D.Device.told c.args.placement.now.kind c.args.request.now c.args.self.now c.raise.new.self c.carry_out.new.self (g.D.Device.view c.args.dev.now) (g.D.Device.view c.carry_out.new.dev) (left_in c.carry_out.result c.carry_out.new.into)
     c.requires.ready c.check.ensures.volume c.check.ensures.table c.requires.at
     (subst (λ (x : Core). ◌≡◌ {A = Option Rule} (verdict (told_world x) x.grants.sessions c.args.request.now) None) c.self.view_is
     (subst (λ (x : Volume). ◌≡◌ {A = Option Rule} (verdict (told_by x) c.self.inside.grants.sessions c.args.request.now) None) c.of.ensures c.in-Ok.ensures.ok))
@@ -31,6 +25,6 @@ returns-in-Ok-clause-applied g c =
 pub returns-in-Ok-clause-asks_nothing : goal.returns-in-Ok-clause-asks_nothing
 returns-in-Ok-clause-asks_nothing g c =
     let was = c.raise.new.self in
-    if_map c.carry_out.result
+    if_map (left_in c.carry_out.result c.carry_out.new.into)
     (λ r kept e. c.carry_out.ensures.asks_nothing (refused_asks c.args.placement.now.kind (told_world was) was.grants c.carry_out.new.self.grants c.args.request.now r kept e))
     c.carry_out.ensures.carried_out.kept

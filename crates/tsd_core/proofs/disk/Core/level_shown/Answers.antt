@@ -1,7 +1,5 @@
 use Rattle.std.proofs.Common.{◌<◌, subst, sym}
-use Rattle.tsd_model.specs.declared.geometry.Geometry.{Geometry}
-use Rattle.volume_laws.proofs.QuestionLaws.{told_size}
-use Rattle.tsd_core.specs.Core.{Core, told_world}
+use Rattle.tsd_core.proofs.Common.{Geometry, told_size, Core, told_world}
 use Rattle.tsd_core.proofs.disk.Core.level_shown.Goals as goal
 
 pub level_shown-requires : goal.level_shown-requires

@@ -1,20 +1,11 @@
 use Rattle.std.proofs.Common.{[], ◌≡◌, ℕ, refl, sym, ap, subst, arith}
-use Rattle.std.specs.Prelude.{length, unwrap_or}
-use Rattle.tsd_model.specs.Geometry.{IsLawful}
+use Rattle.tsd_core.proofs.Common.{unwrap_or, IsLawful, AreLike, Volume, IsVolumeReady, told_by, world_on, LeavesOwed, IsPaid, Core, IsCoreAt, cost_of, DoesRequest, IsKnown, IsCarriedOut, left_in, commits_none, owed}
+use Rattle.std.specs.Prelude.{length}
 use Rattle.tsd_model.specs.declared.replies.Reply.TheVariants as reply
 use Rattle.tsd_model.specs.declared.requests.Request.TheVariants as ask
-use Rattle.disk_laws.specs.Bytes.{AreLike}
-use Rattle.volume_laws.specs.Volume.{Volume, IsVolumeReady, told_by, world_on}
-use Rattle.volume_laws.specs.Moments.{LeavesOwed}
-use Rattle.volume_laws.specs.Writes.{IsPaid}
-use Rattle.tsd_core.specs.Core.{Core, IsCoreAt}
-use Rattle.tsd_core.specs.Work.{cost_of}
-use Rattle.tsd_core.specs.Carrying.{DoesRequest, IsKnown, IsCarriedOut}
 use Rattle.tsd_core.proofs.AtLaws.{at_volume, like_at}
 use Rattle.tsd_core.proofs.Likes.{like_as, block_size_of}
 use Rattle.tsd_core.proofs.Operations.{then_ok, if_ok, ok_if, if_map, at_most, most_due, carried_out}
-use Rattle.volume_laws.proofs.RingLaws.{commits_none}
-use Rattle.image_world.specs.Debt.{owed}
 use Rattle.tsd_core.proofs.disk.Core.read.Goals as goal
 
 pub returns : goal.returns
@@ -46,7 +37,7 @@ returns g c = λ kind session shown.
       sweep_paid = λ b. absurd (cc);
       swept = λ b. absurd (cc);
     } in
-    subst (λ (x : Core). IsCarriedOut g.D.Device.told kind q x new v w c.bytes.result) c.self.view_is
+    subst (λ (x : Core). IsCarriedOut g.D.Device.told kind q x new v w (left_in c.bytes.result c.bytes.new.into)) c.self.view_is
     (subst (IsCarriedOut g.D.Device.told kind q old new v w) (sym c.bytes.ensures)
     (carried_out g.D.Device.told kind q old new v w c.read_block-outcome.result (λ x. reply.Bytes c.read_block-outcome.new.into) does refl
     (if_ok c.read_block-outcome.result (λ x e. absurd (cc))) (λ x e. (c.read_block-outcome.new.into, refl)) (λ told. if_map c.read_block-outcome.result (λ x h e. ap (λ o. reply.Bytes (unwrap_or o [])) (sym h)) (ok_if _ c.read_block-outcome.result (e.bytes told))) (ok_if _ c.read_block-outcome.result (then_ok c.read_block-outcome.result (λ h. record { body = block_size_of old.volume.tables.geometry (length c.read_block-outcome.new.into) (subst IsLawful known.geometry known.sized.lawful) h; numbers = tt }) e.full))))

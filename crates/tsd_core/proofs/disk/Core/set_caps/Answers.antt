@@ -1,22 +1,11 @@
 use Rattle.std.proofs.Common.{◌≡◌, ℕ, ◌+◌, refl, sym, ◌∙◌, ap, subst, arith}
 use Rattle.tsd_model.specs.Records.{kept}
-use Rattle.tsd_model.specs.Sessions.{dropped_from}
-use Rattle.tsd_model.specs.Step.{with_caps}
+use Rattle.tsd_core.proofs.Common.{dropped_from, with_caps, AreLike, checkpoint_writes, with_sessions, told_by, world_on, LeavesOwed, batch_cost, Core, IsCoreAt, cost_of, DoesRequest, IsKnown, IsCarriedOut, left_in, on_ok}
 use Rattle.tsd_model.specs.declared.replies.Reply.TheVariants as reply
 use Rattle.tsd_model.specs.declared.requests.Request.TheVariants as ask
-use Rattle.disk_laws.specs.Bytes.{AreLike}
-use Rattle.intent_journal.specs.Ring.{checkpoint_writes}
-use Rattle.grant_table.specs.Table.{with_sessions}
-use Rattle.volume_laws.specs.Volume.{told_by, world_on}
-use Rattle.volume_laws.specs.Moments.{LeavesOwed}
-use Rattle.volume_laws.specs.Writes.{batch_cost}
-use Rattle.tsd_core.specs.Core.{Core, IsCoreAt}
-use Rattle.tsd_core.specs.Work.{cost_of}
-use Rattle.tsd_core.specs.Carrying.{DoesRequest, IsKnown, IsCarriedOut}
 use Rattle.tsd_core.proofs.AtLaws.{at_volume, like_at}
 use Rattle.tsd_core.proofs.Likes.{like_as}
 use Rattle.tsd_core.proofs.Operations.{then_ok, if_ok, at_most, most_due, paid_more, carried_out, same_change}
-use Rattle.image_device.proofs.Outcomes.{on_ok}
 use Rattle.tsd_core.proofs.disk.Core.set_caps.Goals as goal
 
 pub returns : goal.returns
@@ -50,7 +39,6 @@ returns g c = λ kind session shown.
       sweep_paid = λ b. absurd (cc);
       swept = λ b. absurd (cc);
     } in
-    subst (λ (x : Core). IsCarriedOut g.D.Device.told kind q x new v w c.done.result) c.self.view_is
-    (subst (IsCarriedOut g.D.Device.told kind q old new v w) (sym c.done.ensures)
+    subst (λ (x : Core). IsCarriedOut g.D.Device.told kind q x new v w (left_in c.set_caps.result reply.Done)) c.self.view_is
     (carried_out g.D.Device.told kind q old new v w c.set_caps.result (λ x. reply.Done) does (c.drop_from.ensures ∙ (λ i. with_sessions old.grants (dropped_from (blocks i) c.args.block old.grants.sessions)))
-    (if_ok c.set_caps.result (λ x e. refl)) (λ x e. absurd (cc)) (λ told. if_ok c.set_caps.result (λ x e. absurd (cc))) (if_ok c.set_caps.result (λ x. record { body = tt; numbers = tt }))))
+    (if_ok c.set_caps.result (λ x e. refl)) (λ x e. absurd (cc)) (λ told. if_ok c.set_caps.result (λ x e. absurd (cc))) (if_ok c.set_caps.result (λ x. record { body = tt; numbers = tt })))

@@ -1,19 +1,10 @@
 use Rattle.std.proofs.Common.{◌≡◌, [], length, ◌+◌, ◌≤◌, ◌∙◌, sym, ap, subst, arith}
-use Rattle.std.specs.Prelude.{Result, Ok, Err, OnOk}
-use Rattle.volume_laws.specs.Writes.{due, IsPaid}
-use Rattle.volume_laws.proofs.StepOps.{either_same}
-use Rattle.volume_laws.specs.Volume.{told_by, world_on}
-use Rattle.tsd_core.specs.Core.{Core, IsCoreAt, told_world}
+use Rattle.tsd_core.proofs.Common.{Ok, Err, OnOk, due, IsPaid, either_same, told_by, world_on, Core, IsCoreAt, told_world, LeavesPart, behind, KeepsData, HasBatches, doomed, graph_in, owed}
+use Rattle.std.specs.Prelude.{Result}
 use Rattle.tsd_core.proofs.AtLaws.{at_volume}
 use Rattle.tsd_core.proofs.Operations.{then_ok}
 use Rattle.tsd_core.proofs.Settling.{owes_no_more, owes_less, ready_still, state_still, told_still}
-use Rattle.image_device.specs.Runs.{LeavesPart}
-use Rattle.image_world.specs.Behind.{behind}
 use Rattle.tsd_core.proofs.BehindLaws.{leaves_behind}
-use Rattle.volume_laws.specs.Data.{KeepsData}
-use Rattle.volume_laws.specs.Rings.{HasBatches}
-use Rattle.tsd_model.specs.Doomed.{doomed}
-use Rattle.image_world.specs.Debt.{graph_in, owed}
 use Rattle.tsd_core.proofs.disk.Core.settle_some.Goals as goal
 
 also_ok : {T E A B P : Type 0} (r : Result T E) → (A → B → P) → OnOk r A → OnOk r B → OnOk r P

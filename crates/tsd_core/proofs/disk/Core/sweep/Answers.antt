@@ -1,15 +1,9 @@
 use Rattle.std.proofs.Common.{◌^◌, ◌≡◌, ◌-◌, ◌<◌, refl, sym, ◌∙◌, ap, subst, arith}
-use Rattle.tsd_model.specs.World.{free_count, has_number}
-use Rattle.tsd_model.specs.Reach.{reach, swept}
+use Rattle.tsd_core.proofs.Common.{free_count, has_number, reach, swept, AreLike, told_by, world_on, world_after, Core, IsCoreAt, DoesRequest, IsKnown, IsCarriedOut, left_in}
 use Rattle.tsd_model.specs.declared.replies.Reply.TheVariants as reply
 use Rattle.tsd_model.specs.declared.requests.Request.TheVariants as ask
-use Rattle.disk_laws.specs.Bytes.{AreLike}
-use Rattle.volume_laws.specs.Volume.{told_by, world_on}
-use Rattle.tsd_core.specs.Seen.{world_after}
 use Rattle.tsd_core.proofs.StepSeen.{length-restricted}
 use Rattle.tsd_core.proofs.FormLaws.{gone_fits}
-use Rattle.tsd_core.specs.Core.{Core, IsCoreAt}
-use Rattle.tsd_core.specs.Carrying.{DoesRequest, IsKnown, IsCarriedOut}
 use Rattle.tsd_core.proofs.AtLaws.{at_volume, like_at}
 use Rattle.tsd_core.proofs.Likes.{like_as}
 use Rattle.tsd_core.proofs.Operations.{then_ok, if_ok, if_both, carried_out}
@@ -43,7 +37,7 @@ returns g c = λ kind session shown.
       sweep_paid = λ b. e.paid;
       swept = λ b. omega (arith, e.uses.most);
     } in
-    subst (λ (x : Core). IsCarriedOut g.D.Device.told kind q x new v w c.gone.result) c.self.view_is
+    subst (λ (x : Core). IsCarriedOut g.D.Device.told kind q x new v w (left_in c.gone.result c.gone.new.into)) c.self.view_is
     (subst (IsCarriedOut g.D.Device.told kind q old new v w) (sym c.gone.ensures)
     (carried_out g.D.Device.told kind q old new v w c.sweep.result (λ count. reply.Gone count) does refl
     (if_both c.sweep.result (λ x (same : told_by new.volume ≡ swept t) h e. ap reply.Gone (h ∙ ap (λ u. free_count u - free_count t) same)) e.told e.count) (λ x e. absurd (cc)) (λ told. if_ok c.sweep.result (λ x e. absurd (cc))) (if_both c.sweep.result (λ x (same : told_by new.volume ≡ swept t) (h : x ≡ free_count (told_by new.volume) - free_count t). record { body = tt; numbers = subst (λ n. n < 2 ^ 32) (sym (h ∙ ap (λ u. free_count u - free_count t) same)) (gone_fits t (swept t) long known.sized) }) e.told e.count)))

@@ -1,23 +1,11 @@
 use Rattle.std.proofs.Common.{◌≡◌, ℕ, ◌+◌, ◌≤◌, true, refl, sym, ap, subst, arith}
-use Rattle.tsd_model.specs.Geometry.{block_len, IsLawful}
-use Rattle.tsd_model.specs.World.{is_live}
-use Rattle.tsd_model.specs.Step.{filled, with_contents}
+use Rattle.tsd_core.proofs.Common.{block_len, IsLawful, is_live, filled, with_contents, AreLike, contents_like, checkpoint_writes, Volume, IsVolumeReady, told_by, world_on, LeavesOwed, batch_cost, Core, IsCoreAt, cost_of, DoesRequest, IsKnown, IsCarriedOut, left_in, owed}
 use Rattle.tsd_model.specs.declared.replies.Reply.TheVariants as reply
 use Rattle.tsd_model.specs.declared.requests.Request.TheVariants as ask
-use Rattle.disk_laws.specs.Bytes.{AreLike}
-use Rattle.disk_laws.proofs.ByteLaws.{contents_like}
-use Rattle.intent_journal.specs.Ring.{checkpoint_writes}
-use Rattle.volume_laws.specs.Volume.{Volume, IsVolumeReady, told_by, world_on}
-use Rattle.volume_laws.specs.Moments.{LeavesOwed}
-use Rattle.volume_laws.specs.Writes.{batch_cost}
-use Rattle.tsd_core.specs.Core.{Core, IsCoreAt}
-use Rattle.tsd_core.specs.Work.{cost_of}
-use Rattle.tsd_core.specs.Carrying.{DoesRequest, IsKnown, IsCarriedOut}
 use Rattle.tsd_core.proofs.AtLaws.{at_volume, like_at}
 use Rattle.volume_laws.proofs.BlockLaws.{sectors_most}
 use Rattle.tsd_core.proofs.Likes.{like_back}
 use Rattle.tsd_core.proofs.Operations.{then_ok, if_ok, at_most, most_due, paid_more, carried_out}
-use Rattle.image_world.specs.Debt.{owed}
 use Rattle.tsd_core.proofs.disk.Core.write.Goals as goal
 
 pub returns : goal.returns
@@ -51,7 +39,6 @@ returns g c = λ kind session shown.
       sweep_paid = λ b. absurd (cc);
       swept = λ b. absurd (cc);
     } in
-    subst (λ (x : Core). IsCarriedOut g.D.Device.told kind q x new v w c.done.result) c.self.view_is
-    (subst (IsCarriedOut g.D.Device.told kind q old new v w) (sym c.done.ensures)
+    subst (λ (x : Core). IsCarriedOut g.D.Device.told kind q x new v w (left_in c.write_block.result reply.Done)) c.self.view_is
     (carried_out g.D.Device.told kind q old new v w c.write_block.result (λ x. reply.Done) does refl
-    (if_ok c.write_block.result (λ x e. refl)) (λ x e. absurd (cc)) (λ told. if_ok c.write_block.result (λ x e. absurd (cc))) (if_ok c.write_block.result (λ x. record { body = tt; numbers = tt }))))
+    (if_ok c.write_block.result (λ x e. refl)) (λ x e. absurd (cc)) (λ told. if_ok c.write_block.result (λ x e. absurd (cc))) (if_ok c.write_block.result (λ x. record { body = tt; numbers = tt })))

@@ -1,6 +1,5 @@
 use Rattle.std.proofs.Common.{◌<◌, subst}
-use Rattle.tsd_model.specs.declared.geometry.Geometry.{Geometry}
-use Rattle.volume_laws.proofs.QuestionLaws.{told_size}
+use Rattle.tsd_core.proofs.Common.{Geometry, told_size}
 use Rattle.tsd_core.proofs.told.ToldDiskFacts.has.Goals as goal
 
 pub has-requires-clause-ends : goal.has-requires-clause-ends

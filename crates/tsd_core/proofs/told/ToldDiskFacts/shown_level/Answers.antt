@@ -1,6 +1,5 @@
 use Rattle.std.proofs.Common.{◌<◌, subst}
-use Rattle.tsd_model.specs.declared.geometry.Geometry.{Geometry}
-use Rattle.volume_laws.proofs.QuestionLaws.{told_size}
+use Rattle.tsd_core.proofs.Common.{Geometry, told_size}
 use Rattle.tsd_core.proofs.told.ToldDiskFacts.shown_level.Goals as goal
 
 pub level_shown-requires : goal.level_shown-requires
