@@ -1,18 +1,6 @@
 -- The bits of bytes as a list.
 use Rattle.std.proofs.Common.{inl, inr, w8, bit_and, bit_or, ◌≡◌, ◌≢◌, ℕ, ◌+◌, ◌-◌, ◌^◌, ◌*◌, ◌%◌, ◌<◌, ◌≤◌, Bool, true, false, not, cond, List, length, refl, sym, ◌∙◌, ap, subst, arith}
-use Rattle.std.specs.Prelude.{slice_index_or, slice_set}
-use Rattle.std.specs.Int.{bit_at, bit_not}
-use Rattle.std.proofs.lemmas.Bool.{cases_eq, cases_lt, false≢true}
-use Rattle.std.proofs.lemmas.List.{get_or_past, get_or-set_same, get_or-set_other, length-set}
-use Rattle.std.proofs.lemmas.List.FromFn.{length-map-range_with_len, get_or-map-range_with_len, fill_by_all, sum_by-map-range_with_len_more}
-use Rattle.std.proofs.lemmas.List.Sums.{sum_by-set, count_by-le-length}
-use Rattle.std.proofs.lemmas.Nat.Bits.{bit_at_and, bit_at_or, bit_at_not, bit_at-lt, bit_at-pow_same, bit_at-pow_other, bit_at_ones, bit_at_ones_above}
-use Rattle.std.proofs.lemmas.Grind.{one_shifted}
-use Rattle.tsd_model.specs.Geometry.{IsLawful}
-use Rattle.tsd_model.specs.declared.geometry.Geometry.{Geometry}
-use Rattle.block_alloc.specs.LiveMap.{is_live, free_count, IsTable}
-use Rattle.block_alloc.specs.Bytes.{bit_in, bits_of, AreBits, IsBitPut, IsMapKept}
-use Rattle.block_alloc.specs.Rows.{AreMost}
+use Rattle.block_alloc.proofs.Common.{slice_index_or, slice_set, bit_at, bit_not, cases_eq, cases_lt, false≢true, get_or_past, get_or-set_same, get_or-set_other, length-set, length-map-range_with_len, get_or-map-range_with_len, fill_by_all, sum_by-map-range_with_len_more, sum_by-set, count_by-le-length, bit_at_and, bit_at_or, bit_at_not, bit_at-lt, bit_at-pow_same, bit_at-pow_other, bit_at_ones, bit_at_ones_above, one_shifted, IsLawful, Geometry, is_live, free_count, IsTable, bit_in, bits_of, AreBits, IsBitPut, IsMapKept, AreMost}
 
 pub length-bits_of : (bytes : List ℕ) (len : ℕ) → length (bits_of bytes len) ≡ len
 length-bits_of bytes len = length-map-range_with_len (bit_in bytes) 0 len

@@ -1,14 +1,7 @@
 -- A byte is the number that its bits make.
 use Rattle.std.proofs.Common.{inl, inr, ◌≡◌, ℕ, zero, suc, ◌+◌, ◌-◌, ◌≤◌, ◌*◌, ◌/◌, ◌%◌, ◌^◌, ◌<◌, Bool, true, false, cond, ◌==◌, List, [], ◌∷◌, ◌++◌, length, take, drop, replicate, min, refl, sym, ◌∙◌, ap, arith}
-use Rattle.std.specs.Prelude.{slice_index, slice_index_or}
-use Rattle.std.specs.Int.{bit_at}
-use Rattle.std.proofs.lemmas.Bool.{cases_lt}
-use Rattle.std.proofs.lemmas.Bool.Decides.{nat_tests}
-use Rattle.std.proofs.lemmas.List.{get_or-take, get_or-drop, get_or_append_left, get_or-append_right, get_or-replicate, get_or_past, length-take, length-take-le, length-drop, ext_get_or}
-use Rattle.std.proofs.lemmas.List.FromFn.{length-map-range_with_len, get_or-map-range_with_len}
+use Rattle.block_alloc.proofs.Common.{slice_index, slice_index_or, bit_at, cases_lt, nat_tests, get_or-take, get_or-drop, get_or_append_left, get_or-append_right, get_or-replicate, get_or_past, length-take, length-take-le, length-drop, ext_get_or, length-map-range_with_len, get_or-map-range_with_len, bit_at_lowest, bit_at-suc, bit_at-zero, bit_at-lt, same_from_bits_below, bit_in, bits_of, number_of, bitmap_byte, bitmap_sector_bytes}
 use Rattle.std.proofs.lemmas.Nat.{pow_pos}
-use Rattle.std.proofs.lemmas.Nat.Bits.{bit_at_lowest, bit_at-suc, bit_at-zero, bit_at-lt, same_from_bits_below}
-use Rattle.block_alloc.specs.Bytes.{bit_in, bits_of, number_of, bitmap_byte, bitmap_sector_bytes}
 use Rattle.block_alloc.proofs.BitLaws.{each-bits_of}
 
 lowest : (bit : Bool) (n : ℕ) → ((cond bit 1 0 + 2 * n) % 2 == 1) ≡ bit

@@ -1,16 +1,9 @@
 -- What is chosen is free, and each block once.
 use Rattle.std.proofs.Common.{inl, inr, ◌≡◌, ℕ, zero, suc, ◌+◌, ◌<◌, ◌≤◌, Bool, true, false, not, cond, ◌==◌, nat_lt, List, [], ◌∷◌, length, take, refl, sym, ◌∙◌, ap, arith}
 use Rattle.std.proofs.Common.{Option, Some}
-use Rattle.std.specs.Prelude.{filter, slice_get}
+use Rattle.block_alloc.proofs.Common.{filter, slice_get, range_with_len, cases_eq, and_parts, eq-eqb, ne_eqb, ltb-true, rank_of, in_rank_order, sorted_by_rank, first_block, PlaceKind, is_live, is_free, free_blocks, all_blocks, chosen, is_free_run, runs, chosen_run}
 use Rattle.std.specs.Bool.{IsTrue}
-use Rattle.std.specs.List.{range_with_len}
-use Rattle.std.proofs.lemmas.Bool.{cases_eq, and_parts, eq-eqb, ne_eqb, ltb-true}
 use Rattle.std.proofs.lemmas.Option.{same_Some}
-use Rattle.tsd_model.specs.Rank.{rank_of}
-use Rattle.tsd_model.specs.Placing.{in_rank_order, sorted_by_rank, first_block}
-use Rattle.tsd_model.specs.declared.requests.PlaceKind.{PlaceKind}
-use Rattle.block_alloc.specs.LiveMap.{is_live, is_free}
-use Rattle.block_alloc.specs.Choosing.{free_blocks, all_blocks, chosen, is_free_run, runs, chosen_run}
 
 abbrev one_if : Bool → ℕ
 one_if t = cond t 1 0

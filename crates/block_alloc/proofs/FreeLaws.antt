@@ -1,12 +1,6 @@
 -- There are as many free blocks as the count says.
 use Rattle.std.proofs.Common.{◌≡◌, ℕ, zero, suc, ◌+◌, ◌<◌, Bool, false, not, cond, ◌&&◌, List, [], ◌∷◌, length, refl, sym, ◌∙◌, ap, arith}
-use Rattle.std.specs.Prelude.{filter, map, count_by}
-use Rattle.std.specs.List.{sum_by, range_with_len}
-use Rattle.std.proofs.lemmas.Bool.{lt-ltb}
-use Rattle.std.proofs.lemmas.List.FromFn.{fill_by_all}
-use Rattle.std.proofs.lemmas.List.Sums.{sum_by-cons, length-filter}
-use Rattle.block_alloc.specs.LiveMap.{is_live, is_free, free_count}
-use Rattle.block_alloc.specs.Choosing.{free_blocks}
+use Rattle.block_alloc.proofs.Common.{filter, map, count_by, sum_by, range_with_len, lt-ltb, fill_by_all, sum_by-cons, length-filter, is_live, is_free, free_count, free_blocks}
 
 sum_by-map : {X Y : Type 0} (g : Y → ℕ) (f : X → Y) (xs : List X) → sum_by g (map f xs) ≡ sum_by (λ x. g (f x)) xs
 sum_by-map g f [] = refl

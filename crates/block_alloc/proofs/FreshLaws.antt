@@ -1,21 +1,9 @@
 -- The bitmap of a fresh disk, and sectors that are written as those of a map.
 use Rattle.std.proofs.Common.{◌≡◌, ◌≢◌, ℕ, ◌+◌, ◌-◌, ◌*◌, ◌/◌, ◌%◌, ◌<◌, nat_lt, inl, inr, Bool, true, false, not, ◌==◌, List, length, length-append, replicate, sym, ◌∙◌, ap, arith}
-use Rattle.std.specs.Prelude.{cond, slice_index}
-use Rattle.std.specs.Int.{bit_at, div_ceil}
-use Rattle.std.proofs.lemmas.Bool.{cases_lt, cases_eq, eq-eqb, ne_eqb, lt-ltb, le-ltb}
-use Rattle.std.proofs.lemmas.Grind.{div_ceil_times}
-use Rattle.std.proofs.lemmas.List.{length-replicate, get_or_append_left, get_or-append_right, get_or-replicate, get_or_past}
+use Rattle.block_alloc.proofs.Common.{slice_index, bit_at, div_ceil, cases_lt, cases_eq, eq-eqb, ne_eqb, lt-ltb, le-ltb, div_ceil_times, length-replicate, get_or_append_left, get_or-append_right, get_or-replicate, get_or_past, sum_by-append, bit_at-zero, Image, bitmap_start, slots_start, IsLawful, Geometry, bit_in, bitmap_sector_bytes, IsTable, is_live, free_count, AreWritten, IsStored, sector_of}
+use Rattle.std.specs.Prelude.{cond}
 use Rattle.std.proofs.lemmas.List.Folds.{sum_by-replicate}
-use Rattle.std.proofs.lemmas.List.Sums.{sum_by-append}
-use Rattle.std.proofs.lemmas.Nat.Bits.{bit_at-zero}
-use Rattle.image_device.specs.Image.{Image}
-use Rattle.image_layout.specs.Areas.{bitmap_start, slots_start}
-use Rattle.tsd_model.specs.Geometry.{IsLawful}
-use Rattle.tsd_model.specs.declared.geometry.Geometry.{Geometry}
-use Rattle.block_alloc.specs.Bytes.{bit_in, bitmap_sector_bytes}
 use Rattle.block_alloc.specs.Fresh.{fresh_live}
-use Rattle.block_alloc.specs.LiveMap.{IsTable, is_live, free_count}
-use Rattle.block_alloc.specs.Stored.{AreWritten, IsStored, sector_of}
 use Rattle.block_alloc.proofs.ByteLaws.{sector_by_bits}
 use Rattle.block_alloc.proofs.StoredLaws.{marked_by, bit_here}
 

@@ -1,15 +1,7 @@
 -- The blocks of least rank, where those above a ceiling are passed by.
 use Rattle.std.proofs.Common.{◌≡◌, ℕ, zero, suc, ◌+◌, ◌-◌, ◌<◌, ◌≤◌, ◌&&◌, Bool, true, false, not, cond, nat_lt, nat_le, List, [], ◌∷◌, ◌++◌, length, take, inl, inr, refl, sym, ◌∙◌, ap, subst, arith}
 use Rattle.std.proofs.Common.{Option, Some, None}
-use Rattle.std.specs.Prelude.{filter, map}
-use Rattle.std.specs.List.{list_all, range_with_len}
-use Rattle.std.proofs.lemmas.Bool.{cases_lt, cases_Bool, lt-ltb, le-ltb, le-leb, lt-leb, both_ways}
-use Rattle.tsd_model.specs.Placing.{in_rank_order, sorted_by_rank}
-use Rattle.block_alloc.specs.Choosing.{is_free_run, all_blocks, runs}
-use Rattle.block_alloc.specs.LiveMap.{is_live, is_free}
-use Rattle.block_alloc.specs.Groups.{is_within, is_run_within, IsKeptFrom}
-use Rattle.block_alloc.specs.Least.{least_of, ranked}
-use Rattle.block_alloc.specs.declared.least.Ranked.{Ranked}
+use Rattle.block_alloc.proofs.Common.{filter, map, list_all, range_with_len, cases_lt, cases_Bool, lt-ltb, le-ltb, le-leb, lt-leb, both_ways, in_rank_order, sorted_by_rank, is_free_run, all_blocks, runs, is_live, is_free, is_within, is_run_within, IsKeptFrom, least_of, ranked, Ranked}
 use Rattle.block_alloc.proofs.OrderLaws.{range-from, least-from-no}
 
 -- ---- those up to a ceiling stand in front

@@ -1,3 +1,4 @@
+pub mod Common
 pub mod BitLaws
 pub mod ByteLaws
 pub mod StoredLaws

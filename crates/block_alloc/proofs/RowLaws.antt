@@ -1,10 +1,6 @@
 -- How many free blocks stand in a row at most.
 use Rattle.std.proofs.Common.{inl, inr, ◌≡◌, ◌≢◌, ℕ, zero, suc, ◌+◌, ◌<◌, ◌≤◌, Bool, true, false, not, ◌&&◌, nat_lt, List, length, refl, sym, ◌∙◌, ap, arith}
-use Rattle.std.proofs.lemmas.Bool.{cases_lt}
-use Rattle.block_alloc.specs.LiveMap.{is_live, is_free}
-use Rattle.block_alloc.specs.Choosing.{is_free_run}
-use Rattle.block_alloc.specs.Bytes.{bit_in, bits_of, IsBitPut}
-use Rattle.block_alloc.specs.Rows.{IsMostAt, IsMostIn, IsApart}
+use Rattle.block_alloc.proofs.Common.{cases_lt, is_live, is_free, is_free_run, bit_in, bits_of, IsBitPut, IsMostAt, IsMostIn, IsApart}
 use Rattle.block_alloc.proofs.BitLaws.{length-bits_of, get-bits_of, past-bits_of}
 use Rattle.block_alloc.proofs.GroupLaws.{broken_run, live_is_not_free, past_is_not_free}
 
@@ -56,3 +52,16 @@ pub most-apart : (old new : List ℕ) (len b group most : ℕ) (bit : Bool) → 
 most-apart old new len b group most bit put apart is = λ k low high count over few.
     run-same (bits_of old len) (bits_of new len) count k (λ j from to. free-same old new len b j bit put (λ e. absurd (let far = apart (omega arith) in omega arith)))
     ∙ is k low high count over few
+
+-- a block became live: what was said of a group is right still
+pub most-live : (old new : List ℕ) (len b group most : ℕ) → IsBitPut old new b true
+    → IsMostIn (bits_of old len) group most → IsMostIn (bits_of new len) group most
+most-live old new len b group most put is = λ k low high count over few. elim (cases_lt b k) [
+  | inl before ↦ run-same (bits_of old len) (bits_of new len) count k (λ j from to. free-same old new len b j true put (λ e. absurd (omega arith)))
+      ∙ is k low high count over few
+  | inr from ↦ elim (cases_lt b (k + count)) [
+    | inl inside ↦ broken_run (bits_of new len) k count b from inside (live-bit new len b put.same)
+    | inr behind ↦ run-same (bits_of old len) (bits_of new len) count k (λ j low_ to. free-same old new len b j true put (λ e. absurd (omega arith)))
+        ∙ is k low high count over few
+  ]
+]

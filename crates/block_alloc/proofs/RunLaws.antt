@@ -1,12 +1,7 @@
 -- Free blocks in a row, from the last block on.
 use Rattle.std.proofs.Common.{inl, inr, ◌≡◌, ℕ, zero, suc, ◌+◌, ◌<◌, ◌≤◌, Bool, true, false, not, cond, ◌&&◌, nat_le, List, ◌∷◌, length, refl, sym, ◌∙◌, ap, arith}
-use Rattle.std.specs.Prelude.{filter}
-use Rattle.std.specs.List.{list_all, range_with_len}
-use Rattle.std.proofs.lemmas.Bool.{cases_eq, le-leb, lt-leb, lt-ltb, le-ltb}
-use Rattle.std.proofs.lemmas.Bool.Decides.{nat_tests}
+use Rattle.block_alloc.proofs.Common.{filter, list_all, range_with_len, cases_eq, le-leb, lt-leb, lt-ltb, le-ltb, nat_tests, is_live, is_free, is_free_run, IsRow}
 use Rattle.tsd_model.specs.Verdict.{is_empty}
-use Rattle.block_alloc.specs.LiveMap.{is_live, is_free}
-use Rattle.block_alloc.specs.Choosing.{is_free_run, IsRow}
 
 -- no block stands past the last one
 pub row-end : (live : List Bool) (n : ℕ) → length live ≤ n → IsRow live n 0

@@ -1,18 +1,7 @@
 -- A patched image says what the map says.
 use Rattle.std.proofs.Common.{inl, inr, ◌⊎◌, ◌≡◌, ◌≢◌, ℕ, ◌+◌, ◌*◌, ◌/◌, ◌%◌, ◌<◌, ◌≤◌, Bool, false, cond, ◌==◌, List, length, sym, ◌∙◌, ap, arith}
-use Rattle.std.specs.Prelude.{map, slice_index, slice_index_or, slice_set}
-use Rattle.std.specs.List.{range_with_len}
-use Rattle.std.specs.Int.{bit_at, div_ceil}
-use Rattle.std.proofs.lemmas.Bool.{cases_eq, eq-eqb, ne_eqb}
-use Rattle.std.proofs.lemmas.List.{get_or-set_other}
-use Rattle.std.proofs.lemmas.List.FromFn.{get_or-map-range_with_len, fill_by_all}
-use Rattle.image_device.specs.Image.{Image, put_at}
-use Rattle.image_layout.specs.Areas.{bitmap_start, slots_start}
+use Rattle.block_alloc.proofs.Common.{map, slice_index, slice_index_or, slice_set, range_with_len, bit_at, div_ceil, cases_eq, eq-eqb, ne_eqb, get_or-set_other, get_or-map-range_with_len, fill_by_all, Image, put_at, bitmap_start, slots_start, Geometry, is_live, bit_in, bits_of, bitmap_byte, bitmap_sector_bytes, IsStoredAt, IsStored, sector_of}
 use Rattle.image_layout.specs.Image.{is_bit_set}
-use Rattle.tsd_model.specs.declared.geometry.Geometry.{Geometry}
-use Rattle.block_alloc.specs.LiveMap.{is_live}
-use Rattle.block_alloc.specs.Bytes.{bit_in, bits_of, bitmap_byte, bitmap_sector_bytes}
-use Rattle.block_alloc.specs.Stored.{IsStoredAt, IsStored, sector_of}
 use Rattle.block_alloc.proofs.BitLaws.{get-bits_of}
 use Rattle.block_alloc.proofs.ByteLaws.{bit-bitmap_byte}
 

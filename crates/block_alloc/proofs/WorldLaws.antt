@@ -1,20 +1,9 @@
 -- A map and a world that have the same live blocks choose alike.
 use Rattle.std.proofs.Common.{inl, inr, ◌≡◌, ℕ, ◌+◌, ◌≤◌, Bool, false, not, cond, ◌&&◌, nat_lt, List, [], ◌∷◌, length, refl, sym, ◌∙◌, ap, arith}
 use Rattle.std.proofs.Common.{Option, Some, None, is_some, is_none}
-use Rattle.std.specs.Prelude.{filter, map, take, count_by}
-use Rattle.std.specs.List.{list_all, range_with_len}
-use Rattle.std.proofs.lemmas.Bool.{cases_lt, le-ltb}
-use Rattle.std.proofs.lemmas.List.{length-map, get_or-map, ext_get_or}
-use Rattle.std.proofs.lemmas.List.Sums.{sum_by-cons}
-use Rattle.tsd_model.specs.Rank.{rank_of}
-use Rattle.tsd_model.specs.Placing.{hint_block, sorted_by_rank, first_block}
-use Rattle.tsd_model.specs.Placing.{free_blocks as free_blocks_of, chosen as chosen_of, is_free_run as is_free_run_of, runs as runs_of, chosen_run as chosen_run_of}
-use Rattle.tsd_model.specs.World.{World, contents}
-use Rattle.tsd_model.specs.World.{is_free as is_free_in, free_count as free_count_of}
+use Rattle.block_alloc.proofs.Common.{filter, map, count_by, list_all, range_with_len, cases_lt, le-ltb, length-map, get_or-map, ext_get_or, sum_by-cons, rank_of, hint_block, sorted_by_rank, first_block, free_blocks_of, chosen_of, is_free_run_of, runs_of, chosen_run_of, World, contents, is_free_in, free_count_of, PlaceKind, is_live, is_free, free_count, free_blocks, chosen, is_free_run, runs, chosen_run}
+use Rattle.std.specs.Prelude.{take}
 use Rattle.tsd_model.specs.declared.requests.Hint.{Hint}
-use Rattle.tsd_model.specs.declared.requests.PlaceKind.{PlaceKind}
-use Rattle.block_alloc.specs.LiveMap.{is_live, is_free, free_count}
-use Rattle.block_alloc.specs.Choosing.{free_blocks, chosen, is_free_run, runs, chosen_run}
 use Rattle.block_alloc.specs.Worlds.{IsMapOf}
 
 not-is_some : {X : Type 0} (o : Option X) → not (is_some o) ≡ is_none o

@@ -11,7 +11,8 @@ ghost use Rattle.block_alloc.specs.Choosing.{IsRow, IsShort, IsRunRefusal};
 ghost use Rattle.block_alloc.specs.Groups.{is_run_within, IsKeptFrom};
 
 use crate::groups::{
-    GROUP_BLOCKS, STRETCH_GROUPS, best_of, floor_of, group_at, is_within, start_of, turns,
+    GROUP_BLOCKS, REGION_BLOCKS, REGION_STRETCHES, STRETCH_BLOCKS, STRETCH_GROUPS, best_of,
+    floor_of, group_at, is_within, start_of, turns,
 };
 use crate::least::{Least, Ranked};
 use crate::map::LiveMap;
@@ -181,14 +182,45 @@ impl LiveMap {
         ensures kept { let rank = rank_of placement.now.kind hint in result.kept.items ≡ least_of rank wanted
             (filter (is_run_within rank self.now.unhidden run ceiling) (all_blocks self.now.unhidden)) }
     {
-        let stretches = self.groups().div_ceil(STRETCH_GROUPS);
+        let regions = self.stretches().div_ceil(REGION_STRETCHES);
         let mut least = Least::new(wanted as usize);
-        for stretch in (0..stretches).rev() {
-            if is_within(ceiling, floor_of(placement.kind(), hint, stretch)) {
-                self.offer_stretch(placement, hint, run, ceiling, stretch, &mut least);
+        for region in (0..regions).rev() {
+            let first = REGION_BLOCKS * region;
+            let last = first + (REGION_BLOCKS - 1);
+            if is_within(ceiling, floor_of(placement.kind(), hint, first, last)) {
+                self.offer_region(placement, hint, run, ceiling, region, &mut least);
             }
         }
         least
+    }
+
+    /// Offers the blocks of a region where a run of so many free ones begins, if their rank is at most a ceiling.
+    fn offer_region(
+        &self,
+        placement: &Placement,
+        hint: u32,
+        run: u32,
+        ceiling: Option<u64>,
+        region: u32,
+        least: &mut Least,
+    )
+        requires run { (1 ≤ run) × (run ≤ 32) }
+        requires region { 65536 * region < self.now.geometry.blocks }
+        requires few { region < 2 ^ 16 }
+        ensures wanted { least.new.wanted ≡ least.old.wanted }
+        ensures kept { let rank = rank_of placement.now.kind hint in
+            IsKeptFrom rank self.now.unhidden run ceiling least.old.wanted (65536 * (region + 1)) least.old.kept.items
+            → IsKeptFrom rank self.now.unhidden run ceiling least.old.wanted (65536 * region) least.new.kept.items }
+    {
+        let start = REGION_STRETCHES * region;
+        let end = self.stretches().min(start + REGION_STRETCHES);
+        for stretch in (start..end).rev() {
+            let first = STRETCH_BLOCKS * stretch;
+            let last = first + (STRETCH_BLOCKS - 1);
+            if is_within(ceiling, floor_of(placement.kind(), hint, first, last)) {
+                self.offer_stretch(placement, hint, run, ceiling, stretch, least);
+            }
+        }
     }
 
     /// Offers the blocks of a stretch where a run of so many free ones begins, if their rank is at most a ceiling.
@@ -295,6 +327,16 @@ impl LiveMap {
         ensures within { (g : ℕ) → g < result → 256 * g < self.now.geometry.blocks }
     {
         self.geometry().blocks.div_ceil(GROUP_BLOCKS)
+    }
+
+    /// How many stretches the disk has, the last of them perhaps with fewer groups.
+    fn stretches(&self) -> u32
+        ensures few { result ≤ 2 ^ 20 }
+        ensures table { IsTable self.now }
+        ensures last { self.now.geometry.blocks ≤ 4096 * result }
+        ensures within { (s : ℕ) → s < result → 4096 * s < self.now.geometry.blocks }
+    {
+        self.groups().div_ceil(STRETCH_GROUPS)
     }
 }
 

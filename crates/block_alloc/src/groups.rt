@@ -1,5 +1,5 @@
 //! Groups of 256 blocks in a row: which block of one has the least rank, and in which order they are gone through; and
-//! stretches of 16 groups.
+//! stretches of 16 groups, and regions of 16 stretches.
 
 ghost use Rattle.std.specs.Prelude.{◌≡◌, ℕ, ◌+◌, ◌*◌, ◌^◌, ◌<◌, ◌≤◌};
 ghost use Rattle.tsd_model.specs.Rank.{rank_of};
@@ -17,15 +17,19 @@ const _: () = prove!(GROUP_BLOCKS == ZONE_BLOCKS);
 pub(crate) const STRETCH_GROUPS: u32 = ZONES;
 
 /// How many blocks a stretch has.
-const STRETCH_BLOCKS: u32 = STRETCH_GROUPS * GROUP_BLOCKS;
+pub(crate) const STRETCH_BLOCKS: u32 = STRETCH_GROUPS * GROUP_BLOCKS;
 
-/// A rank that none of a stretch of 16 groups is below.
-pub(crate) fn floor_of(kind: PlaceKind, hint: u32, stretch: u32) -> u64
-    requires { stretch < 2 ^ 20 }
-    ensures { (b : ℕ) → 4096 * stretch ≤ b → b < 4096 * stretch + 4096 → result ≤ rank_of kind hint b }
+/// How many stretches a region has.
+pub(crate) const REGION_STRETCHES: u32 = 16;
+
+/// How many blocks a region has.
+pub(crate) const REGION_BLOCKS: u32 = REGION_STRETCHES * STRETCH_BLOCKS;
+
+/// A rank that none of some blocks in a row is below, from a first one to a last one.
+pub(crate) fn floor_of(kind: PlaceKind, hint: u32, first: u32, last: u32) -> u64
+    requires { first ≤ last }
+    ensures { (b : ℕ) → first ≤ b → b ≤ last → result ≤ rank_of kind hint b }
 {
-    let first = STRETCH_BLOCKS * stretch;
-    let last = first + (STRETCH_BLOCKS - 1);
     match kind {
         PlaceKind::Low | PlaceKind::Zone => u64::from(first),
         PlaceKind::Near => near_rank(hint, hint.max(first).min(last)),

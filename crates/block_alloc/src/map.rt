@@ -13,7 +13,7 @@ ghost use Rattle.block_alloc.specs.Stored.{IsStored, StoresSector, Completes, pe
 
 use crate::bits::{bit_in, copy_of, count_zeros, cut_to, put_bit, put_counted, sector_from};
 use crate::fault::LoadFault;
-use crate::rows::{most_at, most_of_groups, renew_round};
+use crate::rows::{most_at, most_of_groups, renew_round, renew_set};
 use crate::sectors::read_sectors;
 use image_device::Device;
 use image_layout::sectors::SECTOR_BYTES;
@@ -177,7 +177,7 @@ impl LiveMap {
         let blocks = self.geometry.blocks;
         put_bit(&mut self.bytes, block, bit);
         self.free = put_counted(&mut self.unhidden, blocks, block, unhidden, self.free);
-        renew_round(&mut self.most, &self.unhidden, blocks, block);
+        renew_set(&mut self.most, &self.unhidden, blocks, block, unhidden);
     }
 
     /// The sector of the bitmap that has a block's bit, as it now must read.

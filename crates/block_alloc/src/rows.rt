@@ -1,6 +1,6 @@
 //! How many free blocks stand in a row at most, from a block of each group of 256 on.
 
-ghost use Rattle.std.specs.Prelude.{◌≡◌, ◌≢◌, ℕ, ◌+◌, ◌*◌, ◌/◌, ◌^◌, ◌<◌, ◌≤◌, length, slice_index_or, IfOk};
+ghost use Rattle.std.specs.Prelude.{◌≡◌, ◌≢◌, ℕ, ◌+◌, ◌*◌, ◌/◌, ◌^◌, ◌<◌, ◌≤◌, true, length, slice_index_or, IfOk};
 ghost use Rattle.block_alloc.specs.Bytes.{bits_of};
 ghost use Rattle.block_alloc.specs.Rows.{IsMostAt, IsMostIn, AreMost, IsApart};
 
@@ -105,6 +105,36 @@ fn renew(most: &mut Vec<u8>, unhidden: &[u8], blocks: u32, group: u32)
     }
 }
 
+/// How many blocks before one are free in a row, up to 31.
+fn free_before(unhidden: &[u8], block: u32) -> u32
+    requires bits { block / 8 < length unhidden.now }
+    ensures few { result ≤ 31 }
+{
+    let first = block.saturating_sub(BEHIND);
+    for other in (first..block).rev() {
+        if bit_in(unhidden, other) {
+            return block - other - 1;
+        }
+    }
+    block - first
+}
+
+/// How many blocks behind one are free in a row, up to 31.
+fn free_behind(unhidden: &[u8], blocks: u32, block: u32) -> u32
+    requires bits { blocks ≤ 8 * length unhidden.now }
+    requires few { blocks < 2 ^ 31 }
+    requires block { block < blocks }
+    ensures few { result ≤ 31 }
+{
+    let end = blocks.min(block + BEHIND + 1);
+    for other in block + 1..end {
+        if bit_in(unhidden, other) {
+            return other - block - 1;
+        }
+    }
+    end - block - 1
+}
+
 /// Looks again at each group in which a row can begin that has a block, after the block's bit was changed.
 pub(crate) fn renew_round(most: &mut Vec<u8>, unhidden: &[u8], blocks: u32, block: u32)
     requires bits { blocks ≤ 8 * length unhidden.now }
@@ -120,4 +150,34 @@ pub(crate) fn renew_round(most: &mut Vec<u8>, unhidden: &[u8], blocks: u32, bloc
     if before != group {
         renew(most, unhidden, blocks, before);
     }
+}
+
+/// Whether a block stands in a row, its own bit left out, that is shorter than the longest one that is kept of each
+/// group in which it can begin.
+fn is_short(most: &[u8], unhidden: &[u8], blocks: u32, block: u32) -> bool
+    requires bits { blocks ≤ 8 * length unhidden.now }
+    requires few { blocks < 2 ^ 31 }
+    requires block { block < blocks }
+{
+    let row = free_before(unhidden, block) + 1 + free_behind(unhidden, blocks, block);
+    let group = block / GROUP_BLOCKS;
+    let before = block.saturating_sub(BEHIND) / GROUP_BLOCKS;
+    row < most_at(most, group) && row < most_at(most, before)
+}
+
+/// The same after the block became live or free. Where it became live, what is kept may say too much, and is right
+/// still; so no group is looked at where the block's row wasn't the longest one.
+pub(crate) fn renew_set(most: &mut Vec<u8>, unhidden: &[u8], blocks: u32, block: u32, live: bool)
+    requires bits { blocks ≤ 8 * length unhidden.now }
+    requires few { blocks < 2 ^ 31 }
+    requires block { block < blocks }
+    requires others { (group : ℕ) → IsApart group block
+        → IsMostIn (bits_of unhidden.now blocks) group (slice_index_or most.old.items group 32) }
+    requires live { live ≡ true → AreMost (bits_of unhidden.now blocks) most.old.items }
+    ensures { AreMost (bits_of unhidden.now blocks) most.new.items }
+{
+    if live && is_short(most, unhidden, blocks, block) {
+        return;
+    }
+    renew_round(most, unhidden, blocks, block);
 }

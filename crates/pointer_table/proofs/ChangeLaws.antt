@@ -1,24 +1,9 @@
 -- A slot that is filled or emptied: what is still known of the slots, the list of empty ones and the index.
 use Rattle.std.proofs.Common.{◌≡◌, ℕ, ◌+◌, ◌/◌, ◌<◌, ◌≤◌, false, List, length, get_or, set, sym, ◌∙◌, ap, subst, arith}
 use Rattle.std.proofs.Common.{Option, Some, None}
-use Rattle.std.specs.Prelude.{is_some}
-use Rattle.std.proofs.lemmas.Bool.{both_ways}
-use Rattle.tsd_model.specs.declared.geometry.Geometry.{Geometry}
-use Rattle.image_device.specs.Image.{Image, put_at}
-use Rattle.image_layout.specs.declared.offset.Patch.{Patch}
-use Rattle.pointer_table.specs.Changes.{IsChange}
-use Rattle.pointer_table.specs.Sectors.{sector_of, slot_sector_bytes, IsStored}
+use Rattle.pointer_table.proofs.Common.{is_some, both_ways, Geometry, put_at, Patch, IsChange, sector_of, slot_sector_bytes, IsStored, IsLawful, holds, IsIndex, HasLinksAndHeads, IsPlaceOf, AreEmpties, AreSmall, ArePackable, AreWithinTo, slot_at, pairs_in, Table, pairs, MayBeHeld, IsTable, IsWith, Index}
+use Rattle.image_device.specs.Image.{Image}
 use Rattle.pointer_table.proofs.SectorLaws.{stored_kept}
-use Rattle.tsd_model.specs.Geometry.{IsLawful}
-use Rattle.tsd_model.specs.Pairs.{holds}
-use Rattle.pointer_table.specs.Indexed.{IsIndex, HasLinksAndHeads, IsPlaceOf}
-use Rattle.pointer_table.specs.Empties.{AreEmpties}
-use Rattle.pointer_table.specs.Order.{AreSmall, ArePackable}
-use Rattle.pointer_table.specs.Reading.{AreWithinTo}
-use Rattle.pointer_table.specs.Slots.{slot_at, pairs_in}
-use Rattle.pointer_table.specs.Table.{Table, pairs, MayBeHeld, IsTable}
-use Rattle.pointer_table.specs.Threads.{IsWith}
-use Rattle.pointer_table.specs.declared.index.Index.{Index}
 use Rattle.pointer_table.proofs.EmptyLaws.{first_empty, empties_taken, empties_given}
 use Rattle.pointer_table.proofs.SlotLaws.{some_inside, holds_from_slot, set_same, set_other}
 use Rattle.pointer_table.proofs.TableLaws.{with_slot, fits, added, removed, held_added, held_removed}

@@ -1,17 +1,8 @@
 -- The list of the empty slots: made, and with a slot taken off or put in front.
 use Rattle.std.proofs.Common.{◌≡◌, ℕ, zero, suc, ◌+◌, ◌-◌, ◌<◌, ◌≤◌, ◌==◌, nat_lt, true, cond, List, [], ◌∷◌, length, get_or, set, drop, refl, sym, ◌∙◌, ap, subst, arith, inl, inr, drop-cons}
 use Rattle.std.proofs.Common.{Option, Some, None}
-use Rattle.std.specs.Prelude.{count_by, is_some}
-use Rattle.std.proofs.lemmas.Bool.{cases_lt, lt-ltb, le-ltb, or_cases, or_left, or_right, eqb-true, eq-eqb, both_ways, false_from_ne_true}
-use Rattle.std.proofs.lemmas.List.{length-set, get_or-set_same, get_or-set_other, drop_all}
-use Rattle.std.proofs.lemmas.List.FromFn.{length-range_with_len}
-use Rattle.std.proofs.lemmas.List.Sums.{sum_by-cons}
-use Rattle.std.specs.List.{range_with_len}
+use Rattle.pointer_table.proofs.Common.{count_by, is_some, cases_lt, lt-ltb, le-ltb, or_cases, or_left, or_right, eqb-true, eq-eqb, both_ways, false_from_ne_true, length-set, get_or-set_same, get_or-set_other, drop_all, length-range_with_len, sum_by-cons, range_with_len, AreEmptyOnce, AreLinked, AreEmpties, AreInRow, unset_link, slot_at, no_link}
 use Rattle.tsd_model.specs.World.{has_number}
-use Rattle.pointer_table.specs.Empties.{AreEmptyOnce, AreLinked, AreEmpties, AreInRow}
-use Rattle.pointer_table.specs.Links.{unset_link}
-use Rattle.pointer_table.specs.Slots.{slot_at}
-use Rattle.pointer_table.specs.Threads.{no_link}
 use Rattle.pointer_table.proofs.SlotLaws.{some_inside, set_same, set_other}
 
 -- ---- what stays

@@ -1,18 +1,9 @@
 -- The slots of a fresh disk, and sectors that are written as those of a table.
 use Rattle.std.proofs.Common.{◌≡◌, ℕ, zero, suc, ◌+◌, ◌*◌, ◌/◌, ◌%◌, inl, inr, [], ◌++◌, replicate, refl, ◌∙◌, ap, arith}
 use Rattle.std.proofs.Common.{Option, None}
-use Rattle.std.specs.Int.{div_ceil}
-use Rattle.std.proofs.lemmas.Bool.{cases_lt}
-use Rattle.std.proofs.lemmas.Grind.{div_ceil_times}
-use Rattle.std.proofs.lemmas.List.{length-replicate, get_or-replicate, get_or_past, replicate-append-replicate}
-use Rattle.image_device.specs.Image.{Image, zeros}
-use Rattle.image_layout.specs.Areas.{slots_start, data_start}
-use Rattle.tsd_model.specs.Geometry.{IsLawful}
-use Rattle.tsd_model.specs.declared.geometry.Geometry.{Geometry}
+use Rattle.pointer_table.proofs.Common.{div_ceil, cases_lt, div_ceil_times, length-replicate, get_or-replicate, get_or_past, replicate-append-replicate, zeros, slots_start, data_start, IsLawful, Geometry, row_bytes, slot_bytes, slot_sector_bytes, AreWritten, IsStored, slot_at, pairs_in, Table, pairs, IsTable}
+use Rattle.image_device.specs.Image.{Image}
 use Rattle.pointer_table.specs.Fresh.{fresh_slots}
-use Rattle.pointer_table.specs.Sectors.{row_bytes, slot_bytes, slot_sector_bytes, AreWritten, IsStored}
-use Rattle.pointer_table.specs.Slots.{slot_at, pairs_in}
-use Rattle.pointer_table.specs.Table.{Table, pairs, IsTable}
 use Rattle.pointer_table.proofs.SectorLaws.{read_at, sector_read, stored_at}
 use Rattle.pointer_table.proofs.TableLaws.{fits}
 

@@ -1,17 +1,8 @@
 -- What a look-up by the index answers.
 use Rattle.std.proofs.Common.{◌≡◌, ℕ, ◌<◌, ◌≤◌, ◌%◌, true, false, List, length, get_or, set, replicate, refl, sym, ◌∙◌, ap, subst, arith}
 use Rattle.std.proofs.Common.{Option, Some, None}
-use Rattle.std.proofs.lemmas.Bool.{false_from_ne_true, both_ways}
-use Rattle.std.proofs.lemmas.List.{get_or-replicate, length-replicate}
-use Rattle.tsd_model.specs.Pairs.{holds}
-use Rattle.tsd_model.specs.Next.{IsNextSource, IsNextTarget}
-use Rattle.pointer_table.specs.Indexed.{IsThreadedBy, IsIndex, HasLinksAndHeads, source_of, target_of}
-use Rattle.pointer_table.specs.Scanning.{is_at}
-use Rattle.pointer_table.specs.Slots.{slot_at, pairs_in}
-use Rattle.pointer_table.specs.Threads.{rank, mixed, group, linked, no_link, IsFirstFrom, IsFirstThatFar, AreThreads}
-use Rattle.pointer_table.specs.declared.index.Index.{Index}
+use Rattle.pointer_table.proofs.Common.{false_from_ne_true, both_ways, get_or-replicate, length-replicate, holds, IsNextSource, IsNextTarget, IsThreadedBy, IsIndex, HasLinksAndHeads, source_of, target_of, is_at, slot_at, pairs_in, rank, mixed, group, linked, no_link, IsFirstFrom, IsFirstThatFar, AreThreads, Index, Way}
 use Rattle.pointer_table.specs.declared.threads.Threads.{Threads}
-use Rattle.pointer_table.specs.declared.way.Way.{Way}
 use Rattle.pointer_table.specs.declared.way.Way.TheVariants as way
 use Rattle.pointer_table.proofs.SlotLaws.{holds_from_slot, slot_from_holds, is_at_same, is_at_some}
 use Rattle.pointer_table.proofs.ThreadLaws.{same_rank, link_aside}

@@ -1,3 +1,4 @@
+pub mod Common
 pub mod SlotLaws
 pub mod RawLaws
 pub mod NextLaws

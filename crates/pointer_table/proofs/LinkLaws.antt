@@ -1,10 +1,6 @@
 -- Links in memory, and behind them those that were never set.
 use Rattle.std.proofs.Common.{◌≡◌, ℕ, zero, suc, ◌+◌, ◌-◌, ◌<◌, ◌≤◌, ◌++◌, Bool, false, List, [], ◌∷◌, length, map, get_or, set, replicate, refl, sym, ◌∙◌, ap, arith}
-use Rattle.std.specs.List.{range_with_len}
-use Rattle.std.proofs.lemmas.List.{length-append, length-set, get_or_append_left, get_or-append-add, set-append_left, set-get_or, append_assoc}
-use Rattle.std.proofs.lemmas.List.FromFn.{length-map-range_with_len, get_or-map-range_with_len}
-use Rattle.pointer_table.specs.Links.{unset_link, links_of}
-use Rattle.pointer_table.specs.Threads.{no_link}
+use Rattle.pointer_table.proofs.Common.{range_with_len, length-append, length-set, get_or_append_left, get_or-append-add, set-append_left, set-get_or, append_assoc, length-map-range_with_len, get_or-map-range_with_len, unset_link, links_of, no_link}
 
 -- those that were never set
 abbrev pub rest_of : Bool → ℕ → ℕ → List ℕ

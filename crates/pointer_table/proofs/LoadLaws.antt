@@ -2,20 +2,7 @@
 use Rattle.std.proofs.Common.{◌≡◌, ℕ, ◌+◌, ◌-◌, ◌*◌, ◌/◌, ◌%◌, ◌<◌, ◌≤◌, min, true, false, not, cond, ◌&&◌, ◌||◌, ◌==◌, nat_lt, nat_le, inl, inr, List, length, set, refl, sym, ◌∙◌, ap, subst, arith}
 use Rattle.std.proofs.Common.{Option}
 use Rattle.std.proofs.Common.{Some, None}
-use Rattle.std.specs.Int.{div_ceil}
-use Rattle.std.proofs.lemmas.Bool.{cases_eq, eqb-false, ltb-false, leb-false, or_parts}
-use Rattle.std.proofs.lemmas.Grind.{div_ceil_times}
-use Rattle.byteorder.specs.Endian.{little_from}
-use Rattle.tsd_model.specs.declared.geometry.Geometry.{Geometry}
-use Rattle.image_layout.specs.Areas.{slots_start}
-use Rattle.image_layout.specs.Image.{Image, source_field, target_field}
-use Rattle.pointer_table.specs.declared.raw.RawSlot.{RawSlot}
-use Rattle.pointer_table.specs.Loading.{is_bad_slot, is_bad_at, IsLeastBadSlot}
-use Rattle.pointer_table.specs.Raw.{slot_in}
-use Rattle.pointer_table.specs.Reading.{AreReadTo, AreWithinTo}
-use Rattle.pointer_table.specs.Sectors.{slot_of, stored_slot}
-use Rattle.pointer_table.specs.Slots.{slot_at}
-use Rattle.pointer_table.specs.Table.{MayBeHeld}
+use Rattle.pointer_table.proofs.Common.{div_ceil, cases_eq, eqb-false, ltb-false, leb-false, or_parts, div_ceil_times, little_from, Geometry, slots_start, Image, source_field, target_field, RawSlot, is_bad_slot, is_bad_at, IsLeastBadSlot, slot_in, AreReadTo, AreWithinTo, slot_of, stored_slot, slot_at, MayBeHeld}
 use Rattle.pointer_table.proofs.SlotLaws.{set_same, set_other}
 
 -- ---- where a slot's two numbers stand

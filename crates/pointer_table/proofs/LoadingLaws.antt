@@ -2,20 +2,8 @@
 use Rattle.std.proofs.Common.{◌≡◌, ℕ, ◌+◌, ◌*◌, ◌/◌, ◌%◌, ◌<◌, ◌≤◌, true, inl, inr, List, refl, sym, ◌∙◌, ap, arith}
 use Rattle.std.proofs.Common.{Option, None, Result, Ok, Err}
 use Rattle.std.specs.Prelude.{map}
-use Rattle.std.specs.Int.{div_ceil}
-use Rattle.std.specs.List.{range_with_len}
-use Rattle.std.proofs.lemmas.Bool.{cases_order, both_ways}
-use Rattle.std.proofs.lemmas.Grind.{div_ceil_times}
-use Rattle.std.proofs.lemmas.List.{ext_get_or}
-use Rattle.std.proofs.lemmas.List.FromFn.{fill_by_all}
-use Rattle.tsd_model.specs.declared.geometry.Geometry.{Geometry}
+use Rattle.pointer_table.proofs.Common.{div_ceil, range_with_len, cases_order, both_ways, div_ceil_times, ext_get_or, fill_by_all, Geometry, slots_start, data_start, Image, source_field, target_field, is_bad_slot, is_bad_at, HasNoBad, IsLeastBadSlot, IsLeastRepeated, IsLoaded, WasDecided, AnswersPointers, stored_slot, IsStored, Table, TableFault}
 use Rattle.tsd_model.proofs.PlaceLaws.{same_pair}
-use Rattle.image_layout.specs.Areas.{slots_start, data_start}
-use Rattle.image_layout.specs.Image.{Image, source_field, target_field}
-use Rattle.pointer_table.specs.Loading.{is_bad_slot, is_bad_at, HasNoBad, IsLeastBadSlot, IsLeastRepeated, IsLoaded, WasDecided, AnswersPointers}
-use Rattle.pointer_table.specs.Sectors.{stored_slot, IsStored}
-use Rattle.pointer_table.specs.Table.{Table}
-use Rattle.pointer_table.specs.declared.fault.TableFault.{TableFault}
 use Rattle.pointer_table.specs.declared.fault.TableFault.TheVariants as fault
 use Rattle.pointer_table.proofs.SectorLaws.{read_at, stored_at}
 

@@ -1,13 +1,8 @@
 -- The targets of a block one after another.
 use Rattle.std.proofs.Common.{◌≡◌, ℕ, ◌+◌, ◌<◌, ◌≤◌, true, false, cond, nat_le, ◌&&◌, ◌==◌, inl, inr, List, [], ◌∷◌, ◌++◌, length, take, refl, sym, ◌∙◌, ap, arith}
 use Rattle.std.proofs.Common.{Some, None}
-use Rattle.std.specs.Prelude.{filter, map}
-use Rattle.std.proofs.lemmas.Bool.{or_cases, or_left, or_right, and_parts, and_from, and_right, eqb-true, eq-eqb, leb-true, le-leb, lt-leb, both_ways, false_from_ne_true}
-use Rattle.std.proofs.lemmas.Bool.Decides.{nat_tests}
-use Rattle.std.proofs.lemmas.List.{append_assoc, append-nil, length_push, take_all, take_at}
-use Rattle.tsd_model.specs.Pairs.{is_pair, holds, pair_lt, is_below_first, is_rising}
-use Rattle.tsd_model.specs.Next.{IsNextTarget}
-use Rattle.tsd_model.proofs.PairLaws.{above_first}
+use Rattle.pointer_table.proofs.Common.{filter, or_cases, or_left, or_right, and_parts, and_from, and_right, eqb-true, eq-eqb, leb-true, le-leb, lt-leb, both_ways, false_from_ne_true, nat_tests, append_assoc, append-nil, length_push, take_all, take_at, is_pair, holds, pair_lt, is_below_first, is_rising, IsNextTarget, above_first}
+use Rattle.std.specs.Prelude.{map}
 
 -- ---- the targets of a block that are not below a number, ascending
 

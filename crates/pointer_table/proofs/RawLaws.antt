@@ -1,13 +1,7 @@
 -- Slots in memory, and behind them those that are empty.
 use Rattle.std.proofs.Common.{◌≡◌, ℕ, zero, suc, ◌+◌, ◌-◌, ◌<◌, ◌≤◌, ◌++◌, cond, List, [], ◌∷◌, length, replicate, set, refl, sym, ◌∙◌, ap, arith, inl, inr}
 use Rattle.std.proofs.Common.{Option, None}
-use Rattle.std.specs.Prelude.{count_by, is_some}
-use Rattle.std.proofs.lemmas.Bool.{cases_lt}
-use Rattle.std.proofs.lemmas.List.{map-set, map-append, length-map, length-append, length-set, length-replicate, get_or_append_left, get_or-append_right, get_or_past, set-append_left, set-get_or, append_assoc}
-use Rattle.std.proofs.lemmas.List.Sums.{sum_by-cons, sum_by-append}
-use Rattle.pointer_table.specs.Raw.{slot_in, slots_in, all_slots}
-use Rattle.pointer_table.specs.Slots.{slot_at}
-use Rattle.pointer_table.specs.declared.raw.RawSlot.{RawSlot}
+use Rattle.pointer_table.proofs.Common.{count_by, is_some, cases_lt, map-set, map-append, length-map, length-append, length-set, length-replicate, get_or_append_left, get_or-append_right, get_or_past, set-append_left, set-get_or, append_assoc, sum_by-cons, sum_by-append, slot_in, slots_in, all_slots, slot_at, RawSlot}
 
 pub length-slots_in : (raws : List RawSlot) → length (slots_in raws) ≡ length raws
 length-slots_in raws = length-map raws slot_in

@@ -1,17 +1,8 @@
 -- The bytes of slots, written and read back.
 use Rattle.std.proofs.Common.{◌≡◌, ℕ, zero, suc, ◌+◌, ◌-◌, ◌*◌, ◌/◌, ◌%◌, ◌^◌, ◌<◌, ◌≤◌, false, cond, ◌==◌, inl, inr, List, [], ◌∷◌, ◌++◌, length, take, drop, set, add-one, refl, sym, ◌∙◌, ap, arith}
 use Rattle.std.proofs.Common.{Option, Some, None}
-use Rattle.std.proofs.lemmas.Bool.{cases_lt, cases_eq, eq-eqb, ne_eqb}
-use Rattle.std.proofs.lemmas.List.{append_assoc, length-append, length-take-le, length-set, take_at, drop_at, drop-drop, get_or_append_left}
-use Rattle.byteorder.specs.Endian.{little_from, little_bytes}
+use Rattle.pointer_table.proofs.Common.{cases_lt, cases_eq, eq-eqb, ne_eqb, append_assoc, length-append, length-take-le, length-set, take_at, drop_at, drop-drop, get_or_append_left, little_from, little_bytes, Geometry, put_at, slots_start, Image, slot_offset, slot_at, slot_of, stored_slot, IsStored, slot_bytes, row_bytes, slot_sector_bytes}
 use Rattle.byteorder.specs.Numbers.{little_from-cons, little_number-reads_back}
-use Rattle.tsd_model.specs.declared.geometry.Geometry.{Geometry}
-use Rattle.image_device.specs.Image.{put_at}
-use Rattle.image_layout.specs.Areas.{slots_start}
-use Rattle.image_layout.specs.Image.{Image}
-use Rattle.image_layout.specs.Offsets.{slot_offset}
-use Rattle.pointer_table.specs.Slots.{slot_at}
-use Rattle.pointer_table.specs.Sectors.{slot_of, stored_slot, IsStored, slot_bytes, row_bytes, slot_sector_bytes}
 use Rattle.pointer_table.proofs.SlotLaws.{set_other}
 
 -- ---- the bytes of a row

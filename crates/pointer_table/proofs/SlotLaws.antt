@@ -1,16 +1,8 @@
 -- Slots and the pairs that they hold.
 use Rattle.std.proofs.Common.{◌≡◌, ℕ, zero, suc, ◌+◌, ◌<◌, ◌≤◌, true, false, cond, not, ◌&&◌, ◌||◌, List, [], ◌∷◌, length, set, refl, sym, ◌∙◌, ap, arith, inl, inr}
 use Rattle.std.proofs.Common.{Option, Some, None}
-use Rattle.std.specs.Prelude.{count_by, is_some, ◌≢◌}
-use Rattle.std.specs.List.{list_any}
-use Rattle.std.proofs.lemmas.Bool.{or_cases, or_left, or_right, and_parts, and_from, cases_eq, both_ways, false_from_ne_true, not_from_false, not-true}
-use Rattle.std.proofs.lemmas.List.Sums.{sum_by-cons}
-use Rattle.std.proofs.lemmas.List.{get_or-set_same, get_or-set_other}
-use Rattle.tsd_model.specs.Pairs.{is_pair, holds, is_rising, with_pair, without_pair}
+use Rattle.pointer_table.proofs.Common.{count_by, is_some, ◌≢◌, list_any, or_cases, or_left, or_right, and_parts, and_from, cases_eq, both_ways, false_from_ne_true, not_from_false, not-true, sum_by-cons, get_or-set_same, get_or-set_other, is_pair, holds, is_rising, with_pair, without_pair, slot_at, pairs_in, is_at, same_tests, is_pair_ext, is_pair_same, holds-with_pair, holds-filter, is_rising-with_pair, is_rising-filter, rising_same, length-with_new_pair}
 use Rattle.tsd_model.proofs.SizeLaws.{length-with_pair}
-use Rattle.pointer_table.specs.Slots.{slot_at, pairs_in}
-use Rattle.pointer_table.specs.Scanning.{is_at}
-use Rattle.tsd_model.proofs.PairLaws.{same_tests, is_pair_ext, is_pair_same, holds-with_pair, holds-filter, is_rising-with_pair, is_rising-filter, rising_same, length-with_new_pair}
 
 -- ---- which pairs are held
 

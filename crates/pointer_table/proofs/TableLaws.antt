@@ -1,28 +1,11 @@
 -- Tables: made, changed, and compared with an image.
 use Rattle.std.proofs.Common.{◌≡◌, ℕ, ◌+◌, ◌*◌, ◌/◌, ◌%◌, ◌<◌, false, inl, inr, ◌⊎◌, List, length, set, sym, ◌∙◌, ap, subst, arith}
 use Rattle.std.proofs.Common.{Option, Some, None}
-use Rattle.std.proofs.lemmas.Bool.{cases_eq, cases_order, both_ways, false_from_ne_true}
-use Rattle.std.proofs.lemmas.List.{length-set, set-set, set-get_or}
-use Rattle.tsd_model.specs.declared.geometry.Geometry.{Geometry}
-use Rattle.tsd_model.specs.Geometry.{IsLawful}
-use Rattle.tsd_model.specs.Pairs.{holds, with_pair, without_pair}
+use Rattle.pointer_table.proofs.Common.{cases_eq, cases_order, both_ways, false_from_ne_true, length-set, set-set, set-get_or, Geometry, IsLawful, holds, with_pair, without_pair, Image, TableFault, IsRepeatedOn, IsLeastRepeated, AnswersPointers, AreReadTo, AreWithinTo, IsRepeatedIn, IsLeastOfAll, slot_at, Table, pairs, MayBeHeld, IsTable, ArePairs, length-with_new_pair, Patch, IsChange, slots_start, slot_offset, IsStored, slot_sector_bytes}
 use Rattle.std.proofs.Common.{Result, Ok, Err}
 use Rattle.std.specs.Result.{IfOk}
-use Rattle.image_layout.specs.Image.{Image}
-use Rattle.pointer_table.specs.declared.fault.TableFault.{TableFault}
 use Rattle.pointer_table.specs.declared.fault.TableFault.TheVariants as fault
 use Rattle.pointer_table.specs.Repeating.{IsRepeating}
-use Rattle.pointer_table.specs.Loading.{IsRepeatedOn, IsLeastRepeated, AnswersPointers}
-use Rattle.pointer_table.specs.Reading.{AreReadTo, AreWithinTo}
-use Rattle.pointer_table.specs.Repeats.{IsRepeatedIn, IsLeastOfAll}
-use Rattle.pointer_table.specs.Slots.{slot_at}
-use Rattle.pointer_table.specs.Table.{Table, pairs, MayBeHeld, IsTable, ArePairs}
-use Rattle.tsd_model.proofs.PairLaws.{length-with_new_pair}
-use Rattle.image_layout.specs.declared.offset.Patch.{Patch}
-use Rattle.pointer_table.specs.Changes.{IsChange}
-use Rattle.image_layout.specs.Areas.{slots_start}
-use Rattle.image_layout.specs.Offsets.{slot_offset}
-use Rattle.pointer_table.specs.Sectors.{IsStored, slot_sector_bytes}
 use Rattle.pointer_table.proofs.SectorLaws.{Fits4, read_at, sector_read, slot_sector, stored_at}
 use Rattle.pointer_table.proofs.SlotLaws.{some_inside, holds_from_slot, slot_from_holds, rising-pairs_in, set_same, set_other, pairs_added, pairs_removed, length-pairs_in_le}
 

@@ -1,11 +1,7 @@
 -- Links of threads, and what a change of the slots leaves of them.
 use Rattle.std.proofs.Common.{◌≡◌, ℕ, ◌+◌, ◌<◌, ◌≤◌, ◌-◌, true, false, cond, List, length, get_or, set, inl, inr, refl, sym, ◌∙◌, ap, subst, arith}
 use Rattle.std.proofs.Common.{Option, Some, None}
-use Rattle.std.specs.Prelude.{IfSome}
-use Rattle.std.proofs.lemmas.Bool.{cases_eq, cases_lt, ne_eqb, ltb-true, ltb-false}
-use Rattle.std.proofs.lemmas.List.{length-set, get_or-set_same, get_or-set_other}
-use Rattle.pointer_table.specs.declared.way.Way.{Way}
-use Rattle.pointer_table.specs.Threads.{rank, group, is_below, no_link, linked, IsMember, IsFirstFrom, IsFirstThatFar, IsLast, IsLastBelow, IsNear, AreThreads, IsWith, link_after, heads_with, next_with}
+use Rattle.pointer_table.proofs.Common.{IfSome, cases_eq, cases_lt, ne_eqb, ltb-true, ltb-false, length-set, get_or-set_same, get_or-set_other, Way, rank, group, is_below, no_link, linked, IsMember, IsFirstFrom, IsFirstThatFar, IsLast, IsLastBelow, IsNear, AreThreads, IsWith, link_after, heads_with, next_with}
 
 -- ---- ranks
 

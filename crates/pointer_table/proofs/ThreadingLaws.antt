@@ -1,19 +1,8 @@
 -- Slots threaded one after another, from the last pair of their order to the first.
 use Rattle.std.proofs.Common.{◌≡◌, ℕ, suc, ◌+◌, ◌-◌, ◌<◌, ◌≤◌, ◌==◌, ◌||◌, Bool, true, false, cond, List, [], ◌∷◌, length, get_or, drop, refl, sym, ◌∙◌, ap, subst, arith, inl, inr, length-drop, drop-cons}
 use Rattle.std.proofs.Common.{Option, Some, None}
-use Rattle.std.specs.List.{list_any}
-use Rattle.std.proofs.lemmas.Bool.{cases_eq, or_cases, eqb-true, eq-eqb, ne_eqb, false_from_ne_true}
-use Rattle.std.proofs.lemmas.List.{get_or-drop, drop_all}
+use Rattle.pointer_table.proofs.Common.{list_any, cases_eq, or_cases, eqb-true, eq-eqb, ne_eqb, false_from_ne_true, get_or-drop, drop_all, Geometry, AreInRow, IsIndex, unset_link, sort_key, IsOrder, slot_at, IsTable, rank, IsWith, Index}
 use Rattle.std.proofs.lemmas.List.Folds.{list_any_at}
-use Rattle.tsd_model.specs.declared.geometry.Geometry.{Geometry}
-use Rattle.pointer_table.specs.Empties.{AreInRow}
-use Rattle.pointer_table.specs.Indexed.{IsIndex}
-use Rattle.pointer_table.specs.Links.{unset_link}
-use Rattle.pointer_table.specs.Order.{sort_key, IsOrder}
-use Rattle.pointer_table.specs.Slots.{slot_at}
-use Rattle.pointer_table.specs.Table.{IsTable}
-use Rattle.pointer_table.specs.Threads.{rank, IsWith}
-use Rattle.pointer_table.specs.declared.index.Index.{Index}
 use Rattle.pointer_table.proofs.EmptyLaws.{not_some}
 use Rattle.pointer_table.proofs.ThreadLaws.{same_rank}
 

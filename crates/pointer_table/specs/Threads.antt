@@ -10,9 +10,9 @@
 -- invariant, said of each head and each link alone. Where an ascending walk through a group stands is therefore known
 -- without the walk. A pair is looked for in its bucket, the targets of a source and the sources of a target in their
 -- groups. A walk to a position in a group begins near it: two searches take turns, up from the head of the group and
--- down from the number that is sought, by the buckets, and the first that finds a pair of the group below the position
--- ends both. What they find is a guess, of which no word is said here. The empty slots are linked to a list
--- (Empties.antt).
+-- down from the number that is sought, over the heads to the next number that has pairs and by the buckets, and the
+-- first that finds a pair of the group below the position ends both. What they find is a guess, of which no word is
+-- said here. The empty slots are linked to a list (Empties.antt).
 --
 -- Slots are given as a function from their numbers, so that the same words serve for slots of which some are threaded
 -- only.

@@ -153,11 +153,10 @@ impl Index {
         }
         let mut near = NO_LINK;
         let mut link = self.by_source.head(source as usize);
-        for step in 0..target {
-            if !is_below(slots, link, limit) {
-                break;
-            }
-            if let Some(position) = self.position_below(slots, source, target - step - 1) {
+        let mut below = target;
+        while 0 < below && is_below(slots, link, limit) {
+            below = self.by_target.used_below(below);
+            if let Some(position) = self.position_below(slots, source, below) {
                 return position;
             }
             near = link;
@@ -177,11 +176,10 @@ impl Index {
         }
         let mut near = NO_LINK;
         let mut link = self.by_target.head(target as usize);
-        for step in 0..source {
-            if !is_below(slots, link, limit) {
-                break;
-            }
-            if let Some(position) = self.position_below(slots, source - step - 1, target) {
+        let mut below = source;
+        while 0 < below && is_below(slots, link, limit) {
+            below = self.by_source.used_below(below);
+            if let Some(position) = self.position_below(slots, below, target) {
                 return position;
             }
             near = link;

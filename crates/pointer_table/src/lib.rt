@@ -9,8 +9,8 @@
 //! has them again with the patch. Each question is answered by the pairs that the slots hold, ascending. An image whose
 //! sectors are those of `fresh_sector` has a table that holds no pair. A load that answers Ok leaves the device's count
 //! of faults as it was. Only `load` takes memory. The table keeps 22 bytes a slot and 16 a block: a slot has 8 bytes,
-//! three links of 4, and 2 for its share of the heads of buckets; a block has two heads and two ends. While it loads it
-//! takes 4 more for each slot that holds a pair.
+//! three links of 4, and 2 for its share of the heads of buckets; a block has two heads and two ends, and 64 blocks two
+//! marks of a byte. While it loads it takes 4 more for each slot that holds a pair.
 //!
 //! How it stays fast: the slots that hold pairs are threaded by source, by target and by bucket (`specs/Threads.antt`),
 //! and the empty ones are linked to a list (`specs/Empties.antt`), so no question or change looks at all of them. Slots
@@ -34,6 +34,7 @@ mod slots;
 mod table;
 mod threading;
 mod threads;
+mod used;
 mod way;
 
 pub use fault::{NoPointer, TableFault, TableFull};

@@ -12,8 +12,15 @@ use crate::fault::TableFault;
 use crate::links::{Links, NO_LINK};
 use crate::order::pair_at;
 use crate::slots::Slots;
+use crate::used::{GROUPS_OF_A_MARK, Used};
 use crate::way::{Way, group, rank};
 use std::alloc::Global;
+
+/// How many groups a search down looks at before the other search's turn comes.
+const LOOKS: u32 = 64;
+
+/// How many groups a look passes where none of them was ever used.
+const STEP: u32 = GROUPS_OF_A_MARK as u32;
 
 /// The threads of one way to group pairs.
 #[derive(Drop)]
@@ -28,8 +35,11 @@ pub(crate) struct Threads {
     /// asks.
     pub next: Links,
 
-    /// For each group the slot that was last added at its end, where that is kept. A wrong one costs time alone.
+    /// For each group of several pairs the slot of the last one, where that is kept. A wrong one costs time alone.
     ends: Links,
+
+    /// Which groups ever had a pair, roughly, where their ends are kept. A wrong mark costs time alone.
+    used: Used,
 }
 
 /// Whether the pair of a slot is below a rank.
@@ -84,9 +94,32 @@ impl Threads {
         link_at(&self.next, position as usize)
     }
 
-    /// The end of a group, where that is kept.
+    /// The end of a group, where that is kept: its head, where the group has one pair.
     pub(crate) fn end(&self, of: usize) -> u32 {
-        link_at(&self.ends, of)
+        let end = link_at(&self.ends, of);
+        if end == NO_LINK { self.head(of) } else { end }
+    }
+
+    /// A group below one, down to which none has a pair, as far as 64 looks go: a guess. Where 64 groups in a row were
+    /// never used, one look passes them.
+    pub(crate) fn used_below(&self, of: u32) -> u32
+        requires { 0 < of }
+        ensures { result < of }
+    {
+        let mut below = of;
+        let mut looks = 0;
+        while 0 < below && looks < LOOKS {
+            looks += 1;
+            if below % STEP == 0 && !self.used.is_used(below as usize - 1) {
+                below -= STEP;
+            } else {
+                below -= 1;
+                if self.head(below as usize) != NO_LINK {
+                    return below;
+                }
+            }
+        }
+        below
     }
 
     /// The link behind a slot, or the head of a group.
@@ -180,12 +213,14 @@ impl Threads {
         let ends = if with_ends { groups } else { 0 };
         let heads = Links::nowhere(alloc, groups)?;
         let next = Links::row(alloc, slots)?;
+        let used = Used::none(alloc, ends)?;
         let ends = Links::nowhere(alloc, ends)?;
         Ok(Threads {
             way,
             heads,
             next,
             ends,
+            used,
         })
     }
 
@@ -202,6 +237,7 @@ impl Threads {
         let link = self.after(of, before);
         self.next.set(position as usize, link);
         self.set_after(of, before, position);
+        self.used.mark(of);
         link
     }
 
@@ -288,17 +324,22 @@ impl Threads {
         self.next.set(position as usize, behind);
     }
 
-    /// Keeps a slot as the end of a group, where ends are kept and no link leads on from it.
+    /// Keeps the end of a group, where ends are kept, after a slot was put in front of a link, or is what is left in
+    /// front of one that was taken away. Where no link leads on from it, it is the end; and where the group had one
+    /// pair, the link leads to the end.
     fn keep_end(&mut self, of: usize, link: u32, position: u32)
         ensures way { self.new.way ≡ self.old.way }
         ensures heads { self.new.heads ≡ self.old.heads }
         ensures next { self.new.next ≡ self.old.next }
     {
-        if link != NO_LINK {
+        if of >= self.ends.len() {
             return;
         }
-        if of < self.ends.len() {
-            self.ends.set(of, position);
+        let last = if link == NO_LINK { position } else { link };
+        if link != NO_LINK && self.ends.get(of) != NO_LINK {
+            return;
         }
+        let end = if last == self.head(of) { NO_LINK } else { last };
+        self.ends.set(of, end);
     }
 }

@@ -1,6 +1,5 @@
 use Rattle.std.proofs.Common.{◌≡◌, ◌≤◌}
-use Rattle.block_alloc.specs.LiveMap.{free_count}
-use Rattle.block_alloc.specs.Bytes.{bits_of}
+use Rattle.block_alloc.proofs.Common.{free_count, bits_of}
 use Rattle.block_alloc.proofs.bits.count_zeros.Given as goal
 
 abbrev pub invariant-loop-b : goal.invariant-loop-b

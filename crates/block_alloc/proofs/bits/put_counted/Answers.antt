@@ -1,5 +1,5 @@
 use Rattle.std.proofs.Common.{true, false, sym, ◌∙◌, ap, arith}
-use Rattle.block_alloc.specs.Bytes.{bit_in}
+use Rattle.block_alloc.proofs.Common.{bit_in}
 use Rattle.block_alloc.proofs.BitLaws.{count-put, count-most}
 use Rattle.block_alloc.proofs.bits.put_counted.Goals as goal
 

@@ -1,5 +1,5 @@
 use Rattle.std.proofs.Common.{◌≡◌, ◌-◌, take, drop, min, length, ap, ◌∙◌}
-use Rattle.std.proofs.lemmas.List.{take_rest, length-drop}
+use Rattle.block_alloc.proofs.Common.{take_rest, length-drop}
 use Rattle.block_alloc.proofs.ByteLaws.{copied}
 use Rattle.block_alloc.proofs.bits.sector_from.Goals as goal
 

@@ -1,6 +1,5 @@
 use Rattle.std.proofs.Common.{◌≡◌, ◌<◌, ℕ, nat_lt, length}
-use Rattle.std.specs.Prelude.{slice_index}
-use Rattle.block_alloc.specs.Bytes.{bit_in}
+use Rattle.block_alloc.proofs.Common.{slice_index, bit_in}
 use Rattle.block_alloc.proofs.fresh.first_bits.Given as goal
 
 abbrev pub invariant-loop-bit : goal.invariant-loop-bit

@@ -1,5 +1,5 @@
 use Rattle.std.proofs.Common.{◌≡◌, ◌==◌, cond, ◌∙◌, sym, ap}
-use Rattle.std.proofs.lemmas.Bool.{eq-eqb, ne_eqb}
+use Rattle.block_alloc.proofs.Common.{eq-eqb, ne_eqb}
 use Rattle.block_alloc.proofs.FreshLaws.{fresh_bytes}
 use Rattle.block_alloc.proofs.fresh.fresh_sector.Goals as goal
 use Rattle.block_alloc.proofs.fresh.fresh_sector.Goals.{then-part-eq0, else-part-eq0}

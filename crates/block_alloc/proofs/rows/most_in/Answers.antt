@@ -1,7 +1,5 @@
 use Rattle.std.proofs.Common.{◌≡◌, inl, inr, ◌+◌, ◌-◌, subst, arith}
-use Rattle.std.proofs.lemmas.Bool.{cases_eq}
-use Rattle.block_alloc.specs.Bytes.{bits_of}
-use Rattle.block_alloc.specs.Rows.{IsMostAt}
+use Rattle.block_alloc.proofs.Common.{cases_eq, bits_of, IsMostAt}
 use Rattle.block_alloc.proofs.BitLaws.{length-bits_of}
 use Rattle.block_alloc.proofs.GroupLaws.{past_is_not_free}
 use Rattle.block_alloc.proofs.RowLaws.{most-any, most-none, most-from}

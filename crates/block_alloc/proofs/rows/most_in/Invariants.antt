@@ -1,6 +1,5 @@
 use Rattle.std.proofs.Common.{◌≤◌, ◌<◌, ℕ}
-use Rattle.block_alloc.specs.Bytes.{bits_of}
-use Rattle.block_alloc.specs.Rows.{IsMostAt}
+use Rattle.block_alloc.proofs.Common.{bits_of, IsMostAt}
 use Rattle.block_alloc.proofs.rows.most_in.Given as goal
 
 -- those of the blocks that were passed

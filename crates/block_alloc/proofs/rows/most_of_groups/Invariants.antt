@@ -1,6 +1,5 @@
 use Rattle.std.proofs.Common.{◌≡◌, length}
-use Rattle.block_alloc.specs.Bytes.{bits_of}
-use Rattle.block_alloc.specs.Rows.{AreMost}
+use Rattle.block_alloc.proofs.Common.{bits_of, AreMost}
 use Rattle.block_alloc.proofs.rows.most_of_groups.Given as goal
 
 abbrev pub invariant-loop-group : goal.invariant-loop-group

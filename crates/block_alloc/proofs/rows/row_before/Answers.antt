@@ -1,5 +1,5 @@
 use Rattle.std.proofs.Common.{◌≡◌, true, sym, ◌∙◌}
-use Rattle.block_alloc.specs.Bytes.{bit_in, bits_of}
+use Rattle.block_alloc.proofs.Common.{bit_in, bits_of}
 use Rattle.block_alloc.proofs.RowLaws.{live-bit, most-none}
 use Rattle.block_alloc.proofs.rows.row_before.Goals as goal
 

@@ -1,8 +1,6 @@
 use Rattle.std.proofs.Common.{◌≡◌, ℕ, ◌-◌, not, nat_lt, cond, length, sym, subst, ap, ◌∙◌, arith}
 use Rattle.std.proofs.Common.{None}
-use Rattle.std.proofs.lemmas.Bool.{lt-ltb, le-ltb}
-use Rattle.pointer_table.specs.Slots.{slot_at}
-use Rattle.pointer_table.specs.Threads.{no_link}
+use Rattle.pointer_table.proofs.Common.{lt-ltb, le-ltb, slot_at, no_link}
 use Rattle.pointer_table.proofs.EmptyLaws.{AreEmptiesFrom, empties_more, empties_behind}
 use Rattle.pointer_table.proofs.SlotLaws.{none_is}
 use Rattle.pointer_table.proofs.empties.link_empties.Goals.{then-left-len, else-left-len}

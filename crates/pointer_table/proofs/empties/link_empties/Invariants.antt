@@ -1,6 +1,5 @@
 use Rattle.std.proofs.Common.{◌≤◌, length}
-use Rattle.pointer_table.specs.Indexed.{HasLinksAndHeads, IsIndex}
-use Rattle.pointer_table.specs.Slots.{slot_at}
+use Rattle.pointer_table.proofs.Common.{HasLinksAndHeads, IsIndex, slot_at}
 use Rattle.pointer_table.proofs.EmptyLaws.{AreEmptiesFrom}
 use Rattle.pointer_table.proofs.empties.link_empties.Given as goal
 

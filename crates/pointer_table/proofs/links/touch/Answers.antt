@@ -1,6 +1,5 @@
 use Rattle.std.proofs.Common.{◌≡◌, ◌+◌, [], ◌∷◌, length, refl, ap, ◌∙◌, arith}
-use Rattle.std.proofs.lemmas.List.{length-append}
-use Rattle.pointer_table.specs.Links.{unset_link, links_of}
+use Rattle.pointer_table.proofs.Common.{length-append, unset_link, links_of}
 use Rattle.pointer_table.proofs.LinkLaws.{touched}
 use Rattle.pointer_table.proofs.links.touch.Goals as goal
 

@@ -1,6 +1,6 @@
 use Rattle.std.proofs.Common.{◌≡◌, ◌+◌, ◌-◌}
-use Rattle.std.specs.Prelude.{vec_len, vec_capacity}
-use Rattle.pointer_table.specs.Links.{links_of, AreKept}
+use Rattle.pointer_table.proofs.Common.{vec_len, vec_capacity, links_of}
+use Rattle.pointer_table.specs.Links.{AreKept}
 use Rattle.pointer_table.proofs.links.touch.Given as goal
 
 abbrev pub invariant-loop-items : goal.invariant-loop-items

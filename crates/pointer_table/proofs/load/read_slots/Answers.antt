@@ -1,9 +1,7 @@
 use Rattle.std.proofs.Common.{◌≡◌, ℕ, ◌+◌, ◌*◌, ◌<◌, min, refl, sym, subst, ap, ◌∙◌, arith}
-use Rattle.std.specs.Prelude.{Result, Ok, Err, OnOk}
-use Rattle.std.specs.Int.{div_ceil}
+use Rattle.pointer_table.proofs.Common.{OnOk, div_ceil, slots_start, data_start, AreReadTo, AreWithinTo}
+use Rattle.std.specs.Prelude.{Result, Ok, Err}
 use Rattle.image_device.specs.Counts.{CountsFault}
-use Rattle.image_layout.specs.Areas.{slots_start, data_start}
-use Rattle.pointer_table.specs.Reading.{AreReadTo, AreWithinTo}
 use Rattle.image_device.proofs.Outcomes.{unless_err}
 use Rattle.image_device.proofs.Resting.{rests_joined, uses_read}
 use Rattle.pointer_table.proofs.LoadLaws.{part_inside}

@@ -1,6 +1,6 @@
 use Rattle.std.proofs.Common.{◌≡◌, ◌*◌, min, length}
 use Rattle.image_device.specs.Calls.{Rests, Uses}
-use Rattle.pointer_table.specs.Reading.{AreReadTo, AreWithinTo}
+use Rattle.pointer_table.proofs.Common.{AreReadTo, AreWithinTo}
 use Rattle.pointer_table.proofs.load.read_slots.Given as goal
 
 abbrev pub invariant-loop-part : goal.invariant-loop-part

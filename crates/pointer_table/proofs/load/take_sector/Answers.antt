@@ -1,6 +1,5 @@
 use Rattle.std.proofs.Common.{◌+◌, ◌*◌, ◌<◌, ◌≤◌, length, sym, subst, ap, ◌∙◌, arith}
-use Rattle.std.proofs.lemmas.List.{length-set}
-use Rattle.pointer_table.specs.Reading.{AreReadTo, AreWithinTo}
+use Rattle.pointer_table.proofs.Common.{length-set, AreReadTo, AreWithinTo}
 use Rattle.pointer_table.proofs.LoadLaws.{source_at, target_at, least_bad, read_more, within_more}
 use Rattle.pointer_table.proofs.load.take_sector.Goals as goal
 

@@ -1,6 +1,5 @@
 use Rattle.std.proofs.Common.{◌≡◌, ℕ, ◌+◌, ◌*◌, List, length}
-use Rattle.image_layout.specs.Areas.{slots_start}
-use Rattle.pointer_table.specs.Reading.{AreReadTo, AreWithinTo}
+use Rattle.pointer_table.proofs.Common.{slots_start, AreReadTo, AreWithinTo}
 use Rattle.pointer_table.proofs.load.take_sector.Given as goal
 
 abbrev pub invariant-loop-position : goal.invariant-loop-position

@@ -1,6 +1,5 @@
 use Rattle.std.proofs.Common.{◌+◌, ◌++◌, length, take, sym, ap, ◌∙◌, arith}
-use Rattle.std.proofs.lemmas.List.{take-take}
-use Rattle.pointer_table.specs.Slots.{pairs_in}
+use Rattle.pointer_table.proofs.Common.{take-take, pairs_in}
 use Rattle.pointer_table.proofs.NextLaws.{all_targets, first_target, no_targets, targets_more, targets_longer, targets_full, targets_ended}
 use Rattle.pointer_table.proofs.SlotLaws.{rising-pairs_in}
 use Rattle.pointer_table.proofs.next.least_targets.Goals as goal

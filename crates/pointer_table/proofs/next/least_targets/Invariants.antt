@@ -1,5 +1,5 @@
 use Rattle.std.proofs.Common.{◌≡◌, ◌≤◌, ◌-◌, ◌++◌, length, take}
-use Rattle.pointer_table.specs.Slots.{pairs_in}
+use Rattle.pointer_table.proofs.Common.{pairs_in}
 use Rattle.pointer_table.proofs.NextLaws.{all_targets}
 use Rattle.pointer_table.proofs.next.least_targets.Given as goal
 

@@ -1,6 +1,5 @@
 use Rattle.std.proofs.Common.{◌∙◌, arith}
-use Rattle.std.proofs.lemmas.List.{take-take}
-use Rattle.pointer_table.specs.Slots.{pairs_in}
+use Rattle.pointer_table.proofs.Common.{take-take, pairs_in}
 use Rattle.pointer_table.proofs.NextLaws.{all_targets}
 use Rattle.pointer_table.proofs.next.targets_from.Goals as goal
 

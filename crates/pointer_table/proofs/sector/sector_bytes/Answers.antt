@@ -1,6 +1,5 @@
 use Rattle.std.proofs.Common.{ℕ, ◌≡◌, ◌+◌, ◌*◌, ◌++◌, take, drop, sym, ap, ◌∙◌, arith}
-use Rattle.std.proofs.lemmas.List.{take_all, length-replicate}
-use Rattle.pointer_table.specs.Sectors.{slot_bytes, row_bytes}
+use Rattle.pointer_table.proofs.Common.{take_all, length-replicate, slot_bytes, row_bytes}
 use Rattle.pointer_table.proofs.SectorLaws.{row_bytes-none, row_more}
 use Rattle.pointer_table.proofs.sector.sector_bytes.Goals as goal
 

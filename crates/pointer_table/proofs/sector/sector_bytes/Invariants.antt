@@ -1,5 +1,5 @@
 use Rattle.std.proofs.Common.{◌≡◌, ◌*◌, length, take}
-use Rattle.pointer_table.specs.Sectors.{row_bytes}
+use Rattle.pointer_table.proofs.Common.{row_bytes}
 use Rattle.pointer_table.proofs.sector.sector_bytes.Given as goal
 
 abbrev pub invariant-loop-index : goal.invariant-loop-index

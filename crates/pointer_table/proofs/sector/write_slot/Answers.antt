@@ -1,5 +1,5 @@
 use Rattle.std.proofs.Common.{◌+◌, ◌*◌, ◌++◌, take, drop, refl, ap, ◌∙◌, arith}
-use Rattle.byteorder.specs.Endian.{little_bytes}
+use Rattle.pointer_table.proofs.Common.{little_bytes}
 use Rattle.pointer_table.proofs.SectorLaws.{put_two, slot_numbers}
 use Rattle.pointer_table.proofs.sector.write_slot.Goals as goal
 

@@ -1,6 +1,5 @@
 use Rattle.std.proofs.Common.{◌≡◌, ◌+◌, [], ◌∷◌, length, refl, ap, ◌∙◌, arith}
-use Rattle.std.proofs.lemmas.List.{length-append}
-use Rattle.pointer_table.specs.Raw.{all_slots}
+use Rattle.pointer_table.proofs.Common.{length-append, all_slots}
 use Rattle.pointer_table.proofs.RawLaws.{touched}
 use Rattle.pointer_table.proofs.slots.touch.Goals as goal
 

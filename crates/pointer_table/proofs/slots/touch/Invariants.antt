@@ -1,6 +1,5 @@
 use Rattle.std.proofs.Common.{◌≡◌, ◌+◌, ◌-◌}
-use Rattle.std.specs.Prelude.{vec_len, vec_capacity}
-use Rattle.pointer_table.specs.Raw.{all_slots, AreKept}
+use Rattle.pointer_table.proofs.Common.{vec_len, vec_capacity, all_slots, AreKept}
 use Rattle.pointer_table.proofs.slots.touch.Given as goal
 
 abbrev pub invariant-loop-items : goal.invariant-loop-items

@@ -1,6 +1,5 @@
 use Rattle.std.proofs.Common.{◌≡◌, ◌-◌, ℕ, length, refl, sym, subst, ap, ◌∙◌, arith}
-use Rattle.pointer_table.specs.Indexed.{IsIndex}
-use Rattle.pointer_table.specs.Slots.{slot_at}
+use Rattle.pointer_table.proofs.Common.{IsIndex, slot_at}
 use Rattle.pointer_table.proofs.EmptyLaws.{not_some}
 use Rattle.pointer_table.proofs.ThreadingLaws.{threaded, none_threaded, one_more, all_threaded, row_more, index_same}
 use Rattle.pointer_table.proofs.threading.by_order.Goals as goal

@@ -1,6 +1,5 @@
 use Rattle.std.proofs.Common.{◌≤◌, length}
-use Rattle.pointer_table.specs.Empties.{AreInRow}
-use Rattle.pointer_table.specs.Indexed.{HasLinksAndHeads, IsIndex}
+use Rattle.pointer_table.proofs.Common.{AreInRow, HasLinksAndHeads, IsIndex}
 use Rattle.pointer_table.proofs.ThreadingLaws.{threaded}
 use Rattle.pointer_table.proofs.threading.by_order.Given as goal
 

@@ -1,4 +1,4 @@
-use Rattle.pointer_table.specs.Threads.{mixed}
+use Rattle.pointer_table.proofs.Common.{mixed}
 use Rattle.pointer_table.proofs.way.mixed.Goals as goal
 
 pub returns : goal.returns

@@ -1,8 +1,5 @@
 use Rattle.std.proofs.Common.{◌≤◌, length, take, ◌∙◌, ap, arith}
-use Rattle.tsd_model.specs.Rank.{rank_of}
-use Rattle.tsd_model.specs.Placing.{sorted_by_rank}
-use Rattle.block_alloc.specs.Least.{blocks_of}
-use Rattle.block_alloc.specs.Choosing.{free_blocks}
+use Rattle.block_alloc.proofs.Common.{rank_of, sorted_by_rank, blocks_of, free_blocks}
 use Rattle.block_alloc.proofs.OrderLaws.{blocks_of-ranked, length-least}
 use Rattle.block_alloc.proofs.FreeLaws.{length-free_blocks}
 use Rattle.block_alloc.proofs.map.LiveMap.choose.Goals as goal

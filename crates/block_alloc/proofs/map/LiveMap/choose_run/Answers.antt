@@ -1,8 +1,5 @@
 use Rattle.std.proofs.Common.{refl, ◌∙◌, ap}
-use Rattle.tsd_model.specs.Rank.{rank_of}
-use Rattle.tsd_model.specs.Placing.{first_block}
-use Rattle.block_alloc.specs.Least.{blocks_of}
-use Rattle.block_alloc.specs.Choosing.{runs}
+use Rattle.block_alloc.proofs.Common.{rank_of, first_block, blocks_of, runs}
 use Rattle.block_alloc.proofs.OrderLaws.{first-least, none-least}
 use Rattle.block_alloc.proofs.map.LiveMap.choose_run.Goals as goal
 

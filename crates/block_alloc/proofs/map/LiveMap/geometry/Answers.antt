@@ -1,5 +1,5 @@
 use Rattle.std.proofs.Common.{subst}
-use Rattle.block_alloc.specs.LiveMap.{LiveMap, IsTable}
+use Rattle.block_alloc.proofs.Common.{LiveMap, IsTable}
 use Rattle.block_alloc.proofs.BitLaws.{kept-table}
 use Rattle.block_alloc.proofs.map.LiveMap.geometry.Goals as goal
 

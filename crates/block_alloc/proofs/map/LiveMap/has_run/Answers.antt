@@ -1,5 +1,5 @@
 use Rattle.std.proofs.Common.{◌≡◌, ◌+◌, ◌-◌, ◌<◌, length, not, subst, sym, ap, arith, ℕ}
-use Rattle.block_alloc.specs.Choosing.{is_free_run, IsRow}
+use Rattle.block_alloc.proofs.Common.{is_free_run, IsRow}
 use Rattle.block_alloc.proofs.RunLaws.{row-run, found-in}
 use Rattle.block_alloc.proofs.map.LiveMap.has_run.Goals as goal
 

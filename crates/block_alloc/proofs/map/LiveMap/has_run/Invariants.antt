@@ -1,7 +1,5 @@
 use Rattle.std.proofs.Common.{◌≡◌, ◌+◌, ◌-◌, ◌≤◌, []}
-use Rattle.std.specs.Prelude.{filter}
-use Rattle.std.specs.List.{range_with_len}
-use Rattle.block_alloc.specs.Choosing.{is_free_run, IsRow}
+use Rattle.block_alloc.proofs.Common.{filter, range_with_len, is_free_run, IsRow}
 use Rattle.block_alloc.proofs.map.LiveMap.has_run.Given as goal
 
 -- no run begins at a block that was passed

@@ -1,9 +1,6 @@
 use Rattle.std.proofs.Common.{◌<◌, ℕ, false, Bool, List, sym, subst, ◌∙◌, ap, arith}
-use Rattle.std.specs.Prelude.{slice_set, slice_index_or}
-use Rattle.block_alloc.specs.Bytes.{bits_of}
-use Rattle.block_alloc.specs.Rows.{IsMostIn, AreMost}
+use Rattle.block_alloc.proofs.Common.{slice_set, slice_index_or, bits_of, IsMostIn, AreMost, LiveMap, is_live}
 use Rattle.block_alloc.proofs.RowLaws.{most-apart}
-use Rattle.block_alloc.specs.LiveMap.{LiveMap, is_live}
 use Rattle.block_alloc.proofs.BitLaws.{bits-changed, length-bits_of, live-inside, kept-seen}
 use Rattle.block_alloc.proofs.map.LiveMap.hide.Goals as goal
 

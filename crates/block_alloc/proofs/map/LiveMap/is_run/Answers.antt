@@ -1,6 +1,5 @@
 use Rattle.std.proofs.Common.{◌≡◌, ◌-◌, ◌+◌, length, sym, ◌∙◌, ap, arith}
-use Rattle.std.specs.List.{list_all, range_with_len}
-use Rattle.block_alloc.specs.LiveMap.{is_free}
+use Rattle.block_alloc.proofs.Common.{list_all, range_with_len, is_free}
 use Rattle.block_alloc.proofs.GroupLaws.{broken_run, past_is_not_free, live_is_not_free}
 use Rattle.block_alloc.proofs.map.LiveMap.is_run.Goals as goal
 

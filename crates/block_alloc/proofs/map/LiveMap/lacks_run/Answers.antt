@@ -1,7 +1,5 @@
 use Rattle.std.proofs.Common.{◌≡◌, ◌<◌, List, ℕ, sym, ◌∙◌, ap, arith}
-use Rattle.std.specs.Prelude.{slice_index_or}
-use Rattle.block_alloc.specs.Choosing.{is_free_run}
-use Rattle.std.proofs.lemmas.Bool.{ltb-true}
+use Rattle.block_alloc.proofs.Common.{slice_index_or, is_free_run, ltb-true}
 use Rattle.block_alloc.proofs.map.LiveMap.lacks_run.Goals as goal
 
 pub returns : goal.returns

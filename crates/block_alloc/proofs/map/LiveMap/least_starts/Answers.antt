@@ -1,5 +1,5 @@
 use Rattle.std.proofs.Common.{◌≡◌, length, ◌∙◌, Some}
-use Rattle.tsd_model.specs.Rank.{rank_of}
+use Rattle.block_alloc.proofs.Common.{rank_of}
 use Rattle.block_alloc.proofs.GroupLaws.{enough_within}
 use Rattle.block_alloc.proofs.map.LiveMap.least_starts.Goals as goal
 

@@ -1,10 +1,7 @@
 use Rattle.std.proofs.Common.{◌≡◌, ◌+◌, ◌/◌, ◌%◌, ◌∙◌, sym, ap}
-use Rattle.std.specs.Prelude.{slice_index}
-use Rattle.image_layout.specs.Areas.{bitmap_start}
+use Rattle.block_alloc.proofs.Common.{slice_index, bitmap_start, is_live, bits_of}
 use Rattle.block_alloc.proofs.BitLaws.{length-bits_of}
 use Rattle.block_alloc.proofs.StoredLaws.{read_is_stored}
-use Rattle.block_alloc.specs.LiveMap.{is_live}
-use Rattle.block_alloc.specs.Bytes.{bits_of}
 use Rattle.block_alloc.proofs.map.LiveMap.load.Given.{Over}
 use Rattle.block_alloc.proofs.map.LiveMap.load.Goals as goal
 

@@ -1,9 +1,5 @@
 use Rattle.std.proofs.Common.{◌≡◌, ◌-◌, ◌<◌, ◌+◌, ◌*◌, ◌&&◌, length, true, sym, ◌∙◌, ap, subst, arith, take}
-use Rattle.tsd_model.specs.Rank.{rank_of}
-use Rattle.block_alloc.specs.Choosing.{is_free_run}
-use Rattle.block_alloc.specs.Groups.{is_within, is_run_within, IsKeptFrom}
-use Rattle.block_alloc.specs.Least.{inserted, ranked}
-use Rattle.block_alloc.specs.declared.least.Ranked.{Ranked}
+use Rattle.block_alloc.proofs.Common.{rank_of, is_free_run, is_within, is_run_within, IsKeptFrom, inserted, ranked, Ranked}
 use Rattle.block_alloc.proofs.OrderLaws.{least-from-yes}
 use Rattle.block_alloc.proofs.map.LiveMap.offer_group.Goals as goal
 

@@ -1,6 +1,5 @@
 use Rattle.std.proofs.Common.{◌≡◌, ◌-◌, ◌+◌, ◌*◌, false, subst, arith}
-use Rattle.tsd_model.specs.Rank.{rank_of}
-use Rattle.block_alloc.specs.Groups.{is_run_within, IsKeptFrom}
+use Rattle.block_alloc.proofs.Common.{rank_of, is_run_within, IsKeptFrom}
 use Rattle.block_alloc.proofs.GroupLaws.{kept_by}
 use Rattle.block_alloc.proofs.map.LiveMap.offer_stretch.Goals as goal
 

@@ -1,6 +1,5 @@
 use Rattle.std.proofs.Common.{◌≡◌, ◌*◌, ◌+◌, ◌≤◌}
-use Rattle.tsd_model.specs.Rank.{rank_of}
-use Rattle.block_alloc.specs.Groups.{IsKeptFrom}
+use Rattle.block_alloc.proofs.Common.{rank_of, IsKeptFrom}
 use Rattle.block_alloc.proofs.map.LiveMap.offer_stretch.Given as goal
 
 -- so are those of the groups that were passed

@@ -1,10 +1,5 @@
 use Rattle.std.proofs.Common.{◌≡◌, ◌+◌, ◌*◌, ◌/◌, ◌<◌, ℕ, List, subst, sym, ◌∙◌, ap, arith}
-use Rattle.std.specs.Prelude.{slice_index}
-use Rattle.image_device.specs.Image.{put_at}
-use Rattle.image_layout.specs.Areas.{bitmap_start}
-use Rattle.block_alloc.specs.LiveMap.{LiveMap, IsTable}
-use Rattle.block_alloc.specs.Bytes.{bitmap_sector_bytes}
-use Rattle.block_alloc.specs.Stored.{IsStoredAt, IsStored}
+use Rattle.block_alloc.proofs.Common.{slice_index, put_at, bitmap_start, LiveMap, IsTable, bitmap_sector_bytes, IsStoredAt, IsStored}
 use Rattle.block_alloc.proofs.BitLaws.{kept-table}
 use Rattle.block_alloc.proofs.ByteLaws.{sector_is}
 use Rattle.block_alloc.proofs.StoredLaws.{stored_here, stored_all}

@@ -1,6 +1,5 @@
 use Rattle.std.proofs.Common.{sym, ◌∙◌, ap, ◌<◌}
-use Rattle.block_alloc.specs.LiveMap.{is_live}
-use Rattle.block_alloc.specs.Bytes.{bit_in}
+use Rattle.block_alloc.proofs.Common.{is_live, bit_in}
 use Rattle.block_alloc.proofs.BitLaws.{get-bits_of}
 use Rattle.block_alloc.proofs.map.LiveMap.raw_live.Goals as goal
 

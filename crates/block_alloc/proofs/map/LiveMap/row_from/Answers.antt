@@ -1,5 +1,5 @@
 use Rattle.std.proofs.Common.{◌≡◌, ◌<◌, length, false, sym, ◌∙◌, arith}
-use Rattle.block_alloc.specs.LiveMap.{is_live}
+use Rattle.block_alloc.proofs.Common.{is_live}
 use Rattle.block_alloc.proofs.RunLaws.{row-free}
 use Rattle.block_alloc.proofs.map.LiveMap.row_from.Goals as goal
 

@@ -1,9 +1,6 @@
 use Rattle.std.proofs.Common.{◌<◌, ℕ, Bool, List, sym, subst, ◌∙◌, ap}
-use Rattle.std.specs.Prelude.{slice_set, slice_index_or}
-use Rattle.block_alloc.specs.Bytes.{bits_of}
-use Rattle.block_alloc.specs.Rows.{IsMostIn, AreMost}
-use Rattle.block_alloc.proofs.RowLaws.{most-apart}
-use Rattle.block_alloc.specs.LiveMap.{LiveMap}
+use Rattle.block_alloc.proofs.Common.{slice_set, slice_index_or, bits_of, IsBitPut, IsMostIn, AreMost, LiveMap}
+use Rattle.block_alloc.proofs.RowLaws.{most-apart, most-live}
 use Rattle.block_alloc.proofs.BitLaws.{bits-changed, kept-put}
 use Rattle.block_alloc.proofs.map.LiveMap.set.Goals as goal
 
@@ -13,17 +10,25 @@ invariant_of-self c =
     let within : c.args.block < inside.geometry.blocks = rw (ap (λ m. m.geometry.blocks) c.self.view_is) c.requires.inside in (
       c.self.invariant.0,
       kept-put inside.geometry.blocks inside.bytes.items inside.unhidden.items c.put_bit.new.bytes.items seen.new.bytes.items c.args.block inside.free seen.result
-          inside.most.items c.renew_round.new.most.items c.args.bit c.args.unhidden
+          inside.most.items c.renew_set.new.most.items c.args.bit c.args.unhidden
           c.self.invariant.1 within c.requires.live c.put_bit.ensures seen.ensures.put seen.ensures.counted
-          (subst (λ (bytes : List ℕ). AreMost (bits_of bytes inside.geometry.blocks) c.renew_round.new.most.items) c.deref.ensures.value c.renew_round.ensures),
+          (subst (λ (bytes : List ℕ). AreMost (bits_of bytes inside.geometry.blocks) c.renew_set.new.most.items) c.deref.ensures.value c.renew_set.ensures),
     )
 
 -- the rows of groups apart from the block are as before
-pub renew_round-requires-clause-others : goal.renew_round-requires-clause-others
-renew_round-requires-clause-others c = λ group apart.
+pub renew_set-requires-clause-others : goal.renew_set-requires-clause-others
+renew_set-requires-clause-others c = λ group apart.
     let inside = c.self.inside in let seen = c.put_counted-self-inside in let most = slice_index_or inside.most.items group 32 in
     subst (λ (bytes : List ℕ). IsMostIn (bits_of bytes inside.geometry.blocks) group most) (sym c.deref.ensures.value)
     (most-apart inside.unhidden.items seen.new.bytes.items inside.geometry.blocks c.args.block group most c.args.unhidden seen.ensures.put apart (c.self.invariant.1.rows group))
+
+-- a block that became live takes no row's bound away
+pub renew_set-requires-clause-live : goal.renew_set-requires-clause-live
+renew_set-requires-clause-live c = λ live group.
+    let inside = c.self.inside in let seen = c.put_counted-self-inside in let most = slice_index_or inside.most.items group 32 in
+    subst (λ (bytes : List ℕ). IsMostIn (bits_of bytes inside.geometry.blocks) group most) (sym c.deref.ensures.value)
+    (most-live inside.unhidden.items seen.new.bytes.items inside.geometry.blocks c.args.block group most
+    (subst (λ (bit : Bool). IsBitPut inside.unhidden.items seen.new.bytes.items c.args.block bit) live seen.ensures.put) (c.self.invariant.1.rows group))
 
 pub returns : goal.returns
 returns c =

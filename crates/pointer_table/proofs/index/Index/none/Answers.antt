@@ -1,5 +1,5 @@
 use Rattle.std.proofs.Common.{true, [], get_or, sym, ap, ◌∙◌, arith}
-use Rattle.pointer_table.specs.Links.{unset_link}
+use Rattle.pointer_table.proofs.Common.{unset_link}
 use Rattle.pointer_table.proofs.LinkLaws.{get_unset}
 use Rattle.pointer_table.proofs.index.Index.none.Goals as goal
 

@@ -1,5 +1,5 @@
 use Rattle.std.proofs.Common.{length, sym, ◌∙◌}
-use Rattle.pointer_table.specs.Threads.{group}
+use Rattle.pointer_table.proofs.Common.{group}
 use Rattle.pointer_table.proofs.IndexLaws.{no_place, another_place}
 use Rattle.pointer_table.proofs.index.Index.position_of.Goals as goal
 

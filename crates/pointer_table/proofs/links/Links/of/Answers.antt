@@ -1,5 +1,5 @@
 use Rattle.std.proofs.Common.{Bool, length, ap, ◌∙◌, arith}
-use Rattle.pointer_table.specs.Links.{links_of}
+use Rattle.pointer_table.proofs.Common.{links_of}
 use Rattle.pointer_table.proofs.LinkLaws.{length_links, none_set}
 use Rattle.pointer_table.proofs.links.Links.of.Goals as goal
 

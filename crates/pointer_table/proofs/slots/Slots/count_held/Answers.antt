@@ -1,6 +1,5 @@
 use Rattle.std.proofs.Common.{ap, ◌∙◌}
-use Rattle.std.specs.Prelude.{count_by, is_some}
-use Rattle.pointer_table.specs.Raw.{slots_in}
+use Rattle.pointer_table.proofs.Common.{count_by, is_some, slots_in}
 use Rattle.pointer_table.proofs.RawLaws.{count_all}
 use Rattle.pointer_table.proofs.slots.Slots.count_held.Goals as goal
 

@@ -1,5 +1,5 @@
 use Rattle.std.proofs.Common.{length, sym, ap, ◌∙◌, arith}
-use Rattle.pointer_table.specs.Slots.{slot_at}
+use Rattle.pointer_table.proofs.Common.{slot_at}
 use Rattle.pointer_table.proofs.RawLaws.{length_all, none_behind}
 use Rattle.pointer_table.proofs.slots.Slots.end.Goals as goal
 

@@ -1,7 +1,5 @@
 use Rattle.std.proofs.Common.{length, set, sym, ap, ◌∙◌, arith}
-use Rattle.pointer_table.specs.Raw.{slot_in}
-use Rattle.pointer_table.specs.Sectors.{slot_of}
-use Rattle.pointer_table.specs.Slots.{slot_at}
+use Rattle.pointer_table.proofs.Common.{slot_in, slot_of, slot_at}
 use Rattle.pointer_table.proofs.RawLaws.{length_all, none_behind, set_touched, set_again}
 use Rattle.pointer_table.proofs.slots.Slots.set.Goals as goal
 

@@ -1,5 +1,5 @@
 use Rattle.std.proofs.Common.{◌≡◌, ◌≤◌, length, refl, subst, ap, ◌∙◌, arith}
-use Rattle.pointer_table.specs.Table.{Table, pairs, IsTable}
+use Rattle.pointer_table.proofs.Common.{Table, pairs, IsTable}
 use Rattle.pointer_table.proofs.TableLaws.{pairs_with, are_pairs}
 use Rattle.pointer_table.proofs.table.PointerTable.add.Goals as goal
 

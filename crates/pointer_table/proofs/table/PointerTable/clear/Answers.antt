@@ -1,5 +1,5 @@
 use Rattle.std.proofs.Common.{◌≡◌, ◌-◌, Some, None, set, length, ap, ◌∙◌, arith}
-use Rattle.pointer_table.specs.Table.{Table}
+use Rattle.pointer_table.proofs.Common.{Table}
 use Rattle.pointer_table.proofs.ChangeLaws.{Kept, emptied, some_held, change_after, stored_after}
 use Rattle.pointer_table.proofs.SlotLaws.{some_inside}
 use Rattle.pointer_table.proofs.table.PointerTable.clear.Goals as goal

@@ -1,6 +1,5 @@
 use Rattle.std.proofs.Common.{ap, ◌∙◌}
-use Rattle.tsd_model.specs.Pairs.{holds}
-use Rattle.pointer_table.specs.Table.{pairs}
+use Rattle.pointer_table.proofs.Common.{holds, pairs}
 use Rattle.pointer_table.proofs.ChangeLaws.{has_is}
 use Rattle.pointer_table.proofs.table.PointerTable.has.Goals as goal
 

@@ -1,5 +1,5 @@
 use Rattle.std.proofs.Common.{subst}
-use Rattle.pointer_table.specs.Table.{ArePairs}
+use Rattle.pointer_table.proofs.Common.{ArePairs}
 use Rattle.pointer_table.proofs.TableLaws.{are_pairs}
 use Rattle.pointer_table.proofs.table.PointerTable.len.Goals as goal
 

@@ -1,6 +1,5 @@
 use Rattle.std.proofs.Common.{ℕ, List, subst, ap}
-use Rattle.tsd_model.specs.Next.{IsNextTarget}
-use Rattle.pointer_table.specs.Table.{pairs}
+use Rattle.pointer_table.proofs.Common.{IsNextTarget, pairs}
 use Rattle.pointer_table.proofs.table.PointerTable.next_target.Goals as goal
 
 pub returns : goal.returns

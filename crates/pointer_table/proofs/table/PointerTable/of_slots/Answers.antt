@@ -1,8 +1,5 @@
 use Rattle.std.proofs.Common.{◌≡◌, ℕ, None, sym, subst, ◌∙◌}
-use Rattle.std.specs.Prelude.{count_by, is_some}
-use Rattle.pointer_table.specs.Empties.{AreEmpties}
-use Rattle.pointer_table.specs.Repeats.{IsLeastOfAll}
-use Rattle.pointer_table.specs.Table.{IsTable}
+use Rattle.pointer_table.proofs.Common.{count_by, is_some, AreEmpties, IsLeastOfAll, IsTable}
 use Rattle.pointer_table.proofs.SlotLaws.{length-pairs_in}
 use Rattle.pointer_table.proofs.TableLaws.{made}
 use Rattle.pointer_table.proofs.table.PointerTable.of_slots.Goals as goal

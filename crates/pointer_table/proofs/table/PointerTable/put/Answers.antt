@@ -1,7 +1,5 @@
 use Rattle.std.proofs.Common.{◌≡◌, ◌+◌, Some, None, set, length, sym, ap, ◌∙◌, arith}
-use Rattle.tsd_model.specs.Pairs.{holds}
-use Rattle.pointer_table.specs.Slots.{slot_at}
-use Rattle.pointer_table.specs.Table.{Table, pairs}
+use Rattle.pointer_table.proofs.Common.{holds, slot_at, Table, pairs}
 use Rattle.pointer_table.proofs.ChangeLaws.{Kept, absent_slots, put_kept, next_empty, change_after, stored_after}
 use Rattle.pointer_table.proofs.table.PointerTable.put.Goals as goal
 

@@ -1,8 +1,5 @@
 use Rattle.std.proofs.Common.{◌≡◌, Some, sym, subst, ap, ◌∙◌}
-use Rattle.std.proofs.lemmas.Bool.{both_ways}
-use Rattle.tsd_model.specs.Pairs.{holds}
-use Rattle.pointer_table.specs.Slots.{slot_at}
-use Rattle.pointer_table.specs.Table.{Table, pairs, IsTable}
+use Rattle.pointer_table.proofs.Common.{both_ways, holds, slot_at, Table, pairs, IsTable}
 use Rattle.pointer_table.proofs.SlotLaws.{holds_from_slot}
 use Rattle.pointer_table.proofs.TableLaws.{pairs_without}
 use Rattle.pointer_table.proofs.table.PointerTable.remove.Goals as goal

@@ -1,5 +1,5 @@
 use Rattle.std.proofs.Common.{arith}
-use Rattle.pointer_table.specs.Table.{Table}
+use Rattle.pointer_table.proofs.Common.{Table}
 use Rattle.pointer_table.proofs.TableLaws.{are_pairs}
 use Rattle.pointer_table.proofs.table.PointerTable.targets_from.Goals as goal
 

@@ -1,6 +1,5 @@
 use Rattle.std.proofs.Common.{length, ◌∙◌}
-use Rattle.pointer_table.specs.Slots.{slot_at}
-use Rattle.pointer_table.specs.Threads.{group, link_after}
+use Rattle.pointer_table.proofs.Common.{slot_at, group, link_after}
 use Rattle.pointer_table.proofs.ThreadLaws.{put_fields, put_others, heads_as_many, next_as_many_put}
 use Rattle.pointer_table.proofs.threads.Threads.add.Goals as goal
 

@@ -1,6 +1,5 @@
 use Rattle.std.proofs.Common.{get_or, ap, ◌∙◌, arith, refl, None}
-use Rattle.std.proofs.lemmas.List.{get_or-set_other}
-use Rattle.pointer_table.specs.Threads.{rank, link_after}
+use Rattle.pointer_table.proofs.Common.{get_or-set_other, rank, link_after}
 use Rattle.pointer_table.proofs.ThreadLaws.{put_fields, heads_as_many, next_as_many_put}
 use Rattle.pointer_table.proofs.threads.Threads.add_first.Goals as goal
 

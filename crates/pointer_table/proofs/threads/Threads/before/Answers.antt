@@ -1,6 +1,5 @@
 use Rattle.std.proofs.Common.{length, sym, ◌∙◌}
-use Rattle.pointer_table.specs.Slots.{slot_at}
-use Rattle.pointer_table.specs.Threads.{group}
+use Rattle.pointer_table.proofs.Common.{slot_at, group}
 use Rattle.pointer_table.proofs.ThreadLaws.{step_near, stop_at_slot}
 use Rattle.pointer_table.proofs.threads.Threads.before.Goals as goal
 

@@ -1,6 +1,5 @@
 use Rattle.std.proofs.Common.{◌≡◌, ◌-◌, length}
-use Rattle.pointer_table.specs.Slots.{slot_at}
-use Rattle.pointer_table.specs.Threads.{group, link_after, IsNear}
+use Rattle.pointer_table.proofs.Common.{slot_at, group, link_after, IsNear}
 use Rattle.pointer_table.proofs.ThreadLaws.{from_of}
 use Rattle.pointer_table.proofs.threads.Threads.before.Given as goal
 

@@ -1,6 +1,5 @@
 use Rattle.std.proofs.Common.{length, subst, ap, sym, ◌∙◌}
-use Rattle.pointer_table.specs.Slots.{slot_at}
-use Rattle.pointer_table.specs.Threads.{group, linked, IsFirstThatFar}
+use Rattle.pointer_table.proofs.Common.{slot_at, group, linked, IsFirstThatFar}
 use Rattle.pointer_table.proofs.ThreadLaws.{leads_there}
 use Rattle.pointer_table.proofs.threads.Threads.first.Goals as goal
 

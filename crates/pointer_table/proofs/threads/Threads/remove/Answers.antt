@@ -1,6 +1,5 @@
 use Rattle.std.proofs.Common.{length, ◌∙◌}
-use Rattle.pointer_table.specs.Slots.{slot_at}
-use Rattle.pointer_table.specs.Threads.{group}
+use Rattle.pointer_table.proofs.Common.{slot_at, group}
 use Rattle.pointer_table.proofs.ThreadLaws.{cut_fields, cut_others, heads_as_many, next_as_many}
 use Rattle.pointer_table.proofs.threads.Threads.remove.Goals as goal
 
