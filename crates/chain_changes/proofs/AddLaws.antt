@@ -1,41 +1,8 @@
 -- The cluster of the directory with the entry of a new file, of a new name or in place of an old one: what its write leaves.
 use Rattle.std.proofs.Common.{◌≡◌, ℕ, suc, ◌+◌, ◌^◌, ◌<◌, ◌≤◌, true, ◌==◌, nat_lt, List, [], ◌∷◌, ◌++◌, length, length-append, append-nil, refl, sym, ◌∙◌, ap, subst, arith, inl, inr, Option, Some, None}
-use Rattle.std.proofs.lemmas.Bool.{and_from, and_parts, eq-eqb, eqb-true}
-use Rattle.std.proofs.lemmas.Bool.Decides.{nat_tests}
-use Rattle.std.specs.Prelude.{slice_index_or}
-use Rattle.tsd_model.specs.Geometry.{block_len}
-use Rattle.tsd_model.specs.World.{World, has_number, are_apart}
-use Rattle.tsd_model.specs.Pairs.{holds, is_pair}
-use Rattle.tsd_model.specs.Step.{filled, written}
-use Rattle.fs_trees.specs.Names.{Name, is_name}
-use Rattle.fs_trees.specs.Tree.{a_file, with_at}
-use Rattle.fs_trees.specs.Fields.{Entry, all_named}
-use Rattle.fs_trees.specs.Cluster.{entries_room, entries_of, directory_bytes}
-use Rattle.fs_trees.specs.Needs.{clusters_for}
-use Rattle.fs_trees.specs.ChainTree.{blocks_of, links, ChainFile, Chains, chain_blocks, names_max, chain_tree}
+use Rattle.chain_changes.proofs.Common.{and_from, and_parts, eq-eqb, eqb-true, nat_tests, slice_index_or, block_len, World, has_number, are_apart, holds, is_pair, filled, written, Name, is_name, a_file, with_at, Entry, all_named, entries_room, entries_of, directory_bytes, clusters_for, blocks_of, links, ChainFile, Chains, chain_blocks, names_max, chain_tree, FsRefusal, number_left, number_right, first_in, held_left, held_right, held_append, times, times-append, apart_times, DiskView, Client, write_by, Leads, no_room_in, refused_on, cluster_of, block_len_of, dir_cluster, entries_in, entry_blocks, HaveFourBytes, IsFrom, AreOthers, file_blocks, file_pairs, file_names, relinked, IsNewFile, FileAdded, FileSet, blocks-append, entry_is_added, entry_is_set, AreLinkable, NewFile, Page, mounted_by, page_link, IsEntry}
 use Rattle.fs_trees.specs.declared.ask.ShellAsk.TheVariants as ask
-use Rattle.fs_trees.specs.declared.refusal.FsRefusal.{FsRefusal}
-use Rattle.fs_laws.proofs.ListLaws.{number_left, number_right, first_in, held_left, held_right, held_append}
-use Rattle.fs_laws.proofs.CountLaws.{times, times-append, apart_times}
-use Rattle.fs_port.specs.View.{DiskView}
-use Rattle.fs_client.specs.declared.client.Client.{Client}
-use Rattle.fs_client.specs.Client.{write_by}
-use Rattle.fs_client.specs.Steps.{Leads, no_room_in}
-use Rattle.fs_client.specs.Changing.{refused_on}
-use Rattle.chain_layout.specs.Block.{cluster_of, block_len_of}
-use Rattle.chain_layout.specs.Held.{dir_cluster, entries_in}
-use Rattle.chain_layout.specs.Listed.{entry_blocks}
-use Rattle.chain_layout.specs.ReadsBack.{HaveFourBytes}
-use Rattle.chain_reading.specs.Chained.{IsFrom, AreOthers}
-use Rattle.chain_reading.specs.Changed.{file_blocks, file_pairs, file_names, relinked}
-use Rattle.chain_reading.specs.Decided.{IsNewFile, FileAdded, FileSet}
-use Rattle.chain_reading.proofs.ChangeLaws.{blocks-append}
-use Rattle.chain_reading.proofs.DecidedLaws.{entry_is_added, entry_is_set}
-use Rattle.chain_changes.specs.Filling.{AreLinkable, NewFile}
 use Rattle.chain_changes.proofs.MakingLaws.{primary_now, link_held}
-use Rattle.chain_reading.specs.declared.walking.Page.{Page}
-use Rattle.chain_reading.specs.Asking.{mounted_by}
-use Rattle.chain_reading.specs.Finding.{page_link, IsEntry}
 use Rattle.chain_changes.proofs.EntryLaws.{ReadsAs, directory_read, directory_fits, named_parts, named_both, small_parts, small_both, page_entries, page_all_named, page_linked, page_sized, page_small}
 use Rattle.chain_changes.proofs.ExchangeLaws.{old_gone, named_before, still_named}
 use Rattle.chain_changes.proofs.RemoveLaws.{same_blocks, file_first, file_has_first, file_pair}

@@ -1,38 +1,13 @@
 -- The world once a change is decided, and after the last pair that it leaves behind is let go of.
 use Rattle.std.proofs.Common.{◌≡◌, ℕ, ◌<◌, Bool, true, false, refl, sym, ◌∙◌, ap, subst, inl, inr, ◌⊎◌, Option, Some, None, Result, Ok}
-use Rattle.std.specs.Prelude.{IfErr}
-use Rattle.tsd_model.specs.World.{World, is_live, is_free, free_count, has_number}
-use Rattle.tsd_model.specs.Pairs.{holds, is_pair}
-use Rattle.tsd_model.specs.Valid.{IsValid}
-use Rattle.fs_trees.specs.Tree.{is_there}
-use Rattle.fs_trees.specs.ChainTree.{Chains, chain_blocks, chain_pairs, chains_under, as_tree, chain_tree}
-use Rattle.fs_trees.specs.Answer.{done}
-use Rattle.fs_trees.specs.Layouts.{Named, by_chains, named_at, IsTidy}
-use Rattle.fs_trees.specs.Outside.{OthersStay}
+use Rattle.chain_changes.proofs.Common.{IfErr, World, is_live, is_free, free_count, has_number, holds, is_pair, IsValid, is_there, Chains, chain_blocks, chain_pairs, chains_under, as_tree, chain_tree, done, Named, by_chains, named_at, IsTidy, OthersStay, ShellAsk, FsRefusal, IsUnder, outside_twice, named_is_under, read_from_named, DiskView, IsValidNow, Answers, IsEitherTree, LeavesTidyWorld, tree_on, Client, unlink_by, Went, Steps, dropped, refused_on, Runs, ask_done, after_is, runs_more, is_tidy, mounted_by}
 use Rattle.fs_trees.specs.Step.{change}
-use Rattle.fs_trees.specs.declared.ask.ShellAsk.{ShellAsk}
 use Rattle.fs_trees.specs.declared.ask.ShellKind.TheVariants as kind
-use Rattle.fs_trees.specs.declared.refusal.FsRefusal.{FsRefusal}
 use Rattle.fs_trees.specs.declared.refusal.FsRefusal.TheVariants as no
-use Rattle.fs_laws.specs.Stays.{IsUnder}
-use Rattle.fs_laws.proofs.OutsideLaws.{outside_twice}
-use Rattle.fs_laws.proofs.TreeLaws.{named_is_under, read_from_named}
-use Rattle.fs_port.specs.View.{DiskView}
-use Rattle.fs_port.specs.Calls.{IsValidNow}
-use Rattle.fs_port.specs.Files.{Answers, IsEitherTree, LeavesTidyWorld, tree_on}
-use Rattle.fs_client.specs.declared.client.Client.{Client}
-use Rattle.fs_client.specs.Client.{unlink_by}
-use Rattle.fs_client.specs.Steps.{Went, Steps, dropped}
-use Rattle.fs_client.specs.Changing.{refused_on}
-use Rattle.fs_port.specs.Runs.{Runs}
 use Rattle.fs_client.specs.Trimming.{IsTrim}
-use Rattle.fs_client.proofs.AskLaws.{ask_done, after_is}
-use Rattle.fs_client.proofs.RunLaws.{runs_more}
 use Rattle.fs_client.proofs.DropLaws.{other_pair}
 use Rattle.fs_client.proofs.TrimLaws.{freed, trimmed_by_step, trims_by_step}
-use Rattle.fs_client.proofs.TidyLaws.{is_tidy}
 use Rattle.fs_client.proofs.TargetLaws.{target_named, chain_targets}
-use Rattle.chain_reading.specs.Asking.{mounted_by}
 
 clash : (t : Bool) → t ≡ true → t ≡ false → ⊥
 clash t p q = cc

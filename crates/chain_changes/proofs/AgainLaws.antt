@@ -1,15 +1,6 @@
 -- A call that begins where others only looked before.
 use Rattle.std.proofs.Common.{◌≡◌, ℕ, List, ◌∙◌, ap, Ok}
-use Rattle.fs_trees.specs.Tree.{is_there}
-use Rattle.fs_trees.specs.ChainTree.{chains_under, chain_tree}
-use Rattle.fs_port.specs.View.{DiskView}
-use Rattle.fs_client.specs.declared.client.Client.{Client}
-use Rattle.fs_client.specs.May.{OnlyLooks}
-use Rattle.fs_client.proofs.RunLaws.{ready_still}
-use Rattle.chain_reading.specs.declared.walking.Part.{Part}
-use Rattle.chain_reading.specs.Asking.{MayAsk, mounted_by}
-use Rattle.chain_reading.specs.Finding.{IsFileOf}
-use Rattle.chain_changes.specs.Growing.{IsLastCluster, IsLastOf}
+use Rattle.chain_changes.proofs.Common.{is_there, chains_under, chain_tree, DiskView, Client, OnlyLooks, ready_still, Part, MayAsk, mounted_by, IsFileOf, IsLastCluster, IsLastOf}
 
 -- the client may ask still
 pub may_ask_again : {X : Type 0} (told : Type 0) (c : Client) (first rd : DiskView) (x : X) → OnlyLooks told first rd (Ok x) → MayAsk told c first → MayAsk told c rd

@@ -1,12 +1,6 @@
 -- One file among others of the chains under a root: its blocks and its pairs.
 use Rattle.std.proofs.Common.{◌≡◌, ℕ, true, ◌==◌, List, [], ◌∷◌, ◌++◌, refl, sym, ◌∙◌, ap, inl, inr, ◌⊎◌}
-use Rattle.std.proofs.lemmas.Bool.{and_from, or_cases, or_left, or_right, eq-eqb}
-use Rattle.tsd_model.specs.World.{has_number}
-use Rattle.tsd_model.specs.Pairs.{holds, is_pair}
-use Rattle.fs_trees.specs.ChainTree.{Link, blocks_of, links, ChainFile, Chains, chain_blocks, chain_pairs}
-use Rattle.fs_laws.proofs.ListLaws.{number_left, number_right, in_append, held_left, held_right, held_append}
-use Rattle.chain_reading.specs.Changed.{file_blocks, file_pairs}
-use Rattle.chain_reading.proofs.ChangeLaws.{file_blocks-append, file_pairs-append}
+use Rattle.chain_changes.proofs.Common.{and_from, or_cases, or_left, or_right, eq-eqb, has_number, holds, is_pair, Link, blocks_of, links, ChainFile, Chains, chain_blocks, chain_pairs, number_left, number_right, in_append, held_left, held_right, held_append, file_blocks, file_pairs, file_blocks-append, file_pairs-append}
 
 module _ (ds : List Link) (fs : List ChainFile) (f : ChainFile) (gs : List ChainFile) where
   abbrev whole : Chains

@@ -1,25 +1,8 @@
 -- An append of no bytes.
 use Rattle.std.proofs.Common.{◌≡◌, ℕ, ◌+◌, ◌-◌, ◌<◌, true, List, [], ◌∷◌, ◌++◌, length, refl, sym, ◌∙◌, ap, subst, arith, append-nil, Option, Some, None}
-use Rattle.tsd_model.specs.World.{free_count}
-use Rattle.tsd_model.specs.Valid.{IsValid}
-use Rattle.fs_trees.specs.Names.{Path, are_distinct}
-use Rattle.fs_trees.specs.Tree.{a_file, a_dir, at, is_there, bytes_in, with_at, with_entry}
-use Rattle.fs_trees.specs.ChainTree.{chain_bytes, as_tree, tree_of_files, chain_tree}
-use Rattle.fs_trees.specs.Needs.{clusters_for, need_of}
-use Rattle.fs_trees.specs.Refusals.{first_of, lost_on_the_way}
+use Rattle.chain_changes.proofs.Common.{free_count, IsValid, Path, are_distinct, a_file, a_dir, at, is_there, bytes_in, with_at, with_entry, chain_bytes, as_tree, tree_of_files, chain_tree, clusters_for, need_of, first_of, lost_on_the_way, FsRefusal, DiskView, Client, no_room_in, refused_on, room_there, file_names, has_chains, right_is, distinct_parts, tree_set, tree_under, mounted_by, IsFileOf, no_file_found}
 use Rattle.fs_trees.specs.declared.ask.ShellAsk.TheVariants as ask
 use Rattle.fs_trees.specs.declared.ask.ShellKind.TheVariants as kind
-use Rattle.fs_trees.specs.declared.refusal.FsRefusal.{FsRefusal}
-use Rattle.fs_port.specs.View.{DiskView}
-use Rattle.fs_client.specs.declared.client.Client.{Client}
-use Rattle.fs_client.specs.Steps.{no_room_in}
-use Rattle.fs_client.specs.Changing.{refused_on}
-use Rattle.fs_client.proofs.RoomLaws.{room_there}
-use Rattle.chain_reading.specs.Changed.{file_names}
-use Rattle.chain_reading.proofs.ChangeLaws.{has_chains, right_is}
-use Rattle.chain_reading.proofs.FileLaws.{distinct_parts, tree_set}
-use Rattle.chain_reading.specs.Asking.{tree_under, mounted_by}
-use Rattle.chain_reading.specs.Finding.{IsFileOf, no_file_found}
 use Rattle.chain_changes.proofs.RemoveLaws.{names_between}
 use Rattle.chain_changes.proofs.GrowthLaws.{append_refused}
 

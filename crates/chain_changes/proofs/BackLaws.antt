@@ -1,22 +1,10 @@
 -- A chain in the making is given up: with the pointer to its first block all of it goes, and the world is as it was.
 use Rattle.std.proofs.Common.{◌≡◌, ℕ, ◌<◌, ◌≤◌, Bool, true, false, not, cond, ◌&&◌, ◌||◌, ◌==◌, nat_lt, List, [], ◌∷◌, length, refl, sym, ◌∙◌, ap, subst, inl, inr, arith, Option, Some, None}
-use Rattle.std.proofs.lemmas.Bool.{and_parts, and_from, or_cases, or_left, or_right, eq-eqb, eqb-true, not-true, ltb-false, false_from_ne_true}
-use Rattle.std.specs.Prelude.{is_some, is_none, slice_index_or}
-use Rattle.tsd_model.specs.World.{World, contents, is_live, is_free, is_primary, has_number, are_apart}
-use Rattle.tsd_model.specs.Pairs.{holds, is_pair}
+use Rattle.chain_changes.proofs.Common.{and_parts, and_from, or_cases, or_left, or_right, eq-eqb, eqb-true, not-true, ltb-false, false_from_ne_true, is_some, is_none, slice_index_or, World, contents, is_live, is_free, is_primary, has_number, are_apart, holds, is_pair, IsValid, without_pointer, holds-filter, is_rising-filter, free_may, not_primary, links, dropped, clash_free_live, Making}
 use Rattle.tsd_model.specs.Doomed.{doomed}
-use Rattle.tsd_model.specs.Valid.{IsValid}
-use Rattle.tsd_model.specs.Step.{without_pointer}
-use Rattle.tsd_model.proofs.PairLaws.{holds-filter, is_rising-filter}
-use Rattle.disk_laws.proofs.ChangeLaws.{free_may}
-use Rattle.disk_laws.proofs.DoomLaws.{not_primary}
 use Rattle.graph_laws.specs.Counts.{stays}
 use Rattle.graph_laws.proofs.DoomedLaws.{doomed_least, doomed_from}
 use Rattle.graph_laws.proofs.SettleLaws.{settle_same, valid_is_settled, none_doomed}
-use Rattle.fs_trees.specs.ChainTree.{links}
-use Rattle.fs_client.specs.Steps.{dropped}
-use Rattle.fs_client.proofs.RunLaws.{clash_free_live}
-use Rattle.chain_changes.specs.Making.{Making}
 use Rattle.chain_changes.proofs.LinkLaws.{link_target, link_source}
 
 clash : (t : Bool) → t ≡ true → t ≡ false → ⊥

@@ -1,38 +1,13 @@
 -- The calls that make the blocks of a chain.
 use Rattle.std.proofs.Common.{◌≡◌, ◌≢◌, ℕ, ◌+◌, ◌-◌, ◌^◌, ◌<◌, ◌≤◌, true, false, ◌==◌, List, [], ◌∷◌, ◌++◌, length, length-append, refl, sym, ◌∙◌, ap, subst, arith, inl, inr, ◌⊎◌, Option, Some, None, Result, Ok, Err}
-use Rattle.std.proofs.lemmas.Bool.{and_from, or_cases, or_left, or_right, eq-eqb, eqb-true, false_from_ne_true}
-use Rattle.std.specs.Prelude.{slice_index_or}
-use Rattle.tsd_model.specs.World.{World, is_live, is_free, free_count, has_number}
-use Rattle.tsd_model.specs.Pairs.{holds, is_pair}
-use Rattle.tsd_model.specs.Placing.{chosen}
+use Rattle.chain_changes.proofs.Common.{and_from, or_cases, or_left, or_right, eq-eqb, eqb-true, false_from_ne_true, slice_index_or, World, is_live, is_free, free_count, has_number, holds, is_pair, chosen, zeros, with_new_blocks, IsValid, length-with_new_pair, free_may, live-new_blocks, holds-new_blocks, FsRefusal, attains_write, DiskView, state_of, IsValidNow, Client, shown_at, unlink_by, alloc_by, MayWrite, OnlyLooks, may_again, Leads, Steps, taken, dropped, no_room_in, Runs, runs_look, runs_step, runs_more, then_runs, runs_as, clash_free_live, others_same, chosen_free, chosen_enough, lives_new, holds_new, version_new, records_new, room_there, there_is_room, may_after, Stage, Making, IsAside, AreLinkable, NewChain, IsInMaking, AsideOf}
 use Rattle.tsd_model.specs.Sessions.{is_open}
-use Rattle.tsd_model.specs.Step.{zeros, with_new_blocks}
-use Rattle.tsd_model.specs.Valid.{IsValid}
 use Rattle.tsd_model.specs.declared.requests.Hint.TheVariants.{At}
 use Rattle.tsd_model.specs.declared.requests.Request.{Request}
-use Rattle.tsd_model.proofs.PairLaws.{length-with_new_pair}
-use Rattle.disk_laws.proofs.ChangeLaws.{free_may}
-use Rattle.disk_laws.proofs.StayLaws.{live-new_blocks, holds-new_blocks}
-use Rattle.fs_trees.specs.declared.refusal.FsRefusal.{FsRefusal}
 use Rattle.fs_trees.specs.declared.refusal.FsRefusal.TheVariants as no
-use Rattle.fs_laws.specs.Ways.{attains_write}
 use Rattle.fs_laws.proofs.WayLaws.{ways_lead_on}
-use Rattle.fs_port.specs.View.{DiskView, state_of}
-use Rattle.fs_port.specs.Calls.{IsValidNow}
-use Rattle.fs_client.specs.declared.client.Client.{Client}
-use Rattle.fs_client.specs.Client.{shown_at, unlink_by, alloc_by}
 use Rattle.fs_client.specs.Leftovers.{refusal_before}
-use Rattle.fs_client.specs.May.{MayWrite, OnlyLooks}
-use Rattle.fs_client.proofs.LookLaws.{may_again}
-use Rattle.fs_client.specs.Steps.{Leads, Steps, taken, dropped, no_room_in}
-use Rattle.fs_port.specs.Runs.{Runs}
-use Rattle.fs_client.proofs.RunLaws.{runs_look, runs_step, then_runs, runs_as, clash_free_live, others_same}
-use Rattle.fs_client.proofs.NewLaws.{chosen_free, chosen_enough, lives_new, holds_new, version_new, records_new}
-use Rattle.fs_client.proofs.RoomLaws.{room_there, there_is_room}
 use Rattle.fs_client.proofs.NeedLaws.{free_count_new, pairs_want, wanted_pairs}
-use Rattle.fs_client.proofs.MayLaws.{may_after}
-use Rattle.chain_changes.specs.Making.{Stage, Making, IsAside}
-use Rattle.chain_changes.specs.Filling.{AreLinkable, NewChain, IsInMaking, AsideOf}
 use Rattle.chain_changes.proofs.LinkLaws.{last_of, last_more, in_more, along_last}
 use Rattle.chain_changes.proofs.MakingLaws.{making_begins, aside_now, making_grows}
 use Rattle.chain_changes.proofs.BackLaws.{is_back}
@@ -282,3 +257,30 @@ module _ (told : Type 0) (c : Client) (first now new : DiskView) (source count m
       let pairs = h.pairs t in
       let slots : now.world.geometry.slots ≡ first.world.geometry.slots = ap (λ g. g.slots) (h.chain t).making.geometry in
       room_there first.world count count (h.enough t) (omega (arith, most, pairs, slots, all))
+
+-- A rule refuses a further block. What was made so far is in the making still, and as many as are wanted have no room.
+pub record Stopped (told : Type 0) (c : Client) (first new : DiskView) (source count made : ℕ) (blocks : List ℕ) (e : FsRefusal) : Type 0 where
+  pub ne : e ≢ no.Device
+  pub so_far : Runs {X = Unit {0}} told first new (IsAside c.root first.world) (Ok tt)
+  pub stage : told → Stage c.root first.world source
+  pub making : told → Making c.root first.world source blocks new.world
+  pub may : told → MayWrite c new source
+  pub full : told → no_room_in first.world count count ≡ Some (refusal_before e made)
+
+pub stopped_so : {X : Type 0} {told : Type 0} {c : Client} {first now new : DiskView} {source count made above : ℕ} {blocks same : List ℕ} {e : FsRefusal} → Chaining told c first now source count made above blocks → (told → Stage c.root first.world source)
+    → (told → MayWrite c first source) → made < count → e ≢ no.Device → Steps {X = X} told c now new (alloc_by c above 1) above (taken now above 1) (Err e) → (told → no_room_in now.world 1 1 ≡ Some e) → same ≡ blocks → Stopped told c first new source count made same e
+stopped_so {told = told} {c = c} {first = first} {now = now} {new = new} {source = source} {count = count} {made = made} {above = above} {blocks = blocks} {e = e} h at may few ne steps full own = record {
+  ne = ne;
+  so_far = runs_refused_so told c first now new source count made above blocks h at few e ne steps;
+  stage = at;
+  making = λ t. subst (λ bs. Making c.root first.world source bs new.world) (sym own) (making_still told c first now new source count made above blocks h at few e ne steps t);
+  may = λ t. source_may told c first now new source count made above blocks h at few e ne steps t (may t);
+  full = λ t. refused_before told c first now new source count made above blocks h at few t e (full t);
+}
+
+-- then they are let go of
+pub given_up : {told : Type 0} {c : Client} {first new : DiskView} {source count made : ℕ} {blocks : List ℕ} {e : FsRefusal} → Stopped told c first new source count made blocks e
+    → (fin : DiskView) (result : Result (Unit {0}) FsRefusal) → Runs told new fin (AsideOf c.root source blocks new.world) result → Runs told first fin (IsAside c.root first.world) result
+given_up {told = told} {c = c} {first = first} {new = new} {source = source} {blocks = blocks} s fin result runs =
+    then_runs told first new fin (IsAside c.root first.world) tt result s.so_far
+    (runs_more told new fin (AsideOf c.root source blocks new.world) (IsAside c.root first.world) result (λ t w aside. aside first.world (s.stage t) (s.making t)) runs)

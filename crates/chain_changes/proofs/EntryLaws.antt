@@ -1,35 +1,7 @@
 -- A cluster of the directory, as it stands and as it is written.
 use Rattle.std.proofs.Common.{◌≡◌, ℕ, ◌+◌, ◌*◌, ◌-◌, ◌^◌, ◌<◌, ◌≤◌, true, false, not, ◌&&◌, nat_lt, nat_le, Bool, inl, inr, ◌⊎◌, List, [], ◌∷◌, ◌++◌, length, refl, sym, ◌∙◌, ap, subst, arith, length-append, Option, Some, None}
-use Rattle.std.proofs.lemmas.Bool.{and_parts, and_from, leb-true}
-use Rattle.std.proofs.lemmas.Bool.Decides.{nat_tests}
-use Rattle.std.proofs.lemmas.List.{length-replicate}
-use Rattle.std.specs.Prelude.{flat_map, replicate, is_some}
-use Rattle.std.specs.Option.{option_and_then}
-use Rattle.std.specs.List.{list_all}
-use Rattle.tsd_model.specs.Geometry.{block_len}
-use Rattle.tsd_model.specs.World.{World, contents, is_live, has_number}
-use Rattle.tsd_model.specs.Valid.{IsValid}
-use Rattle.tsd_model.specs.Step.{filled}
-use Rattle.disk_laws.proofs.DoomLaws.{live_below}
-use Rattle.fs_trees.specs.Names.{Name, name_max, is_name_byte, is_reserved, is_name}
-use Rattle.fs_trees.specs.Fields.{only_if, Entry, entries, entry_bytes, all_named}
-use Rattle.fs_trees.specs.Cluster.{Cluster, cluster_in, link_field, entries_room, entries_of, directory_bytes}
-use Rattle.fs_trees.specs.ChainTree.{Link, cluster_at, blocks_of, ChainFile, Chains, chain_blocks, chains_under}
-use Rattle.fs_fields.proofs.WrittenLaws.{length-entries}
-use Rattle.fs_laws.proofs.ListLaws.{number_left, number_right, first_in}
-use Rattle.chain_layout.specs.Block.{cluster_of}
-use Rattle.chain_layout.specs.Held.{entries_in}
+use Rattle.chain_changes.proofs.Common.{and_parts, and_from, leb-true, nat_tests, length-replicate, flat_map, replicate, is_some, option_and_then, list_all, block_len, World, contents, is_live, has_number, IsValid, filled, live_below, Name, name_max, is_name_byte, is_reserved, is_name, only_if, Entry, entries, entry_bytes, all_named, Cluster, cluster_in, link_field, entries_room, entries_of, directory_bytes, Link, cluster_at, blocks_of, ChainFile, Chains, chain_blocks, chains_under, length-entries, number_left, number_right, first_in, cluster_of, entries_in, entry_blocks, HaveFourBytes, head_back, entries_back, IsFrom, placed, AreFiles, AreEntries, files_split, entries_split, HasChains, has_chains, blocks-append, Page, IsPage, page_link, own_entries}
 use Rattle.chain_layout.specs.Held as held
-use Rattle.chain_layout.specs.Listed.{entry_blocks}
-use Rattle.chain_layout.specs.ReadsBack.{HaveFourBytes}
-use Rattle.chain_layout.proofs.BackLaws.{head_back, entries_back}
-use Rattle.chain_reading.specs.Chained.{IsFrom, placed, AreFiles, AreEntries}
-use Rattle.chain_reading.proofs.ChainedLaws.{files_split, entries_split}
-use Rattle.chain_reading.proofs.ChangeLaws.{HasChains, has_chains, blocks-append}
-use Rattle.chain_reading.specs.declared.walking.Page.{Page}
-use Rattle.chain_reading.specs.Standing.{IsPage}
-use Rattle.chain_reading.specs.Finding.{page_link}
-use Rattle.chain_reading.proofs.ListLaws.{own_entries}
 
 -- ---- how long its bytes are
 

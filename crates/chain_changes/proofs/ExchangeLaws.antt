@@ -1,13 +1,6 @@
 -- Chains of which one file is exchanged for others, or for none: what isn't named any more, and which pairs still are.
 use Rattle.std.proofs.Common.{◌≡◌, ℕ, zero, suc, ◌+◌, ◌≤◌, Bool, true, false, ◌==◌, List, [], ◌∷◌, ◌++◌, sym, ◌∙◌, ap, arith, inl, inr, ◌⊎◌, refl, append-nil}
-use Rattle.std.proofs.lemmas.Bool.{or_cases, or_left, or_right, and_parts}
-use Rattle.tsd_model.specs.World.{has_number}
-use Rattle.tsd_model.specs.Pairs.{holds, is_pair}
-use Rattle.fs_trees.specs.ChainTree.{blocks_of, links, ChainFile, Chains, chain_blocks, chain_pairs}
-use Rattle.fs_laws.proofs.ListLaws.{held_left, held_right, held_append}
-use Rattle.fs_laws.proofs.CountLaws.{times, times-append, times_none, none_times}
-use Rattle.chain_reading.specs.Changed.{file_blocks, file_pairs}
-use Rattle.chain_reading.proofs.ChangeLaws.{times_three, held_three, first_held, last_held}
+use Rattle.chain_changes.proofs.Common.{or_cases, or_left, or_right, and_parts, has_number, holds, is_pair, blocks_of, links, ChainFile, Chains, chain_blocks, chain_pairs, held_left, held_right, held_append, times, times-append, times_none, none_times, file_blocks, file_pairs, times_three, held_three, first_held, last_held}
 
 clash : (t : Bool) → t ≡ true → t ≡ false → ⊥
 clash t p q = cc

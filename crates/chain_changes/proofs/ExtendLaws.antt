@@ -1,51 +1,14 @@
 -- A new cluster of the directory, with the entry of a new file: it is made, and then the last cluster leads to it, which decides.
 use Rattle.std.proofs.Common.{◌≡◌, ℕ, ◌+◌, ◌^◌, ◌<◌, ◌≤◌, Bool, true, false, not, ◌==◌, nat_lt, List, [], ◌∷◌, ◌++◌, length, append-nil, append_assoc, refl, sym, ◌∙◌, ap, subst, arith, inl, inr, ◌⊎◌, Option, Some, None}
-use Rattle.std.proofs.lemmas.Bool.{and_from, and_parts, or_cases, or_left, or_right, eq-eqb, eqb-true, not-true}
-use Rattle.std.specs.Prelude.{drop, slice_index_or}
-use Rattle.std.specs.Option.{option_and_then}
-use Rattle.tsd_model.specs.Geometry.{block_len}
-use Rattle.tsd_model.specs.World.{World, has_number, are_apart}
-use Rattle.tsd_model.specs.Pairs.{holds, is_pair}
-use Rattle.tsd_model.specs.Step.{filled, written}
-use Rattle.disk_laws.proofs.ChangeLaws.{contents-other, contents-same}
-use Rattle.disk_laws.proofs.DoomLaws.{live_below}
-use Rattle.fs_trees.specs.Names.{Name, is_name}
-use Rattle.fs_trees.specs.Tree.{a_file, with_at}
-use Rattle.fs_trees.specs.Fields.{Entry, all_named}
-use Rattle.fs_trees.specs.Cluster.{Cluster, cluster_in, entries_room, entries_of, directory_bytes}
-use Rattle.fs_trees.specs.Needs.{clusters_for}
-use Rattle.fs_trees.specs.ChainTree.{Link, blocks_of, links, ChainFile, chain_bytes, Chains, chain_blocks, names_max, chain_tree}
+use Rattle.chain_changes.proofs.Common.{and_from, and_parts, or_cases, or_left, or_right, eq-eqb, eqb-true, not-true, drop, slice_index_or, option_and_then, block_len, World, has_number, are_apart, holds, is_pair, filled, written, contents-other, contents-same, live_below, Name, is_name, a_file, with_at, Entry, all_named, Cluster, cluster_in, entries_room, entries_of, directory_bytes, clusters_for, Link, blocks_of, links, ChainFile, chain_bytes, Chains, chain_blocks, names_max, chain_tree, FsRefusal, number_left, number_right, in_append, first_in, held_left, held_right, held_append, DiskView, Client, write_by, Leads, no_room_in, refused_on, cluster_of, entries_in, entry_blocks, HaveFourBytes, IsFrom, AreOthers, file_blocks, file_pairs, file_names, relinked, IsNewCluster, Becomes, from_same, blocks-append, the_directory_grows, Making, AreLinkable, NewFile, Page, mounted_by, page_link}
 use Rattle.fs_trees.specs.declared.ask.ShellAsk.TheVariants as ask
-use Rattle.fs_trees.specs.declared.refusal.FsRefusal.{FsRefusal}
-use Rattle.fs_laws.proofs.ListLaws.{number_left, number_right, in_append, first_in, held_left, held_right, held_append}
-use Rattle.fs_port.specs.View.{DiskView}
-use Rattle.fs_port.specs.Files.{IsEitherTree}
-use Rattle.fs_client.specs.declared.client.Client.{Client}
-use Rattle.fs_client.specs.Client.{write_by}
-use Rattle.fs_client.specs.Steps.{Leads, no_room_in}
-use Rattle.fs_client.specs.Changing.{refused_on}
-use Rattle.chain_layout.specs.Block.{cluster_of}
 use Rattle.chain_layout.specs.Held as held
-use Rattle.chain_layout.specs.Held.{entries_in}
-use Rattle.chain_layout.specs.Listed.{entry_blocks}
-use Rattle.chain_layout.specs.ReadsBack.{HaveFourBytes}
-use Rattle.chain_reading.specs.Chained.{IsFrom, AreOthers}
-use Rattle.chain_reading.specs.Changed.{file_blocks, file_pairs, file_names, relinked}
-use Rattle.chain_reading.specs.Decided.{IsNewCluster, Becomes}
-use Rattle.chain_reading.proofs.ChainedLaws.{from_same}
-use Rattle.chain_reading.proofs.ChangeLaws.{blocks-append}
-use Rattle.chain_reading.proofs.DecidedLaws.{the_directory_grows}
-use Rattle.chain_changes.specs.Making.{Making}
-use Rattle.chain_changes.specs.Filling.{AreLinkable, NewFile}
-use Rattle.chain_changes.proofs.MakingLaws.{aside_now, link_held, making_written}
+use Rattle.chain_changes.proofs.MakingLaws.{link_held, making_written}
 use Rattle.chain_changes.proofs.WriteLaws.{in_drop}
-use Rattle.chain_reading.specs.declared.walking.Page.{Page}
-use Rattle.chain_reading.specs.Asking.{mounted_by}
-use Rattle.chain_reading.specs.Finding.{page_link}
 use Rattle.chain_changes.proofs.EntryLaws.{ReadsAs, directory_read, directory_fits, page_entries, page_all_named, page_sized, page_small}
 use Rattle.chain_changes.proofs.AfterLaws.{Decided, None_loose}
 use Rattle.chain_changes.proofs.AmongLaws.{among_named, among_held, among_parts, others_held, links_left, links_seam}
-use Rattle.chain_changes.proofs.PuttingLaws.{Putting, stage, aside_either, under_now, new_apart, within_now, decided, file_in}
+use Rattle.chain_changes.proofs.PuttingLaws.{Putting, stage, under_now, new_apart, within_now, decided, file_in}
 use Rattle.chain_changes.proofs.PlacedLaws.{second_of_all, first_and_rest, first_there, second_there}
 use Rattle.chain_changes.proofs.AddLaws.{small_block}
 
@@ -222,13 +185,3 @@ module _ (c : Client) (old : DiskView) (n : Name) (page : Page) (x : Putting c o
               let parts = and_parts (page.block == a) (p == b) h in
               subst (λ k. holds (links (blocks_of next.directory)) k b ≡ true) (eqb-true page.block a parts.0) (subst (λ k. holds (links (blocks_of next.directory)) page.block k ≡ true) (eqb-true p b parts.1)
               (ap (λ bs. holds (links bs) page.block p) new_directory ∙ links_seam (blocks_of x.before) page.block p))
-
--- a stop while the new cluster is written leaves the tree
-pub stop_new : (c : Client) (old : DiskView) (n : Name) (page : Page) (x : Putting c old n page) (body blocks : List ℕ) (mid : DiskView) (nf : NewFile c old mid page.block 1 body blocks)
-    (room : ◌≡◌ {A = Option FsRefusal} (no_room_in old.world (clusters_for old.world.geometry (length body) + 1) (clusters_for old.world.geometry (length body) + 1)) None) (linkable : AreLinkable blocks) (some : 1 < length blocks)
-    → (v : World) → (v ≡ mid.world) ⊎ ((v ≡ written mid.world (slice_index_or blocks 0 0) (directory_bytes None (record { name = n; block = slice_index_or blocks 1 0 } ∷ []))) × Leads mid.world (write_by c (slice_index_or blocks 0 0) (directory_bytes None (record { name = n; block = slice_index_or blocks 1 0 } ∷ []))) (written mid.world (slice_index_or blocks 0 0) (directory_bytes None (record { name = n; block = slice_index_or blocks 1 0 } ∷ []))))
-    → IsEitherTree (mounted_by c) old (ask.Put (n ∷ []) body) v
-stop_new c old n page x body blocks mid nf room linkable some v h = elim h [
-  | inl before ↦ subst (IsEitherTree (mounted_by c) old (ask.Put (n ∷ []) body)) (sym before) (aside_either c old n page x body mid.world (aside_now c.root old.world page.block (stage c old n page x) blocks mid.world nf.making))
-  | inr e ↦ subst (IsEitherTree (mounted_by c) old (ask.Put (n ∷ []) body)) (sym e.0) (aside_either c old n page x body _ (aside_now c.root old.world page.block (stage c old n page x) blocks _ (making_one c old n page x body blocks mid nf room linkable some e.1)))
-]

@@ -1,23 +1,7 @@
 -- A new file, of its clusters.
-use Rattle.std.proofs.Common.{◌≡◌, ℕ, suc, ◌+◌, ◌*◌, ◌<◌, ◌≤◌, true, List, [], ◌∷◌, length, refl, sym, ◌∙◌, ap, subst, arith, inl, inr}
+use Rattle.std.proofs.Common.{◌≡◌, ℕ, suc, ◌+◌, ◌*◌, ◌<◌, ◌≤◌, true, List, [], ◌∷◌, length, refl, sym, ◌∙◌, ap, subst, arith, inl, inr, Result, Ok}
 use Rattle.std.proofs.Common.{mul_comm}
-use Rattle.std.proofs.lemmas.Bool.{cases_lt}
-use Rattle.std.proofs.lemmas.List.{length-drop}
-use Rattle.std.proofs.lemmas.Grind.{div_ceil_times}
-use Rattle.std.proofs.Math.Nat.{div-le_self, mul-le-mul_right}
-use Rattle.std.specs.Prelude.{max, drop}
-use Rattle.std.specs.Int.{div_ceil}
-use Rattle.tsd_model.specs.Geometry.{block_len}
-use Rattle.tsd_model.specs.World.{World, has_number, are_apart}
-use Rattle.tsd_model.specs.Valid.{IsValid}
-use Rattle.fs_trees.specs.Cluster.{bytes_room}
-use Rattle.fs_trees.specs.Needs.{clusters_for}
-use Rattle.fs_trees.specs.ChainTree.{Link, blocks_of, is_filled}
-use Rattle.fs_port.specs.View.{DiskView}
-use Rattle.fs_client.specs.declared.client.Client.{Client}
-use Rattle.fs_client.specs.May.{MayWrite}
-use Rattle.chain_changes.specs.Making.{Stage, IsAside}
-use Rattle.chain_changes.specs.Filling.{AreNew, AsideWith, NewChain, ArePartsOf, Wrote, NewFile}
+use Rattle.chain_changes.proofs.Common.{cases_lt, length-drop, div_ceil_times, div-le_self, mul-le-mul_right, max, drop, div_ceil, block_len, World, has_number, are_apart, IsValid, bytes_room, clusters_for, Link, blocks_of, is_filled, FsRefusal, DiskView, IsValidNow, Runs, Client, MayWrite, runs_more, then_runs, Stage, IsAside, AreNew, AsideWith, NewChain, ArePartsOf, Wrote, NewFile}
 use Rattle.chain_changes.proofs.WriteLaws.{in_drop, apart_drop}
 use Rattle.chain_changes.proofs.PartLaws.{parts_bytes, parts_filled, part_filled}
 
@@ -119,3 +103,23 @@ module _ (c : Client) (old mid new : DiskView) (source ahead wanted : ℕ) (byte
       blocks-length : (ls : List Link) → length ls ≡ length (blocks_of ls)
       blocks-length [] = refl
       blocks-length (l ∷ ls) = ap suc (blocks-length ls)
+
+-- ---- the stages of it
+
+-- the new blocks: as many as the bytes take, and so many ahead
+pub record NewBlocks (told : Type 0) (c : Client) (old mid : DiskView) (source ahead wanted : ℕ) (bytes blocks : List ℕ) : Type 0 where
+  pub stage : told → Stage c.root old.world source
+  pub valid : told → IsValidNow old
+  pub is : told → wanted ≡ clusters_for old.world.geometry (length bytes) + ahead
+  pub made : told → NewChain c old mid source wanted blocks
+  pub runs : Runs told old mid (IsAside c.root old.world) (Ok blocks)
+
+module _ {told : Type 0} {c : Client} {old mid : DiskView} {source ahead wanted : ℕ} {bytes blocks own given : List ℕ} (x : NewBlocks told c old mid source ahead wanted bytes blocks) (own_is : own ≡ drop ahead blocks) (given_is : given ≡ bytes) where
+  -- those behind are written
+  pub file_runs : (new : DiskView) (result : Result (Unit {0}) FsRefusal) → Runs told mid new (AsideWith c.root own mid.world) result → Runs told old new (IsAside c.root old.world) result
+  file_runs new result runs = then_runs told old mid new (IsAside c.root old.world) blocks result x.runs
+      (runs_more told mid new (AsideWith c.root own mid.world) (IsAside c.root old.world) result
+      (λ t w aside. aside_so c old mid new source ahead wanted bytes blocks (x.stage t) (x.valid t).valid (x.is t) (x.made t) w (subst (λ bs. AsideWith c.root bs mid.world w) own_is aside)) runs)
+
+  pub file_made : (new : DiskView) → (told → Wrote c mid new own given) → told → NewFile c old new source ahead bytes blocks
+  file_made new wrote t = is_file c old mid new source ahead wanted bytes blocks (x.stage t) (x.valid t).valid (x.is t) (x.made t) (subst (Wrote c mid new (drop ahead blocks)) given_is (subst (λ bs. Wrote c mid new bs given) own_is (wrote t)))

@@ -1,72 +1,23 @@
 -- A file gets longer, from its last cluster that was read to the write that decides.
 -- What the last cluster has no room for stands in new clusters that nothing names yet; the last one, written anew, names them.
-use Rattle.std.proofs.Common.{◌≡◌, ℕ, zero, suc, ◌+◌, ◌-◌, ◌^◌, ◌<◌, ◌≤◌, Bool, true, false, not, ◌&&◌, ◌==◌, nat_lt, min, List, [], ◌∷◌, ◌++◌, length, refl, sym, ◌∙◌, ap, subst, arith, inl, inr, ◌⊎◌, append-nil, append_assoc, length-append, Option, Some, None}
-use Rattle.std.proofs.lemmas.Bool.{and_from, or_cases, eq-eqb, cases_eq, le-leb, lt-ltb}
-use Rattle.std.proofs.lemmas.List.{take-append-drop, length-take-le, length-drop}
-use Rattle.std.proofs.lemmas.Grind.{flat_map-append}
-use Rattle.std.proofs.Math.Seq.{take-append_seam}
-use Rattle.std.specs.Prelude.{take, drop, is_some, replicate, max}
-use Rattle.std.specs.Int.{div_ceil}
-use Rattle.tsd_model.specs.Geometry.{block_len}
-use Rattle.tsd_model.specs.declared.geometry.Geometry.{Geometry}
-use Rattle.tsd_model.specs.World.{World, is_live, is_free, free_count, has_number, are_apart}
-use Rattle.tsd_model.specs.Pairs.{holds}
-use Rattle.tsd_model.specs.Valid.{IsValid}
-use Rattle.tsd_model.specs.Step.{filled, written}
-use Rattle.disk_laws.proofs.ChangeLaws.{contents-other}
-use Rattle.disk_laws.proofs.DoomLaws.{live_below}
-use Rattle.fs_trees.specs.Names.{Path}
-use Rattle.fs_trees.specs.Tree.{Tree, a_file, a_dir, at, is_there, is_dir, bytes_in, with_at}
-use Rattle.fs_trees.specs.Cluster.{Cluster, cluster_in, bytes_room, part_bytes}
-use Rattle.fs_trees.specs.ChainTree.{Link, blocks_of, links, is_filled, chain_bytes, Chains, chain_blocks, chain_pairs, chains_under, as_tree, tree_of_files, chain_tree}
-use Rattle.fs_trees.specs.Layouts.{by_chains, IsTidy}
-use Rattle.fs_trees.specs.Needs.{need_of, clusters_for}
-use Rattle.fs_trees.specs.Outside.{is_under}
-use Rattle.fs_trees.specs.Refusals.{RoomNeed, when, first_of, lost_on_the_way, missing, no_file, too_big, no_room, refusal}
-use Rattle.fs_trees.specs.declared.ask.ShellAsk.{ShellAsk}
+use Rattle.std.proofs.Common.{◌≡◌, ℕ, zero, suc, ◌+◌, ◌-◌, ◌^◌, ◌<◌, ◌≤◌, Bool, true, false, not, ◌&&◌, ◌==◌, nat_lt, min, List, [], ◌∷◌, ◌++◌, length, refl, sym, ◌∙◌, ap, subst, arith, inl, inr, ◌⊎◌, append-nil, append_assoc, length-append, Option, Some, None, ◌≢◌, Ok, Err}
+use Rattle.chain_changes.proofs.Common.{and_from, or_cases, eq-eqb, cases_eq, le-leb, lt-ltb, take-append-drop, length-take-le, length-drop, flat_map-append, take-append_seam, take, drop, is_some, replicate, max, div_ceil, block_len, Geometry, World, is_live, is_free, free_count, has_number, are_apart, holds, IsValid, filled, written, contents-other, live_below, Path, Tree, a_file, a_dir, at, is_there, is_dir, bytes_in, with_at, Cluster, cluster_in, bytes_room, part_bytes, Link, blocks_of, links, is_filled, chain_bytes, Chains, chain_blocks, chain_pairs, chains_under, as_tree, tree_of_files, chain_tree, by_chains, IsTidy, need, need_of, clusters_for, is_under, RoomNeed, when, first_of, lost_on_the_way, missing, no_file, too_big, no_room, refusal, ShellAsk, FsRefusal, is_inside, number_left, number_right, first_in, times, apart_times, outside_twice, DiskView, IsEitherTree, KeepsRoom, Runs, Client, write_by, Leads, no_room_in, refused_on, is_mounted, clash_free_live, runs_as, cluster_of, block_len_of, part_in, IsFrom, IsChainFile, PlacedEntry, AreFiles, file_blocks, relinked, Becomes, grown, Lengthens, entries_of_files, HasChains, has_chains, IsRight, right_is, blocks-append, the_file_grows, Part, tree_under, mounted_by, no_file_found, Stage, IsAside, first_block, AreLinkable, ArePartsOf, part_link, IsLastOf, clusters_more, NewTail}
 use Rattle.fs_trees.specs.declared.ask.ShellAsk.TheVariants as ask
 use Rattle.fs_trees.specs.declared.ask.ShellKind.TheVariants as kind
-use Rattle.fs_trees.specs.declared.refusal.FsRefusal.{FsRefusal}
 use Rattle.fs_trees.specs.declared.refusal.FsRefusal.TheVariants as no
-use Rattle.fs_laws.specs.Outside.{is_inside}
-use Rattle.fs_laws.proofs.ListLaws.{number_left, number_right, first_in}
-use Rattle.fs_laws.proofs.CountLaws.{times, apart_times}
-use Rattle.fs_laws.proofs.OutsideLaws.{outside_twice}
-use Rattle.fs_port.specs.View.{DiskView}
-use Rattle.fs_port.specs.Files.{IsEitherTree}
-use Rattle.fs_client.specs.declared.client.Client.{Client}
-use Rattle.fs_client.specs.Client.{write_by}
-use Rattle.fs_client.specs.May.{MayWrite}
-use Rattle.fs_client.specs.Steps.{Leads, no_room_in}
-use Rattle.fs_client.specs.Changing.{refused_on}
-use Rattle.fs_client.proofs.AskLaws.{is_mounted}
-use Rattle.fs_client.proofs.RunLaws.{clash_free_live}
-use Rattle.chain_layout.specs.Block.{cluster_of}
-use Rattle.chain_layout.specs.Held.{part_in}
 use Rattle.chain_layout.specs.Held as held
-use Rattle.chain_reading.specs.Chained.{IsFrom, IsChainFile, PlacedEntry, AreFiles}
-use Rattle.chain_reading.specs.Changed.{file_blocks, relinked}
-use Rattle.chain_reading.specs.Decided.{Becomes, grown, Lengthens}
-use Rattle.chain_reading.proofs.ChainedLaws.{entries_of_files}
-use Rattle.chain_reading.proofs.ChangeLaws.{HasChains, has_chains, IsRight, right_is, blocks-append}
-use Rattle.chain_reading.proofs.DecidedLaws.{the_file_grows}
-use Rattle.chain_reading.specs.declared.walking.Part.{Part}
-use Rattle.chain_reading.specs.Asking.{tree_under, mounted_by}
-use Rattle.chain_reading.specs.Finding.{no_file_found}
-use Rattle.chain_changes.specs.Making.{Stage, IsAside}
-use Rattle.tsd_model.specs.Placing.{first_block}
-use Rattle.chain_changes.specs.Filling.{AreLinkable, ArePartsOf}
 use Rattle.chain_changes.proofs.FileLaws.{long_room, file_filled}
 use Rattle.chain_changes.proofs.MakingLaws.{aside_now, tree_same, primary_now, link_held, source_under, new_unnamed, was_live}
 use Rattle.chain_changes.proofs.PartLaws.{parts_bytes}
 use Rattle.chain_changes.proofs.WriteLaws.{part_length, part_cluster, part_back, first_linked}
-use Rattle.chain_changes.specs.Growing.{part_link, IsLastOf, clusters_more, NewTail}
 use Rattle.chain_changes.proofs.EntryLaws.{cluster_live}
 use Rattle.chain_changes.proofs.KeptLaws.{chains_kept}
 use Rattle.chain_changes.proofs.SizeLaws.{IsSize, size_is, part_size, ceil_none, clusters_grow}
 use Rattle.chain_changes.proofs.LongerLaws.{grown_filled, apart_both, longer_has, more_in, more_pairs, old_pairs}
 use Rattle.chain_changes.proofs.RemoveLaws.{is_under_root, file_entry}
 use Rattle.chain_changes.proofs.AfterLaws.{Decided, None_loose, decided_either}
+use Rattle.chain_changes.proofs.TakenLaws.{tail_takes}
+use Rattle.chain_changes.proofs.WritingLaws.{Ends, Writing, aside_runs, refused_ends}
 
 -- ---- the refusals of an append to a file that is there
 
@@ -204,9 +155,6 @@ module _ (c : Client) (first : DiskView) (path : Path) (x : List ℕ) (part : Pa
       pub grow_fits : length (part_bytes (first_block blocks) (part_in part.cluster ++ take taken x)) ≤ block_len mid.world.geometry
       grow_fits = let all = part_length (first_block blocks) own in let l = long in omega (arith, all, same_size, own_fits, l)
 
-      pub grow_may : MayWrite c mid d
-      grow_may = tail.may d last.last.may
-
       under_mid : chains_under mid.world c.root ≡ Some last.chains
       under_mid = chains_kept first.world mid.world c.root last.chains last.under tail.making.keeps
 
@@ -339,9 +287,48 @@ module _ (c : Client) (first : DiskView) (path : Path) (x : List ℕ) (part : Pa
             ]
           ]
 
-      pub grow_stop : ◌≡◌ {A = Option FsRefusal} (no_room_in first.world (clusters_more (block_len first.world.geometry) (drop taken x)) (clusters_more (block_len first.world.geometry) (drop taken x))) None
-          → (v : World) → (v ≡ mid.world) ⊎ ((v ≡ written mid.world d (part_bytes (first_block blocks) (part_in part.cluster ++ take taken x)))
-          × Leads mid.world (write_by c d (part_bytes (first_block blocks) (part_in part.cluster ++ take taken x))) (written mid.world d (part_bytes (first_block blocks) (part_in part.cluster ++ take taken x))))
-          → IsEitherTree (mounted_by c) first (ask.Append path x) v
-      grow_stop roomy v (inl before) = subst (IsEitherTree (mounted_by c) first (ask.Append path x)) (sym before) (aside_either c first (ask.Append path x) mid.world (aside_now c.root first.world d stage blocks mid.world tail.making))
-      grow_stop roomy v (inr h) = subst (IsEitherTree (mounted_by c) first (ask.Append path x)) (sym h.0) (decided_either c first (ask.Append path x) (written mid.world d bytes) None_loose (grow_decided roomy h.1))
+-- ---- the stages of it
+
+-- what the last cluster takes of the bytes, and what is left for further ones
+pub record Parted (told : Type 0) (c : Client) (first : DiskView) (path : Path) (x : List ℕ) (part : Part) (len taken : ℕ) (rest : List ℕ) : Type 0 where
+  pub last : told → IsLastOf c first path part
+  pub valid : told → IsValid first.world
+  pub primary : told → c.root < first.world.geometry.primaries
+  pub some : 0 < length x
+  pub taken_is : taken ≡ min (bytes_room (block_len_of (held.part_cluster part.cluster)) - length (part_in part.cluster)) (length x)
+  pub len_is : len ≡ block_len_of (held.part_cluster part.cluster)
+  pub rest_is : rest ≡ drop taken x
+
+module _ {told : Type 0} {c : Client} {first : DiskView} {path : Path} {x : List ℕ} {part : Part} {len taken : ℕ} {rest : List ℕ} (p : Parted told c first path x part len taken rest) where
+  abbrev a : ShellAsk
+  a = ask.Append path x
+
+  abbrev many : ℕ
+  many = clusters_more (block_len first.world.geometry) (drop taken x)
+
+  taken_there : told → taken ≡ min (bytes_room (block_len first.world.geometry) - length (part_in part.cluster)) (length x)
+  taken_there t = p.taken_is ∙ ap (λ n. min (bytes_room n - length (part_in part.cluster)) (length x)) (p.last t).last.read.read.whole
+
+  room_same : told → no_room_in first.world (clusters_more len rest) (clusters_more len rest) ≡ no_room_in first.world many many
+  room_same t = ap (λ n. no_room_in first.world n n) (ap (λ n. clusters_more n rest) (p.len_is ∙ (p.last t).last.read.read.whole) ∙ ap (clusters_more (block_len first.world.geometry)) p.rest_is)
+
+  -- want of room refuses it
+  pub grow_refused : {X : Type 0} (new : DiskView) (e : FsRefusal) → (told → e ≢ no.Device → no_room_in first.world (clusters_more len rest) (clusters_more len rest) ≡ Some e) → (told → e ≢ no.Device → new.world ≡ first.world)
+      → Runs {X = X} told first new (IsAside c.root first.world) (Err e) → Ends told c first new (ask.Append path x) (Err e)
+  grow_refused new e full same runs = refused_ends told c first new a e
+      (λ t ne. refused_is c first path x part (p.last t) (p.valid t) (p.primary t) taken (taken_there t) p.some ∙ (sym (room_same t) ∙ full t ne)) same (aside_runs told c first new a (Err e) runs)
+
+  -- the write of the last cluster, once the further ones stand
+  pub grow_writes : {mid : DiskView} {blocks : List ℕ} → AreLinkable blocks → (told → NewTail c first mid part.block rest blocks) → (told → ◌≡◌ {A = Option FsRefusal} (no_room_in first.world (clusters_more len rest) (clusters_more len rest)) None) → Runs told first mid (IsAside c.root first.world) (Ok blocks)
+      → Writing told c first mid (ask.Append path x) part.block (part_bytes (first_block blocks) (part_in part.cluster ++ take taken x)) (λ w. Decided c first (ask.Append path x) w None_loose)
+  grow_writes {mid} {blocks} linkable made room runs =
+      let tail : told → NewTail c first mid part.block (drop taken x) blocks = λ t. subst (λ y. NewTail c first mid part.block y blocks) p.rest_is (made t) in
+      record {
+        so_far = runs_as told first mid (IsEitherTree (mounted_by c) first a) blocks tt (aside_runs told c first mid a (Ok blocks) runs);
+        kept = λ t. subst (λ n. KeepsRoom (need n n) first.world mid.world) (sym (more_is c first path x part (p.last t) (p.valid t) (p.primary t) taken (taken_there t) p.some)) (tail_takes c first mid part.block (drop taken x) blocks (p.valid t) (tail t));
+        may = λ t. (tail t).may part.block (p.last t).last.may;
+        fits = λ t. grow_fits c first path x part (p.last t) (p.valid t) (p.primary t) taken (taken_there t) p.some mid blocks linkable (tail t);
+        leads = λ t. grow_decided c first path x part (p.last t) (p.valid t) (p.primary t) taken (taken_there t) p.some mid blocks linkable (tail t) (sym (room_same t) ∙ room t);
+        still = λ t. aside_either c first a mid.world (aside_now c.root first.world part.block (stage c first path x part (p.last t) (p.valid t) (p.primary t)) blocks mid.world (tail t).making);
+        either = λ t w decided. decided_either c first a w None_loose decided;
+      }

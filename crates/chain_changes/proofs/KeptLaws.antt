@@ -1,15 +1,7 @@
 -- Chains whose blocks and pairs are kept.
 use Rattle.std.proofs.Common.{◌≡◌, ℕ, ◌≤◌, sym, subst, length, Some}
-use Rattle.tsd_model.specs.Geometry.{block_len}
-use Rattle.tsd_model.specs.World.{World}
-use Rattle.fs_trees.specs.ChainTree.{Chains, blocks_of, chain_blocks, chain_pairs, chains_under}
-use Rattle.fs_trees.specs.Layouts.{by_chains, named_at}
+use Rattle.chain_changes.proofs.Common.{block_len, World, Chains, blocks_of, chain_blocks, chain_pairs, chains_under, by_chains, named_at, Keeps, number_left, number_right, AreEntries, from_same, files_same, has_chains, chains_are, right_is, is_right}
 use Rattle.fs_trees.specs.declared.ask.ShellKind.TheVariants as kind
-use Rattle.fs_laws.specs.Stays.{Keeps}
-use Rattle.fs_laws.proofs.ListLaws.{number_left, number_right}
-use Rattle.chain_reading.specs.Chained.{AreEntries}
-use Rattle.chain_reading.proofs.ChainedLaws.{from_same, files_same}
-use Rattle.chain_reading.proofs.ChangeLaws.{has_chains, chains_are, right_is, is_right}
 
 pub chains_kept : (w next : World) (root : ℕ) (c : Chains) → chains_under w root ≡ Some c → Keeps w next (named_at kind.Chain w root) → chains_under next root ≡ Some c
 chains_kept w next root c under keeps =

@@ -1,21 +1,7 @@
 -- The last cluster of a file, to which its chain is walked.
 use Rattle.std.proofs.Common.{◌≡◌, ℕ, ◌+◌, ◌≤◌, ◌<◌, true, List, [], ◌∷◌, ◌++◌, length, refl, sym, ◌∙◌, ap, subst, arith, length-append, Some, None, Ok}
-use Rattle.tsd_model.specs.Geometry.{block_len}
-use Rattle.fs_trees.specs.Cluster.{Cluster, bytes_room}
-use Rattle.fs_trees.specs.ChainTree.{Link, cluster_at, is_filled}
-use Rattle.fs_port.specs.View.{DiskView, state_of}
-use Rattle.fs_port.specs.Calls.{Stays}
-use Rattle.fs_laws.specs.Ways.{HoldsWrite}
-use Rattle.fs_client.specs.declared.client.Client.{Client}
-use Rattle.fs_client.specs.May.{MayWrite, Looked, OnlyLooks}
-use Rattle.fs_client.proofs.LookLaws.{may_again}
-use Rattle.chain_layout.specs.Block.{cluster_of}
-use Rattle.chain_layout.specs.Held.{part_cluster}
-use Rattle.chain_reading.specs.declared.walking.Part.{Part}
-use Rattle.chain_reading.specs.Standing.{has_part, IsPartOfRoot}
-use Rattle.chain_reading.specs.Ahead.{IsFileAhead}
+use Rattle.chain_changes.proofs.Common.{block_len, Cluster, bytes_room, Link, cluster_at, is_filled, DiskView, state_of, Stays, HoldsWrite, Client, MayWrite, Looked, OnlyLooks, may_again, cluster_of, part_cluster, Part, has_part, IsPartOfRoot, IsFileAhead, IsLastCluster}
 use Rattle.chain_reading.proofs.WalkLaws.{link_of, IsWalked, walk_starts, walk_on, walk_ends, one_more, part_there}
-use Rattle.chain_changes.specs.Growing.{IsLastCluster}
 
 -- after so many clusters the walk is at a block
 pub record IsStepped (c : Client) (now : DiskView) (ls : List Link) (i b : ℕ) : Type 0 where

@@ -1,3 +1,4 @@
+pub mod Common
 pub mod PlaceLaws
 pub mod EntryLaws
 pub mod ExchangeLaws
@@ -25,3 +26,5 @@ pub mod WriteLaws
 pub mod PartLaws
 pub mod FileLaws
 pub mod TakenLaws
+pub mod WritingLaws
+pub mod PutLaws

@@ -1,10 +1,6 @@
 -- Pairs along a chain.
 use Rattle.std.proofs.Common.{◌≡◌, ℕ, Bool, true, false, not, ◌||◌, ◌==◌, List, [], ◌∷◌, ◌++◌, refl, sym, ◌∙◌, ap, subst, inl, inr, ◌⊎◌}
-use Rattle.std.proofs.lemmas.Bool.{and_parts, and_from, or_cases, or_left, or_right, eq-eqb, eqb-true, not-true, false_from_ne_true}
-use Rattle.tsd_model.specs.World.{has_number, are_apart}
-use Rattle.tsd_model.specs.Pairs.{holds, is_pair}
-use Rattle.fs_trees.specs.ChainTree.{links}
-use Rattle.fs_laws.proofs.ListLaws.{in_append}
+use Rattle.chain_changes.proofs.Common.{and_parts, and_from, or_cases, or_left, or_right, eq-eqb, eqb-true, not-true, false_from_ne_true, has_number, are_apart, holds, is_pair, links, in_append}
 
 -- the last of a chain's blocks, or what it hangs from
 abbrev pub last_of : ℕ → List ℕ → ℕ

@@ -1,16 +1,6 @@
 -- A file with further clusters: its links, its filling, and its place among the others.
 use Rattle.std.proofs.Common.{◌≡◌, ℕ, ◌+◌, ◌≤◌, Bool, true, false, ◌&&◌, ◌==◌, nat_lt, List, [], ◌∷◌, ◌++◌, refl, sym, ◌∙◌, ap, arith, inl, inr, ◌⊎◌, append-nil}
-use Rattle.std.proofs.lemmas.Bool.{or_cases, or_left, or_right, and_parts, and_from, ltb-true, lt-ltb}
-use Rattle.std.proofs.lemmas.Grind.{flat_map-append}
-use Rattle.tsd_model.specs.World.{has_number, are_apart}
-use Rattle.tsd_model.specs.Pairs.{holds, is_pair}
-use Rattle.fs_trees.specs.Cluster.{Cluster}
-use Rattle.fs_trees.specs.ChainTree.{Link, blocks_of, links, is_filled, ChainFile, Chains, chain_blocks, chain_pairs}
-use Rattle.fs_laws.proofs.ListLaws.{held_left, held_right, held_append, number_left, number_right}
-use Rattle.fs_laws.proofs.CountLaws.{times, times-append, times_none, times_apart}
-use Rattle.chain_reading.specs.Changed.{file_blocks, file_pairs, relinked}
-use Rattle.chain_reading.specs.Decided.{grown}
-use Rattle.chain_reading.proofs.ChangeLaws.{blocks-append, file_pairs-append, times_three, held_three, first_held, last_held}
+use Rattle.chain_changes.proofs.Common.{or_cases, or_left, or_right, and_parts, and_from, ltb-true, lt-ltb, flat_map-append, has_number, are_apart, holds, is_pair, Cluster, Link, blocks_of, links, is_filled, ChainFile, Chains, chain_blocks, chain_pairs, held_left, held_right, held_append, number_left, number_right, times, times-append, times_none, times_apart, file_blocks, file_pairs, relinked, grown, blocks-append, file_pairs-append, times_three, held_three, first_held, last_held}
 use Rattle.chain_changes.proofs.ExchangeLaws.{in_times}
 
 -- ---- links

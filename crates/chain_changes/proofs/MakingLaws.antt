@@ -1,30 +1,10 @@
 -- A chain in the making goes on, a request at a time.
 use Rattle.std.proofs.Common.{◌≡◌, ℕ, ◌<◌, Bool, true, false, not, ◌||◌, ◌==◌, nat_lt, List, [], ◌∷◌, ◌++◌, length, refl, sym, ◌∙◌, ap, subst, inl, inr}
-use Rattle.std.proofs.lemmas.Bool.{and_parts, and_from, or_cases, or_left, or_right, eq-eqb, eqb-true, false_from_ne_true}
-use Rattle.std.specs.Prelude.{is_some, is_none}
-use Rattle.tsd_model.specs.Geometry.{block_len}
-use Rattle.tsd_model.specs.World.{World, contents, is_live, is_free, has_number}
-use Rattle.tsd_model.specs.Pairs.{holds, is_pair}
-use Rattle.tsd_model.specs.Step.{filled, with_new_blocks, written}
-use Rattle.disk_laws.proofs.ChangeLaws.{contents-other, live-with_contents, free_may}
-use Rattle.disk_laws.proofs.StayLaws.{live-new_blocks}
-use Rattle.fs_trees.specs.Tree.{is_there}
-use Rattle.fs_trees.specs.ChainTree.{links, chain_tree}
-use Rattle.fs_trees.specs.Layouts.{Named, named_at}
-use Rattle.fs_trees.specs.Outside.{is_under}
+use Rattle.chain_changes.proofs.Common.{and_parts, and_from, or_cases, or_left, or_right, eq-eqb, eqb-true, false_from_ne_true, is_some, is_none, block_len, World, contents, is_live, is_free, has_number, holds, is_pair, filled, with_new_blocks, written, contents-other, live-with_contents, free_may, live-new_blocks, is_there, links, chain_tree, Named, named_at, is_under, IsUnder, Keeps, read_from_named, named_is_under, outside_twice, Client, write_by, alloc_by, Leads, clash_free_live, others_same, contents_off, lives_new, holds_new, Stage, Making, IsAside}
 use Rattle.fs_trees.specs.declared.ask.ShellKind.TheVariants as kind
-use Rattle.fs_laws.specs.Stays.{IsUnder, Keeps}
 use Rattle.fs_laws.specs.Reading.{SameTree}
-use Rattle.fs_laws.proofs.TreeLaws.{read_from_named, named_is_under}
 use Rattle.fs_laws.proofs.NamedLaws.{each_named}
-use Rattle.fs_laws.proofs.OutsideLaws.{outside_twice}
 use Rattle.fs_laws.proofs.UnderLaws.{each_under, root_under, target_under}
-use Rattle.fs_client.specs.declared.client.Client.{Client}
-use Rattle.fs_client.specs.Client.{write_by, alloc_by}
-use Rattle.fs_client.specs.Steps.{Leads}
-use Rattle.fs_client.proofs.RunLaws.{clash_free_live, others_same}
-use Rattle.fs_client.proofs.NewLaws.{contents_off, lives_new, holds_new}
-use Rattle.chain_changes.specs.Making.{Stage, Making, IsAside}
 use Rattle.chain_changes.proofs.LinkLaws.{last_of, links-more, along, along_last, in_more, not_in_more, apart_more}
 
 clash : (t : Bool) → t ≡ true → t ≡ false → ⊥

@@ -1,10 +1,6 @@
 -- The bytes of a chain whose clusters are each as full as they can be.
 use Rattle.std.proofs.Common.{◌≡◌, ℕ, suc, ◌+◌, ◌*◌, ◌<◌, true, ◌&&◌, ◌==◌, nat_lt, List, [], ◌∷◌, ◌++◌, length, sym, ◌∙◌, ap, arith}
-use Rattle.std.proofs.lemmas.Bool.{and_from, eq-eqb, lt-ltb, le-leb}
-use Rattle.std.proofs.lemmas.List.{length-take, length-drop, take-append-drop}
-use Rattle.std.specs.Prelude.{take, drop}
-use Rattle.fs_trees.specs.ChainTree.{Link, is_filled, chain_bytes}
-use Rattle.chain_changes.specs.Filling.{ArePartsOf}
+use Rattle.chain_changes.proofs.Common.{and_from, eq-eqb, lt-ltb, le-leb, length-take, length-drop, take-append-drop, take, drop, Link, is_filled, chain_bytes, ArePartsOf}
 
 pub parts_bytes : (room : ℕ) (bytes : List ℕ) (ls : List Link) → ArePartsOf room bytes ls → chain_bytes ls ≡ bytes
 parts_bytes room bytes [] parts = sym parts

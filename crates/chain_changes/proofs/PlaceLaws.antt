@@ -1,25 +1,7 @@
 -- What a path leads to, by the chains under the root.
 use Rattle.std.proofs.Common.{◌≡◌, ℕ, List, [], ◌∷◌, sym, ◌∙◌, ap, subst, Some}
-use Rattle.tsd_model.specs.Geometry.{block_len}
-use Rattle.fs_trees.specs.Names.{Name, Path}
-use Rattle.fs_trees.specs.Tree.{nothing, at}
-use Rattle.fs_trees.specs.ChainTree.{Link, chains_under, as_tree, chain_tree}
-use Rattle.fs_trees.specs.Refusals.{lost_on_the_way}
-use Rattle.fs_port.specs.View.{DiskView, IsDiskSound}
-use Rattle.fs_client.specs.declared.client.Client.{Client}
-use Rattle.fs_client.specs.May.{Looked}
-use Rattle.chain_reading.specs.Chained.{PlacedEntry, AreEntries, AreOthers}
-use Rattle.chain_reading.proofs.ChangeLaws.{has_chains}
-use Rattle.chain_reading.proofs.FileLaws.{tree_lacks}
-use Rattle.chain_reading.specs.declared.walking.Page.{Page}
+use Rattle.chain_changes.proofs.Common.{block_len, Name, Path, nothing, at, Link, chains_under, as_tree, chain_tree, lost_on_the_way, DiskView, IsDiskSound, Client, Looked, PlacedEntry, AreEntries, AreOthers, has_chains, tree_lacks, Page, Taken, Free, IsDirectoryAhead, MayAsk, tree_under, IsNameFound, no_way, IsKnown, is_known, tree_known, taken_name, free_name, names_of_files, entries_unique, IsLookupOf}
 use Rattle.chain_reading.specs.declared.finding.Lookup.{Lookup}
-use Rattle.chain_reading.specs.declared.finding.Lookup.TheVariants.{Taken, Free}
-use Rattle.chain_reading.specs.Ahead.{IsDirectoryAhead}
-use Rattle.chain_reading.specs.Asking.{MayAsk, tree_under}
-use Rattle.chain_reading.specs.Finding.{IsNameFound, no_way}
-use Rattle.chain_reading.proofs.KnownLaws.{IsKnown, is_known, tree_known, taken_name, free_name, names_of_files}
-use Rattle.chain_reading.proofs.ListLaws.{entries_unique}
-use Rattle.chain_changes.specs.Lookups.{IsLookupOf}
 
 module _ (told : Type 0) (c : Client) (old new : DiskView) (t : told) (may : MayAsk told c old) (sound : IsDiskSound old) (seen : Looked old new) (n : Name) (position : Lookup) (found : (ls : List Link) (ps : List PlacedEntry) → IsDirectoryAhead c old ls ps → IsNameFound c new n ls ps position) where
   known : IsKnown c old

@@ -1,49 +1,10 @@
 -- What was found of a name, for the file that is put there, and what refuses that.
 use Rattle.std.proofs.Common.{◌≡◌, ℕ, suc, ◌+◌, ◌<◌, ◌≤◌, true, false, not, cond, ◌&&◌, ◌||◌, ◌==◌, nat_lt, nat_le, List, [], ◌∷◌, ◌++◌, length, refl, sym, ◌∙◌, ap, subst, arith, Option, Some}
-use Rattle.std.proofs.lemmas.Bool.{and_parts, or_left, or_right}
-use Rattle.std.proofs.lemmas.Bool.Decides.{nat_tests}
-use Rattle.std.specs.Prelude.{take, drop, slice_index_or}
-use Rattle.std.specs.Option.{option_map_or}
-use Rattle.std.specs.List.{list_any, list_all}
-use Rattle.tsd_model.specs.Geometry.{block_len}
-use Rattle.tsd_model.specs.World.{free_count, has_number}
-use Rattle.fs_trees.specs.Names.{Name, Path, path_max, is_name, is_path}
-use Rattle.fs_trees.specs.Tree.{nothing, a_file, entry, is_there, names}
-use Rattle.fs_trees.specs.Fields.{Entry}
-use Rattle.fs_trees.specs.Cluster.{entries_room, directory_bytes}
-use Rattle.fs_trees.specs.ChainTree.{ChainFile, chain_bytes, Chains, chains_under, as_tree, has_room, names_max, tree_of_files}
-use Rattle.fs_trees.specs.Layouts.{tree_at}
-use Rattle.fs_trees.specs.Needs.{need, clusters_for, chain_need, need_of}
-use Rattle.fs_trees.specs.Refusals.{when, first_of, no_room, refusal}
-use Rattle.fs_trees.specs.declared.ask.ShellAsk.{ShellAsk}
+use Rattle.chain_changes.proofs.Common.{and_parts, or_left, or_right, nat_tests, take, drop, slice_index_or, option_map_or, list_any, list_all, block_len, free_count, has_number, Name, Path, path_max, is_name, is_path, nothing, a_file, entry, is_there, names, Entry, entries_room, directory_bytes, ChainFile, chain_bytes, Chains, chains_under, as_tree, has_room, names_max, tree_of_files, tree_at, need, clusters_for, chain_need, need_of, when, first_of, no_room, refusal, ShellAsk, FsRefusal, length-entries, any-append, first_in, DiskView, IsValidNow, FilesView, need_on, Client, Looked, no_room_in, refused_on, lookup_refusal, cluster_of, block_len_of, dir_cluster, entries_in, listed_at, PlacedEntry, AreOthers, file_names, HasChains, has_chains, right_is, tree_lacks, first_block, Page, Taken, Free, tree_under, mounted_by, placed_names, page_link, is_roomy, IsEntry, IsLookupTaken, IsRoomiest, IsKnown, names_of_files, entry_file, taken_name, IsLookupOf}
 use Rattle.fs_trees.specs.declared.ask.ShellAsk.TheVariants as ask
 use Rattle.fs_trees.specs.declared.ask.ShellKind.TheVariants as kind
-use Rattle.fs_trees.specs.declared.refusal.FsRefusal.{FsRefusal}
 use Rattle.fs_trees.specs.declared.refusal.FsRefusal.TheVariants as no
-use Rattle.fs_fields.proofs.WrittenLaws.{length-entries}
 use Rattle.fs_laws.proofs.ChainLaws.{found}
-use Rattle.fs_laws.proofs.ListLaws.{any-append, first_in}
-use Rattle.fs_port.specs.View.{DiskView}
-use Rattle.fs_port.specs.Calls.{IsValidNow}
-use Rattle.fs_port.specs.Files.{FilesView, need_on}
-use Rattle.fs_client.specs.declared.client.Client.{Client}
-use Rattle.fs_client.specs.May.{Looked}
-use Rattle.fs_client.specs.Steps.{no_room_in}
-use Rattle.fs_client.specs.Changing.{refused_on, lookup_refusal}
-use Rattle.chain_layout.specs.Block.{cluster_of, block_len_of}
-use Rattle.chain_layout.specs.Held.{dir_cluster, entries_in}
-use Rattle.chain_layout.specs.Listed.{listed_at}
-use Rattle.chain_reading.specs.Chained.{PlacedEntry, AreOthers}
-use Rattle.chain_reading.specs.Changed.{file_names}
-use Rattle.chain_reading.proofs.ChangeLaws.{HasChains, has_chains, right_is}
-use Rattle.chain_reading.proofs.FileLaws.{tree_lacks}
-use Rattle.tsd_model.specs.Placing.{first_block}
-use Rattle.chain_reading.specs.declared.walking.Page.{Page}
-use Rattle.chain_reading.specs.declared.finding.Lookup.TheVariants.{Taken, Free}
-use Rattle.chain_reading.specs.Asking.{tree_under, mounted_by}
-use Rattle.chain_reading.specs.Finding.{placed_names, page_link, is_roomy, IsEntry, IsLookupTaken, IsRoomiest}
-use Rattle.chain_reading.proofs.KnownLaws.{IsKnown, names_of_files, entry_file, taken_name}
-use Rattle.chain_changes.specs.Lookups.{IsLookupOf}
 use Rattle.chain_changes.proofs.PutNeedLaws.{put_lost, put_over, put_new, need_over, need_new, names_counted}
 use Rattle.chain_changes.proofs.PuttingLaws.{Putting}
 

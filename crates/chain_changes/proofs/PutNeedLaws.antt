@@ -1,21 +1,9 @@
 -- What a file that is put needs, and what refuses it.
 use Rattle.std.proofs.Common.{◌≡◌, ℕ, suc, ◌+◌, Bool, true, false, not, cond, ◌&&◌, nat_le, List, [], ◌∷◌, length, refl, ◌∙◌, ap, Option, Some, None}
-use Rattle.std.proofs.lemmas.Bool.{and_parts, not-true}
-use Rattle.std.specs.Prelude.{if◌then◌else◌}
-use Rattle.tsd_model.specs.declared.geometry.Geometry.{Geometry}
-use Rattle.fs_trees.specs.Names.{Name, Path, name_lt, are_distinct}
-use Rattle.fs_trees.specs.Tree.{Entries, none, file, dir, nothing, a_file, a_dir, Tree, entry, is_there, is_dir, names, before, with_entry}
-use Rattle.fs_trees.specs.ChainTree.{ChainFile, chain_bytes, names_max, tree_of_files}
-use Rattle.fs_trees.specs.Needs.{need, clusters_for, chain_need}
-use Rattle.fs_trees.specs.Refusals.{RoomNeed, when, first_of, no_file, dir_full, too_big, no_room, refusal}
+use Rattle.chain_changes.proofs.Common.{and_parts, not-true, if◌then◌else◌, Geometry, Name, Path, name_lt, are_distinct, Entries, none, file, dir, nothing, a_file, a_dir, Tree, entry, is_there, is_dir, names, before, with_entry, ChainFile, chain_bytes, names_max, tree_of_files, need, clusters_for, chain_need, RoomNeed, when, first_of, no_file, dir_full, too_big, no_room, refusal, FsRefusal, lookup_refusal, is_among, file_names, others_tested, tree_lacks}
 use Rattle.fs_trees.specs.declared.ask.ShellAsk.TheVariants as ask
 use Rattle.fs_trees.specs.declared.ask.ShellKind.TheVariants as kind
-use Rattle.fs_trees.specs.declared.refusal.FsRefusal.{FsRefusal}
 use Rattle.fs_trees.specs.declared.refusal.FsRefusal.TheVariants as no
-use Rattle.fs_client.specs.Changing.{lookup_refusal}
-use Rattle.chain_layout.specs.Listed.{is_among}
-use Rattle.chain_reading.specs.Changed.{file_names}
-use Rattle.chain_reading.proofs.FileLaws.{others_tested, tree_lacks}
 
 -- ---- how many names the directory has
 

@@ -1,51 +1,14 @@
 -- A file that is put under a name: what is known where it begins, and what its deciding write leaves.
 use Rattle.std.proofs.Common.{◌≡◌, ℕ, suc, ◌+◌, ◌<◌, ◌≤◌, true, false, List, [], ◌∷◌, ◌++◌, length, refl, sym, ◌∙◌, ap, subst, arith, inl, inr, ◌⊎◌, Option, Some, None}
-use Rattle.std.proofs.lemmas.Bool.{and_from, or_cases, false_from_ne_true, cases_eq}
-use Rattle.std.proofs.lemmas.List.{length-drop}
+use Rattle.chain_changes.proofs.Common.{and_from, or_cases, false_from_ne_true, cases_eq, length-drop, is_some, is_none, block_len, World, contents, is_live, is_free, has_number, are_apart, holds, filled, written, contents-other, live_below, Name, is_name, a_file, is_there, with_at, bytes_room, clusters_for, Link, blocks_of, links, is_filled, Chains, chain_blocks, chain_pairs, chains_under, chain_tree, by_chains, named_at, is_under, FsRefusal, is_inside, times-append, times_none, apart_times, times_apart, outside_twice, DiskView, IsValidNow, IsEitherTree, Client, write_by, MayWrite, Leads, no_room_in, refused_on, there_is_room, clash_free_live, IsFrom, IsChainFile, has_chains, right_is, Stage, Making, IsAside, NewFile, Page, IsPage, tree_under, mounted_by, page_link}
 use Rattle.std.proofs.lemmas.List.Sums.{count_by-le-length}
-use Rattle.std.specs.Prelude.{is_some, is_none}
-use Rattle.tsd_model.specs.Geometry.{block_len}
-use Rattle.tsd_model.specs.World.{World, contents, is_live, is_free, has_number, are_apart}
-use Rattle.tsd_model.specs.Pairs.{holds}
-use Rattle.tsd_model.specs.Step.{filled, written}
-use Rattle.disk_laws.proofs.ChangeLaws.{contents-other}
-use Rattle.disk_laws.proofs.DoomLaws.{live_below}
-use Rattle.fs_trees.specs.Names.{Name, is_name}
-use Rattle.fs_trees.specs.Tree.{a_file, is_there, with_at}
-use Rattle.fs_trees.specs.Cluster.{bytes_room}
-use Rattle.fs_trees.specs.Needs.{clusters_for}
-use Rattle.fs_trees.specs.ChainTree.{Link, blocks_of, links, is_filled, Chains, chain_blocks, chain_pairs, chains_under, chain_tree}
-use Rattle.fs_trees.specs.Layouts.{by_chains, named_at}
-use Rattle.fs_trees.specs.Outside.{is_under}
 use Rattle.fs_trees.specs.declared.ask.ShellAsk.TheVariants as ask
 use Rattle.fs_trees.specs.declared.ask.ShellKind.TheVariants as kind
-use Rattle.fs_trees.specs.declared.refusal.FsRefusal.{FsRefusal}
-use Rattle.fs_laws.specs.Outside.{is_inside}
-use Rattle.fs_laws.proofs.CountLaws.{times-append, times_none, apart_times, times_apart}
-use Rattle.fs_laws.proofs.OutsideLaws.{outside_twice}
-use Rattle.fs_port.specs.View.{DiskView}
-use Rattle.fs_port.specs.Calls.{IsValidNow}
-use Rattle.fs_port.specs.Files.{IsEitherTree}
-use Rattle.fs_client.specs.declared.client.Client.{Client}
-use Rattle.fs_client.specs.Client.{write_by}
-use Rattle.fs_client.specs.May.{MayWrite}
-use Rattle.fs_client.specs.Steps.{Leads, no_room_in}
-use Rattle.fs_client.specs.Changing.{refused_on}
-use Rattle.fs_client.proofs.RoomLaws.{there_is_room}
-use Rattle.fs_client.proofs.RunLaws.{clash_free_live}
-use Rattle.chain_reading.specs.Chained.{IsFrom, IsChainFile}
-use Rattle.chain_reading.proofs.ChangeLaws.{has_chains, right_is}
-use Rattle.chain_changes.specs.Making.{Stage, Making, IsAside}
-use Rattle.chain_changes.specs.Filling.{NewFile}
-use Rattle.chain_changes.proofs.MakingLaws.{named_live, tree_same, primary_now, source_under, aside_now}
-use Rattle.chain_reading.specs.declared.walking.Page.{Page}
-use Rattle.chain_reading.specs.Standing.{IsPage}
-use Rattle.chain_reading.specs.Asking.{tree_under, mounted_by}
-use Rattle.chain_reading.specs.Finding.{page_link}
+use Rattle.chain_changes.proofs.MakingLaws.{named_live, tree_same, primary_now, source_under}
 use Rattle.chain_changes.proofs.EntryLaws.{page_live, page_named}
 use Rattle.chain_changes.proofs.RemoveLaws.{is_under_root}
 use Rattle.chain_changes.proofs.KeptLaws.{chains_kept}
-use Rattle.chain_changes.proofs.AfterLaws.{Decided, decided_either}
+use Rattle.chain_changes.proofs.AfterLaws.{Decided}
 
 -- the cluster of the directory that is to have the entry, where the call begins
 pub record Putting (c : Client) (old : DiskView) (n : Name) (page : Page) : Type 0 where
@@ -155,13 +118,6 @@ module _ (c : Client) (old : DiskView) (n : Name) (page : Page) (x : Putting c o
           ]
         ];
       }
-
-    pub stop_either : (body entered : List ℕ) (Loose : ℕ → ℕ → Type 0) → (Leads w (write_by c page.block entered) (written w page.block entered) → Decided c old (ask.Put (n ∷ []) body) (written w page.block entered) Loose)
-        → (v : World) → (v ≡ w) ⊎ ((v ≡ written w page.block entered) × Leads w (write_by c page.block entered) (written w page.block entered)) → IsEitherTree (mounted_by c) old (ask.Put (n ∷ []) body) v
-    stop_either body entered Loose decide v h = elim h [
-      | inl before ↦ subst (IsEitherTree (mounted_by c) old (ask.Put (n ∷ []) body)) (sym before) (aside_either body w (aside_now c.root old.world page.block stage blocks w m))
-      | inr e ↦ subst (IsEitherTree (mounted_by c) old (ask.Put (n ∷ []) body)) (sym e.0) (decided_either c old (ask.Put (n ∷ []) body) (written w page.block entered) Loose (decide e.1))
-    ]
 
   -- ---- the new file
 

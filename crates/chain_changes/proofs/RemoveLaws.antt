@@ -1,60 +1,14 @@
 -- A file's removal, from the entry that was found to the last request.
 -- The cluster without the entry decides: its file is named no more. The pair to the file is loose then, and goes.
-use Rattle.std.proofs.Common.{◌≡◌, ℕ, suc, ◌+◌, ◌<◌, ◌≤◌, true, false, ◌==◌, nat_lt, List, [], ◌∷◌, ◌++◌, length, refl, sym, ◌∙◌, ap, subst, arith, inl, inr, ◌⊎◌, Option, Some, None, length-append}
-use Rattle.std.proofs.lemmas.Bool.{and_from, and_parts, or_left, eq-eqb, eqb-true, cases_eq}
-use Rattle.std.specs.Prelude.{take, drop, is_some}
-use Rattle.tsd_model.specs.Geometry.{block_len}
-use Rattle.tsd_model.specs.World.{World, is_live, is_free, free_count, has_number}
-use Rattle.tsd_model.specs.Pairs.{holds, is_pair}
-use Rattle.tsd_model.specs.Valid.{IsValid}
-use Rattle.tsd_model.specs.Step.{filled, written}
-use Rattle.disk_laws.proofs.ChangeLaws.{live-with_contents, contents-other}
-use Rattle.fs_trees.specs.Names.{Name, Path, are_distinct}
-use Rattle.fs_trees.specs.Tree.{nothing, a_file, entry, at, is_there, names_in, with_at}
-use Rattle.fs_trees.specs.Fields.{Entry, all_named}
-use Rattle.fs_trees.specs.Cluster.{Cluster, entries_room, directory_bytes}
-use Rattle.fs_trees.specs.ChainTree.{Link, blocks_of, links, ChainFile, chain_bytes, Chains, chain_blocks, chain_pairs, chains_under, as_tree, tree_of_files, chain_tree}
-use Rattle.fs_trees.specs.Layouts.{by_chains, named_at, IsTidy}
-use Rattle.fs_trees.specs.Needs.{need_of}
-use Rattle.fs_trees.specs.Outside.{is_under, OthersStay}
+use Rattle.std.proofs.Common.{◌≡◌, ℕ, suc, ◌+◌, ◌<◌, ◌≤◌, true, false, ◌==◌, nat_lt, List, [], ◌∷◌, ◌++◌, length, refl, sym, ◌∙◌, ap, subst, arith, inl, inr, ◌⊎◌, Option, Some, None, length-append, Ok}
+use Rattle.chain_changes.proofs.Common.{and_from, and_parts, or_left, eq-eqb, eqb-true, cases_eq, take, drop, is_some, block_len, World, is_live, is_free, free_count, has_number, holds, is_pair, IsValid, filled, written, contents-other, Name, Path, are_distinct, nothing, a_file, entry, at, is_there, names_in, with_at, Entry, all_named, Cluster, entries_room, directory_bytes, Link, blocks_of, links, ChainFile, chain_bytes, Chains, chain_blocks, chain_pairs, chains_under, as_tree, tree_of_files, chain_tree, by_chains, named_at, IsTidy, need, need_of, is_under, OthersStay, FsRefusal, is_inside, number_left, number_right, first_in, held_left, held_right, times, named_is_under, DiskView, IsEitherTree, Client, write_by, MayWrite, Looked, OnlyLooks, Leads, refused_on, lookup_refusal, rm_none, runs_as, runs_look, same_room, as_before, clash_free_live, named_reached, cluster_of, dir_cluster, entries_in, unlisted_at, entry_blocks, HaveFourBytes, IsChainFile, file_blocks, file_pairs, file_names, relinked, FileRemoved, HasChains, has_chains, IsRight, right_is, blocks-append, file_pairs-append, entry_is_removed, distinct_parts, tree_has, Page, Taken, tree_under, mounted_by, page_link, IsLookupTaken, IsLookupOf}
 use Rattle.fs_trees.specs.declared.ask.ShellAsk.TheVariants as ask
 use Rattle.fs_trees.specs.declared.ask.ShellKind.TheVariants as kind
-use Rattle.fs_trees.specs.declared.refusal.FsRefusal.{FsRefusal}
 use Rattle.fs_trees.specs.declared.refusal.FsRefusal.TheVariants as no
-use Rattle.fs_laws.specs.Outside.{is_inside}
-use Rattle.fs_laws.proofs.ListLaws.{number_left, number_right, first_in, held_left, held_right}
-use Rattle.fs_laws.proofs.CountLaws.{times}
-use Rattle.fs_laws.proofs.TreeLaws.{named_is_under}
-use Rattle.fs_port.specs.View.{DiskView}
-use Rattle.fs_port.specs.Calls.{Stays}
-use Rattle.fs_port.specs.Files.{IsEitherTree}
-use Rattle.fs_client.specs.declared.client.Client.{Client}
-use Rattle.fs_client.specs.Client.{write_by}
-use Rattle.fs_client.specs.May.{MayWrite, Looked}
-use Rattle.fs_client.specs.Steps.{Leads, Went}
-use Rattle.fs_client.specs.Changing.{refused_on, lookup_refusal}
-use Rattle.fs_client.proofs.AskLaws.{rm_none}
-use Rattle.fs_client.proofs.RunLaws.{as_before, clash_free_live}
-use Rattle.fs_client.proofs.MayLaws.{may_after}
-use Rattle.fs_client.proofs.TidyLaws.{named_reached}
-use Rattle.chain_layout.specs.Block.{cluster_of}
-use Rattle.chain_layout.specs.Held.{dir_cluster, entries_in}
-use Rattle.chain_layout.specs.Listed.{unlisted_at, entry_blocks}
-use Rattle.chain_layout.specs.ReadsBack.{HaveFourBytes}
-use Rattle.chain_reading.specs.Chained.{IsChainFile}
-use Rattle.chain_reading.specs.Changed.{file_blocks, file_pairs, file_names, relinked}
-use Rattle.chain_reading.specs.Decided.{FileRemoved}
-use Rattle.chain_reading.proofs.ChangeLaws.{HasChains, has_chains, IsRight, right_is, blocks-append, file_pairs-append}
-use Rattle.chain_reading.proofs.DecidedLaws.{entry_is_removed}
-use Rattle.chain_reading.proofs.FileLaws.{distinct_parts, tree_has}
-use Rattle.chain_reading.specs.declared.walking.Page.{Page}
-use Rattle.chain_reading.specs.declared.finding.Lookup.TheVariants.{Taken}
-use Rattle.chain_reading.specs.Asking.{tree_under, mounted_by}
-use Rattle.chain_reading.specs.Finding.{page_link, IsLookupTaken}
-use Rattle.chain_changes.specs.Lookups.{IsLookupOf}
 use Rattle.chain_changes.proofs.EntryLaws.{ReadsAs, directory_read, directory_fits, from_first, named_parts, named_both, small_parts, small_both, page_live, page_within, page_named, page_entries, page_all_named, page_linked, page_sized, page_small}
 use Rattle.chain_changes.proofs.ExchangeLaws.{old_gone, named_before, still_named}
 use Rattle.chain_changes.proofs.AfterLaws.{LetsGo, This_loose, decided_either}
+use Rattle.chain_changes.proofs.WritingLaws.{Writing}
 
 -- ---- a list without one of its entries
 
@@ -296,15 +250,19 @@ module _ (c : Client) (first mid : DiskView) (path : Path) (n : Name) (page : Pa
           same_head : {m k : ℕ} {ms ks : List ℕ} → m ∷ ms ≡ k ∷ ks → m ≡ k
           same_head h = cc
 
-  pub stop_at_write : (v : World) → (v ≡ mid.world) ⊎ ((v ≡ written mid.world d bytes) × Leads mid.world (write_by c d bytes) (written mid.world d bytes)) → IsEitherTree (mounted_by c) first (ask.Rm path) v
-  stop_at_write v (inl before) = as_before (mounted_by c) first (ask.Rm path) v x.valid (before ∙ x.seen.world)
-  stop_at_write v (inr h) = subst (IsEitherTree (mounted_by c) first (ask.Rm path)) (sym h.0) (decided_either c first (ask.Rm path) (written mid.world d bytes) (This_loose d b) (lets_go h.1).decided)
-
-  -- ---- letting go
-
-  module _ (wr : DiskView) (went : Went c mid wr (write_by c d bytes) d (written mid.world d bytes)) (stays : Stays mid wr) where
-    pub lets_go_now : LetsGo c first (ask.Rm path) wr.world d b
-    lets_go_now = subst (λ v. LetsGo c first (ask.Rm path) v d b) (sym went.world) (lets_go went.leads)
-
-    pub may_drop : MayWrite c wr d
-    may_drop = may_after c mid wr (write_by c d bytes) d (written mid.world d bytes) went x.seen.valid refl refl (λ k y h. h) (λ k h. live-with_contents mid.world d k _ h) stays d may_write
+-- the cluster's write, after the look
+pub writes_without : {X : Type 0} {told : Type 0} {c : Client} {first mid : DiskView} {path : Path} {n : Name} {page : Page} {position b : ℕ} (found : X) → (told → Taking c first mid path n page position b) → OnlyLooks told first mid (Ok found)
+    → Writing told c first mid (ask.Rm path) page.block (directory_bytes (cluster_of (dir_cluster page.cluster)).next (unlisted_at position (entries_in page.cluster))) (λ w. LetsGo c first (ask.Rm path) w page.block b)
+writes_without {told = told} {c = c} {first = first} {mid = mid} {path = path} {n = n} {page = page} {position = position} {b = b} found x looks =
+    let f = mounted_by c in
+    let a = ask.Rm path in
+    let P = IsEitherTree f first a in
+    record {
+      so_far = runs_as told first mid P found tt (runs_look told first mid P (Ok found) (λ t w is. as_before f first a w (x t).valid is) looks);
+      kept = λ t. same_room (need 0 0) first.world mid.world (x t).seen.world;
+      may = λ t. may_write c first mid path n page position b (x t);
+      fits = λ t. fits c first mid path n page position b (x t);
+      leads = λ t. lets_go c first mid path n page position b (x t);
+      still = λ t. as_before f first a mid.world (x t).valid (x t).seen.world;
+      either = λ t w lets. decided_either c first a w (This_loose page.block b) lets.decided;
+    }

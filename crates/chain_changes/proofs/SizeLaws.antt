@@ -1,20 +1,7 @@
 -- How many clusters a file has, and how many more once it has grown.
 use Rattle.std.proofs.Common.{◌≡◌, ℕ, zero, suc, ◌+◌, ◌-◌, ◌*◌, ◌<◌, ◌≤◌, Bool, true, false, ◌&&◌, ◌==◌, nat_lt, min, List, [], ◌∷◌, ◌++◌, length, refl, sym, ◌∙◌, ap, arith, inl, inr, append-nil, length-append, Option, Some, None}
-use Rattle.std.proofs.lemmas.Bool.{and_parts, eqb-true, leb-true, ltb-true, cases_lt}
-use Rattle.std.proofs.lemmas.List.{length-drop, length-take-le}
-use Rattle.std.proofs.lemmas.Grind.{div_ceil_times}
-use Rattle.std.proofs.Math.Nat.{mul-le-mul_right}
-use Rattle.std.specs.Prelude.{max, take, drop, IfSome}
-use Rattle.std.specs.Int.{div_ceil}
-use Rattle.std.specs.Option.{option_and_then}
-use Rattle.tsd_model.specs.Geometry.{block_len}
-use Rattle.tsd_model.specs.World.{World, contents}
-use Rattle.tsd_model.specs.Valid.{IsSized}
-use Rattle.fs_trees.specs.Fields.{only_if, begins_with}
+use Rattle.chain_changes.proofs.Common.{and_parts, eqb-true, leb-true, ltb-true, cases_lt, length-drop, length-take-le, div_ceil_times, mul-le-mul_right, max, take, drop, IfSome, div_ceil, option_and_then, block_len, World, contents, IsSized, only_if, begins_with, Cluster, magic, link_in, cluster_in, bytes_room, Link, cluster_at, is_filled, chain_bytes, IsFrom}
 use Rattle.byteorder.specs.Endian.{little_number}
-use Rattle.fs_trees.specs.Cluster.{Cluster, magic, link_in, cluster_in, bytes_room}
-use Rattle.fs_trees.specs.ChainTree.{Link, cluster_at, is_filled, chain_bytes}
-use Rattle.chain_reading.specs.Chained.{IsFrom}
 
 -- ---- of numbers
 

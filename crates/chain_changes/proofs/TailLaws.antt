@@ -1,18 +1,8 @@
 -- The further clusters of a file, in the making.
-use Rattle.std.proofs.Common.{◌≡◌, ℕ, ◌*◌, ◌≤◌, length, List, sym, ◌∙◌, ap, subst, arith}
+use Rattle.std.proofs.Common.{◌≡◌, ℕ, ◌*◌, ◌≤◌, length, List, sym, ◌∙◌, ap, subst, arith, Result, Ok}
 use Rattle.std.proofs.Common.{mul_comm}
-use Rattle.std.proofs.lemmas.Grind.{div_ceil_times}
-use Rattle.std.specs.Int.{div_ceil}
-use Rattle.tsd_model.specs.Geometry.{block_len}
-use Rattle.tsd_model.specs.World.{World}
-use Rattle.tsd_model.specs.Valid.{IsValid}
-use Rattle.fs_trees.specs.Cluster.{bytes_room}
-use Rattle.fs_port.specs.View.{DiskView}
-use Rattle.fs_client.specs.declared.client.Client.{Client}
-use Rattle.chain_changes.specs.Making.{Stage, IsAside}
-use Rattle.chain_changes.specs.Filling.{AsideWith, NewChain, ArePartsOf, Wrote}
+use Rattle.chain_changes.proofs.Common.{div_ceil_times, div_ceil, block_len, World, IsValid, bytes_room, FsRefusal, DiskView, IsValidNow, Runs, runs_more, then_runs, Client, Stage, IsAside, AsideWith, NewChain, ArePartsOf, Wrote, clusters_more, NewTail}
 use Rattle.chain_changes.proofs.FileLaws.{few_clusters, long_room}
-use Rattle.chain_changes.specs.Growing.{clusters_more, NewTail}
 
 pub few_more : (w : World) (bytes : List ℕ) → IsValid w → length bytes ≤ 4096 → clusters_more (block_len w.geometry) bytes ≤ 64
 few_more w bytes valid small = let few = few_clusters (length bytes) (bytes_room (block_len w.geometry)) small (long_room w valid) in omega (arith, few)
@@ -39,3 +29,21 @@ module _ (c : Client) (old mid new : DiskView) (source count : ℕ) (bytes block
     parts = subst (λ r. ArePartsOf r bytes wrote.here.links) (ap (λ g. bytes_room (block_len g)) chain.making.geometry) wrote.here.parts;
     may = λ b m. wrote.may b (chain.may b m);
   }
+
+-- the new blocks: as many as the bytes take
+pub record NewClusters (told : Type 0) (c : Client) (old mid : DiskView) (source count : ℕ) (bytes blocks : List ℕ) : Type 0 where
+  pub stage : told → Stage c.root old.world source
+  pub valid : told → IsValidNow old
+  pub is : told → count ≡ clusters_more (block_len old.world.geometry) bytes
+  pub made : told → NewChain c old mid source count blocks
+  pub runs : Runs told old mid (IsAside c.root old.world) (Ok blocks)
+
+-- then they are written
+module _ {told : Type 0} {c : Client} {old mid : DiskView} {source count : ℕ} {bytes blocks own : List ℕ} (x : NewClusters told c old mid source count bytes blocks) (own_is : own ≡ blocks) where
+  pub tail_runs : (new : DiskView) (result : Result (Unit {0}) FsRefusal) → Runs told mid new (AsideWith c.root own mid.world) result → Runs told old new (IsAside c.root old.world) result
+  tail_runs new result runs = then_runs told old mid new (IsAside c.root old.world) blocks result x.runs
+      (runs_more told mid new (AsideWith c.root own mid.world) (IsAside c.root old.world) result
+      (λ t w aside. tail_aside c old mid new source count bytes blocks (x.stage t) (x.valid t).valid (x.is t) (x.made t) w (subst (λ bs. AsideWith c.root bs mid.world w) own_is aside)) runs)
+
+  pub tail_made : (new : DiskView) → (told → Wrote c mid new own bytes) → told → NewTail c old new source bytes blocks
+  tail_made new wrote t = is_tail c old mid new source count bytes blocks (x.stage t) (x.valid t).valid (x.is t) (x.made t) (subst (λ bs. Wrote c mid new bs bytes) own_is (wrote t))

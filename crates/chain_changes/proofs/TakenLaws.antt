@@ -1,19 +1,6 @@
 -- What is taken for a new chain, counted.
 use Rattle.std.proofs.Common.{◌≡◌, ℕ, suc, ◌+◌, true, false, ◌||◌, List, [], ◌∷◌, length, refl, sym, ◌∙◌, ap, subst}
-use Rattle.std.proofs.lemmas.Bool.{or_left, or_right}
-use Rattle.std.specs.Prelude.{is_some}
-use Rattle.tsd_model.specs.Geometry.{block_len}
-use Rattle.tsd_model.specs.World.{World, is_live, has_number}
-use Rattle.tsd_model.specs.Valid.{IsValid}
-use Rattle.fs_trees.specs.ChainTree.{links}
-use Rattle.fs_trees.specs.Needs.{need, clusters_for}
-use Rattle.fs_port.specs.View.{DiskView}
-use Rattle.fs_port.specs.Files.{KeepsRoom}
-use Rattle.fs_client.specs.declared.client.Client.{Client}
-use Rattle.fs_client.proofs.KeepLaws.{takes_these}
-use Rattle.chain_changes.specs.Making.{Making}
-use Rattle.chain_changes.specs.Filling.{NewFile}
-use Rattle.chain_changes.specs.Growing.{clusters_more, NewTail}
+use Rattle.chain_changes.proofs.Common.{or_left, or_right, is_some, block_len, World, is_live, has_number, IsValid, links, need, clusters_for, DiskView, KeepsRoom, Client, takes_these, Making, NewFile, clusters_more, NewTail}
 
 -- a pair to each block of a chain
 length-links : (b : ℕ) (bs : List ℕ) → length (links (b ∷ bs)) ≡ length bs

@@ -1,32 +1,6 @@
 -- The clusters of a chain in the making are written, one after the other.
 use Rattle.std.proofs.Common.{◌≡◌, ℕ, zero, suc, ◌+◌, ◌-◌, ◌*◌, ◌^◌, ◌<◌, ◌≤◌, Bool, true, false, not, ◌||◌, ◌==◌, List, [], ◌∷◌, ◌++◌, length, refl, sym, ◌∙◌, ap, subst, arith, inl, inr, ◌⊎◌, Option, Some, Result, Ok}
-use Rattle.std.proofs.lemmas.Bool.{and_parts, or_left, or_right, eq-eqb, not-true}
-use Rattle.std.proofs.lemmas.List.{length-drop, length-take}
-use Rattle.std.proofs.Math.Seq.{take-append_seam}
-use Rattle.std.specs.Prelude.{take, drop, slice_index_or, replicate}
-use Rattle.std.specs.Option.{option_and_then}
-use Rattle.tsd_model.specs.Geometry.{block_len}
-use Rattle.tsd_model.specs.World.{World, contents, is_live, has_number, are_apart}
-use Rattle.tsd_model.specs.Step.{filled, written}
-use Rattle.disk_laws.proofs.ChangeLaws.{contents-other, contents-same, live-with_contents}
-use Rattle.disk_laws.proofs.DoomLaws.{live_below}
-use Rattle.fs_trees.specs.Cluster.{Cluster, cluster_in, bytes_room, link_field, part_bytes}
-use Rattle.fs_trees.specs.ChainTree.{cluster_at}
-use Rattle.fs_trees.specs.declared.refusal.FsRefusal.{FsRefusal}
-use Rattle.fs_port.specs.View.{DiskView, IsDiskSound}
-use Rattle.fs_port.specs.Calls.{IsValidNow}
-use Rattle.fs_client.specs.declared.client.Client.{Client}
-use Rattle.fs_client.specs.Client.{write_by}
-use Rattle.fs_client.specs.May.{MayWrite}
-use Rattle.fs_client.proofs.LookLaws.{no_look}
-use Rattle.fs_client.specs.Steps.{Leads, Went, Steps}
-use Rattle.fs_port.specs.Runs.{Runs}
-use Rattle.fs_client.proofs.RunLaws.{runs_look, runs_step, then_runs}
-use Rattle.fs_client.proofs.MayLaws.{may_after}
-use Rattle.chain_layout.proofs.BackLaws.{head_back}
-use Rattle.chain_changes.specs.Making.{Making, IsAside}
-use Rattle.tsd_model.specs.Placing.{first_block}
-use Rattle.chain_changes.specs.Filling.{AreLinkable, AsideWith, MadeWith, ArePartsOf, WroteIn, Wrote}
+use Rattle.chain_changes.proofs.Common.{and_parts, or_left, or_right, eq-eqb, not-true, length-drop, length-take, take-append_seam, take, drop, slice_index_or, replicate, option_and_then, block_len, World, contents, is_live, has_number, are_apart, filled, written, contents-other, contents-same, live-with_contents, live_below, Cluster, cluster_in, bytes_room, link_field, part_bytes, cluster_at, FsRefusal, DiskView, IsDiskSound, IsValidNow, Client, write_by, MayWrite, no_look, Leads, Went, Steps, Runs, runs_look, runs_step, then_runs, may_after, head_back, Making, IsAside, first_block, AreLinkable, AsideWith, MadeWith, ArePartsOf, WroteIn, Wrote}
 use Rattle.chain_changes.proofs.MakingLaws.{aside_now, making_written}
 
 clash : (t : Bool) → t ≡ true → t ≡ false → ⊥

@@ -1,3 +1,4 @@
+pub mod Common
 pub mod MakeLaws
 pub mod StandLaws
 pub mod TidyLaws

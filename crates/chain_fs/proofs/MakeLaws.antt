@@ -1,20 +1,11 @@
 -- A root that is written as an empty directory.
 use Rattle.std.proofs.Common.{◌≡◌, ℕ, true, zero, suc, ◌-◌, ◌<◌, ◌≤◌, List, [], ◌∷◌, length, refl, ◌∙◌, ap, arith, Some, None}
-use Rattle.std.specs.Prelude.{replicate}
-use Rattle.std.specs.Option.{option_and_then}
-use Rattle.tsd_model.specs.Geometry.{block_len}
-use Rattle.tsd_model.specs.World.{World, is_live}
+use Rattle.chain_fs.proofs.Common.{replicate, option_and_then, block_len, World, is_live, Cluster, cluster_in, directory_bytes, Link, cluster_at, chain_by_next, next_of, chain_at, files_in, with_directory, with_files, chains_under, as_tree, by_chains, written, IsEmptied, listing_from}
 use Rattle.tsd_model.specs.Valid.{IsValid}
 use Rattle.disk_laws.proofs.DoomLaws.{live_below}
-use Rattle.fs_trees.specs.Cluster.{Cluster, cluster_in, directory_bytes}
-use Rattle.fs_trees.specs.ChainTree.{Link, cluster_at, chain_by_next, next_of, chain_at, files_in, with_directory, with_files, chains_under, as_tree}
-use Rattle.fs_trees.specs.Layouts.{by_chains}
 use Rattle.fs_trees.specs.declared.ask.ShellKind.TheVariants as kind
-use Rattle.tsd_model.specs.Step.{written}
-use Rattle.fs_client.specs.Changing.{IsEmptied}
 use Rattle.fs_client.proofs.WriteLaws.{block_long, written_here}
 use Rattle.chain_layout.proofs.BackLaws.{head_back, entries_back}
-use Rattle.chain_reading.proofs.ChainedLaws.{listing_from}
 
 pub empty_fits : (w : World) → IsValid w → length (directory_bytes None []) ≤ block_len w.geometry
 empty_fits w valid = let room = block_long w valid in omega (arith, room)

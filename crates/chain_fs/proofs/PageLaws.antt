@@ -1,31 +1,11 @@
 -- A cluster of the directory, and the files of its entries.
-use Rattle.std.proofs.Common.{◌≡◌, ◌⊎◌, ℕ, zero, suc, ◌+◌, ◌<◌, ◌≤◌, true, false, ◌==◌, List, [], ◌∷◌, ◌++◌, length, refl, sym, ◌∙◌, ap, subst, arith, inl, inr, length-append, Some, None, Ok}
-use Rattle.std.proofs.lemmas.Bool.{or_cases, or_left, or_right, eq-eqb, eqb-true, cases_lt}
-use Rattle.std.specs.Prelude.{flat_map, slice_index, is_some}
-use Rattle.std.specs.Option.{option_and_then}
-use Rattle.tsd_model.specs.Geometry.{block_len}
-use Rattle.tsd_model.specs.World.{World, has_number}
-use Rattle.tsd_model.specs.Pairs.{holds}
-use Rattle.fs_trees.specs.Fields.{Entry}
-use Rattle.fs_trees.specs.Cluster.{Cluster, cluster_in, entries_of}
-use Rattle.fs_trees.specs.ChainTree.{Link, ChainFile, Chains, cluster_at, blocks_of, links, chain_blocks, chain_pairs}
-use Rattle.fs_laws.specs.Ways.{HoldsWrite}
-use Rattle.fs_laws.proofs.ListLaws.{held_left, number_left, number_right, in_append as number_append}
-use Rattle.fs_port.specs.View.{DiskView, state_of}
-use Rattle.fs_port.specs.Calls.{Stays}
-use Rattle.fs_client.specs.declared.client.Client.{Client}
-use Rattle.fs_client.specs.May.{MayWrite}
-use Rattle.fs_client.specs.Trimming.{IsWay, MayTrim, Trimmed, Trims, OnlyNamed, IsClean}
-use Rattle.fs_client.proofs.TrimLaws.{way_still, may_by_way}
-use Rattle.chain_layout.specs.Listed.{next_blocks, entry_blocks}
-use Rattle.chain_layout.specs.Block.{cluster_of}
-use Rattle.chain_layout.specs.Held.{blocks_in, entries_in, dir_cluster as page_cluster}
-use Rattle.chain_reading.specs.Standing.{entries_at, IsPage}
+use Rattle.std.proofs.Common.{◌≡◌, ◌⊎◌, ℕ, zero, suc, ◌+◌, ◌<◌, ◌≤◌, true, false, ◌==◌, List, [], ◌∷◌, ◌++◌, length, refl, sym, ◌∙◌, ap, subst, arith, inl, inr, length-append, Some, None, Ok, Err}
+use Rattle.chain_fs.proofs.Common.{or_cases, or_left, or_right, eq-eqb, eqb-true, cases_lt, flat_map, slice_index, is_some, option_and_then, block_len, World, has_number, holds, Entry, Cluster, cluster_in, entries_of, Link, ChainFile, Chains, cluster_at, blocks_of, links, chain_blocks, chain_pairs, HoldsWrite, held_left, number_left, number_right, number_append, DiskView, state_of, Stays, Client, MayWrite, IsWay, MayTrim, Trimmed, Trims, OnlyNamed, IsClean, way_still, may_by_way, next_blocks, entry_blocks, cluster_of, blocks_in, entries_in, page_cluster, entries_at, IsPage, link_of, IsWalked, walk_starts, walk_ends, one_more, named_of, IsIn, BeginsAt, AreChainsUnder, AreClean, FilesAreClean, MayTidy, IsFileHere, IsPageHere, MayTidyPage, IsDiskSound, OnlyLooks, Geometry, then_trims, root_may}
 use Rattle.chain_reading.specs.declared.walking.Page.{Page}
-use Rattle.chain_reading.proofs.WalkLaws.{link_of, IsWalked, walk_starts, walk_ends, one_more}
-use Rattle.chain_fs.specs.Tidying.{named_of, IsIn, BeginsAt, AreChainsUnder, AreClean, FilesAreClean, MayTidy, IsFileHere, IsPageHere, MayTidyPage}
+use Rattle.fs_trees.specs.declared.ask.ShellKind.TheVariants as kind
+use Rattle.fs_trees.specs.declared.refusal.FsRefusal.TheVariants as no
 use Rattle.chain_fs.proofs.StandLaws.{one_of_files, from_directory, entry_pair, page_names, next_named, entries_here, file_of_entry, entry_of_file}
-use Rattle.chain_fs.proofs.TidyLaws.{tidy_still, block_here, walk_over, clean_still, clean_none, clean_more, one_clean, next_only, only_next}
+use Rattle.chain_fs.proofs.TidyLaws.{tidy_still, trims_refuse, first_trims, read_trims, turn_trims, all_turns, block_here, walk_over, clean_still, clean_none, clean_more, one_clean, next_only, only_next}
 
 -- ---- entries by their places
 
@@ -262,3 +242,57 @@ module _ (c : Client) (k : Chains) (now : DiskView) (s : AreChainsUnder c k now)
       let more = one_more c now k.directory left.before b left.walked in
       let short = s.directory.short in
       omega (arith, more, short, left.count, past)
+
+-- ---- a turn of the directory
+
+abbrev pub page_said : Page → Cluster
+page_said page = cluster_of (page_cluster page.cluster)
+
+pub first_page : {told : Type 0} {c : Client} {k : Chains} {v : DiskView} → MayTidy told c k v → (told → v.spent ≡ false → IsDiskSound v) → DirGoing told c k v v c.root 0
+first_page {c = c} {k = k} {v = v} tree sound = record {
+  tree = tree;
+  trims = first_trims tree sound;
+  left = λ t. dir_starts c k v (root_may kind.Chain c v tree.ready (tree.valid t) (sound t tree.ready.unspent)) (tree.stands t);
+}
+
+module _ {told : Type 0} {c : Client} {k : Chains} {first now : DiskView} {b turn : ℕ} (going : DirGoing told c k first now b turn) where
+  pub page_is : told → is_some (entries_at now.world b) ≡ true
+  page_is t = page_there c k now (going.tree.stands t) b turn (going.left t)
+
+  pub pages_over : {shape : Geometry} → (told → now.spent ≡ false → IsDiskSound now) → shape ≡ first.geometry → shape.blocks ≤ turn → Trims {X = Unit {0}} told c (named_of k) first now (Err no.NotThisFs)
+  pages_over sound is past = trims_refuse told c (named_of k) first now
+      (λ t. dir_short c k now (going.tree.stands t) b turn (going.left t) (all_turns going.tree going.trims sound is past t)) going.trims
+
+  module _ {mid : DiskView} {page : Page} (looks : OnlyLooks told now mid (Ok page)) (is : told → IsPage now.world b page) (held : told → HoldsWrite (state_of mid) c.session b) where
+    pub page_may : MayTidyPage told c k mid page
+    page_may =
+        let seen = read_trims going.tree looks in
+        record {
+          tree = tidy_still told c k now mid page going.tree seen;
+          here = λ t. page_read c k now (going.tree.stands t) b turn (going.left t) mid page (seen.trimmed t) looks.stays.0 (is t) (held t);
+        }
+
+    module _ {new : DiskView} (after : Trims {X = Unit {0}} told c (named_of k) mid new (Ok tt)) (own : told → AreClean (named_of k) new.world (page.block ∷ [])) (clean : told → FilesAreClean k new.world page.block) where
+      page_trims : Trims {X = Unit {0}} told c (named_of k) now new (Ok tt)
+      page_trims = then_trims told c (named_of k) now mid new page (Ok tt) (read_trims going.tree looks) after
+
+      own_here : told → AreClean (named_of k) new.world (b ∷ [])
+      own_here t = subst (λ x. AreClean (named_of k) new.world (x ∷ [])) (is t).block (own t)
+
+      files_here : told → FilesAreClean k new.world b
+      files_here t = subst (FilesAreClean k new.world) (is t).block (clean t)
+
+      pub page_last : (page_said page).next ≡ None → told → (a : ℕ) → IsClean (named_of k) new.world a
+      page_last next t =
+          dir_ends c k now (going.tree.stands t) b turn (going.left t) (page_said page) (is t).read.says new (page_trims.trimmed t) (own_here t) (files_here t) next
+
+      pub page_next : {d : ℕ} → (page_said page).next ≡ Some d → DirGoing told c k first new d (turn + 1)
+      page_next {d} next = record {
+        tree = tidy_still told c k now new tt going.tree page_trims;
+        trims = turn_trims going.tree going.trims looks after;
+        left = λ t.
+            let s = going.tree.stands t in
+            let live = (after.trimmed t).keeps.live b (dir_named c k now s b turn (going.left t)) in
+            dir_on c k now s b turn (going.left t) (page_said page) (is t).read.says new (page_trims.trimmed t) (own_here t) (files_here t) d next page_trims.runs.stays.0
+            ((after.trimmed t).ways c.session b (held t) live);
+      }

@@ -1,23 +1,6 @@
 -- Chains that stand under a root: what of them leads where.
 use Rattle.std.proofs.Common.{◌≡◌, ◌⊎◌, ℕ, ◌≤◌, Bool, true, false, not, ◌==◌, List, [], ◌∷◌, ◌++◌, length, refl, sym, ◌∙◌, ap, subst, inl, inr, Option, Some}
-use Rattle.std.proofs.lemmas.Bool.{and_parts, and_from, or_cases, or_left, or_right, eq-eqb, eqb-true}
-use Rattle.std.specs.Prelude.{flat_map}
-use Rattle.std.specs.Option.{option_and_then}
-use Rattle.tsd_model.specs.Geometry.{block_len}
-use Rattle.tsd_model.specs.World.{World, has_number, are_apart}
-use Rattle.tsd_model.specs.Pairs.{holds, is_pair}
-use Rattle.fs_trees.specs.Fields.{Entry}
-use Rattle.fs_trees.specs.Cluster.{Cluster, entries_of}
-use Rattle.fs_trees.specs.ChainTree.{Link, ChainFile, Chains, cluster_at, blocks_of, links, chain_pairs}
-use Rattle.fs_laws.proofs.ListLaws.{held_append, held_left, held_right, number_left, number_right, in_append as number_append}
-use Rattle.fs_port.specs.View.{DiskView}
-use Rattle.fs_client.specs.declared.client.Client.{Client}
-use Rattle.fs_client.specs.Trimming.{Trimmed}
-use Rattle.fs_client.proofs.TrimLaws.{under_still}
-use Rattle.chain_reading.specs.Chained.{PlacedEntry, IsFrom, IsChainFile, AreFiles, AreEntries, placed}
-use Rattle.chain_reading.proofs.ChainedLaws.{from_same, files_same}
-use Rattle.chain_reading.specs.Standing.{entries_at}
-use Rattle.chain_fs.specs.Tidying.{named_of, IsIn, BeginsAt, AreChainsUnder}
+use Rattle.chain_fs.proofs.Common.{and_parts, and_from, or_cases, or_left, or_right, eq-eqb, eqb-true, flat_map, option_and_then, block_len, World, has_number, are_apart, holds, is_pair, Entry, Cluster, entries_of, Link, ChainFile, Chains, cluster_at, blocks_of, links, chain_pairs, held_append, held_left, held_right, number_left, number_right, number_append, DiskView, Client, Trimmed, under_still, PlacedEntry, IsFrom, IsChainFile, AreFiles, AreEntries, placed, from_same, files_same, entries_at, named_of, IsIn, BeginsAt, AreChainsUnder}
 
 some_same : {X : Type 0} {x y : X} → Some x ≡ Some y → x ≡ y
 some_same e = cc

@@ -1,30 +1,9 @@
 -- A chain whose clusters let go of what they don't name, one after the other.
-use Rattle.std.proofs.Common.{◌≡◌, ℕ, ◌+◌, ◌≤◌, true, false, ◌==◌, List, [], ◌∷◌, ◌++◌, length, refl, sym, ◌∙◌, ap, subst, arith, inl, inr, append_assoc, length-append, Option, Some, None, Ok, Err}
-use Rattle.std.proofs.lemmas.Bool.{and_from, or_cases, or_left, or_right, eq-eqb, eqb-true}
-use Rattle.std.specs.Prelude.{flat_map}
-use Rattle.tsd_model.specs.World.{World, has_number}
-use Rattle.tsd_model.specs.Pairs.{holds, is_pair}
-use Rattle.fs_trees.specs.Cluster.{Cluster}
-use Rattle.fs_trees.specs.ChainTree.{Link, ChainFile, Chains, cluster_at, blocks_of, links, chain_blocks, chain_pairs}
-use Rattle.fs_trees.specs.Layouts.{Named}
+use Rattle.std.proofs.Common.{◌≡◌, ℕ, ◌+◌, ◌≤◌, true, false, ◌==◌, List, [], ◌∷◌, ◌++◌, length, refl, sym, ◌∙◌, ap, subst, arith, inl, inr, append_assoc, length-append, Option, Some, None, Result, Ok, Err}
+use Rattle.chain_fs.proofs.Common.{and_from, or_cases, or_left, or_right, eq-eqb, eqb-true, flat_map, World, has_number, holds, is_pair, Cluster, Link, ChainFile, Chains, cluster_at, blocks_of, links, chain_blocks, chain_pairs, Named, HoldsWrite, held_right, number_right, DiskView, state_of, IsValidNow, Stays, IsClientReady, Client, MayWrite, IsWay, MayTrim, Trimmed, IsTrim, Trims, OnlyNamed, ready_still, runs_but_refuses, next_blocks, IsFrom, from_same, mounted_by, link_of, IsWalked, walk_starts, first_link, walk_ends, one_more, named_of, IsIn, AreChainsUnder, AreClean, MayTidy, IsFileHere, IfErr, FsRefusal, IsDiskSound, OnlyLooks, MayDelete, Geometry, Part, IsPartOfRoot, has_part, part_there, cluster_of, part_cluster, no_look, trims_by_looks, trims_refused, then_trims, delete_still}
 use Rattle.fs_trees.specs.declared.refusal.FsRefusal.TheVariants as no
-use Rattle.fs_laws.specs.Ways.{HoldsWrite}
-use Rattle.fs_laws.proofs.ListLaws.{held_right, number_right}
 use Rattle.fs_laws.proofs.WayLaws.{ways_lead_on}
-use Rattle.fs_port.specs.View.{DiskView, state_of}
-use Rattle.fs_port.specs.Calls.{IsValidNow, Stays}
-use Rattle.fs_port.specs.Files.{IsClientReady}
-use Rattle.fs_client.specs.declared.client.Client.{Client}
 use Rattle.fs_client.specs.Client.{shown_at}
-use Rattle.fs_client.specs.May.{MayWrite}
-use Rattle.fs_client.specs.Trimming.{IsWay, MayTrim, Trimmed, IsTrim, Trims, OnlyNamed}
-use Rattle.fs_client.proofs.RunLaws.{ready_still, runs_but_refuses}
-use Rattle.chain_layout.specs.Listed.{next_blocks}
-use Rattle.chain_reading.specs.Chained.{IsFrom}
-use Rattle.chain_reading.proofs.ChainedLaws.{from_same}
-use Rattle.chain_reading.specs.Asking.{mounted_by}
-use Rattle.chain_reading.proofs.WalkLaws.{link_of, IsWalked, walk_starts, first_link, walk_ends, one_more}
-use Rattle.chain_fs.specs.Tidying.{named_of, IsIn, AreChainsUnder, AreClean, MayTidy, IsFileHere}
 use Rattle.chain_fs.proofs.StandLaws.{stands_still, from_chain, file_pair, file_block, of_entry, file_from, entry_pair, part_names, part_named}
 
 -- ---- before each call
@@ -52,6 +31,34 @@ trims_refuse told c n old new never trims = record {
   only = λ t. absurd (never t);
   runs = runs_but_refuses told old new (IsTrim c n old) tt no.NotThisFs (λ e. cc) trims.runs;
 }
+
+-- ---- before a turn, and a look at a cluster
+
+module _ {told : Type 0} {c : Client} {k : Chains} {now : DiskView} (tree : MayTidy told c k now) where
+  look_trims : {X : Type 0} {mid : DiskView} {r : Result X FsRefusal} → OnlyLooks told now mid r → (told → IfErr r (λ e. e ≡ no.Device)) → Trims told c (named_of k) now mid r
+  look_trims {mid = mid} {r = r} looks only = trims_by_looks told c (named_of k) now mid r tree.valid (λ t. (tree.stands t).under) only looks
+
+  -- at first nothing is deleted
+  pub first_trims : (told → now.spent ≡ false → IsDiskSound now) → Trims {X = Unit {0}} told c (named_of k) now now (Ok tt)
+  first_trims sound = look_trims (no_look told now tree.ready.unspent (λ t. sound t tree.ready.unspent) tree.valid) (λ t. tt)
+
+  -- a cluster was read
+  pub read_trims : {X : Type 0} {mid : DiskView} {x : X} → OnlyLooks told now mid (Ok x) → Trims told c (named_of k) now mid (Ok x)
+  read_trims looks = look_trims looks (λ t. tt)
+
+  module _ {first : DiskView} (trims : Trims {X = Unit {0}} told c (named_of k) first now (Ok tt)) where
+    -- the read was refused
+    pub lost_trims : {X : Type 0} {mid : DiskView} {e : FsRefusal} → OnlyLooks {X = X} told now mid (Err e) → (told → e ≡ no.Device) → Trims {X = Unit {0}} told c (named_of k) first mid (Err e)
+    lost_trims {mid = mid} {e = e} looks only = then_trims told c (named_of k) first now mid tt (Err e) trims (trims_refused told c (named_of k) now mid e (look_trims looks only))
+
+    -- what came of the deletions after it
+    pub turn_trims : {X : Type 0} {mid new : DiskView} {x : X} {r : Result (Unit {0}) FsRefusal} → OnlyLooks told now mid (Ok x) → Trims told c (named_of k) mid new r → Trims told c (named_of k) first new r
+    turn_trims {mid = mid} {new = new} {x = x} {r = r} looks after =
+        then_trims told c (named_of k) first mid new x r (then_trims told c (named_of k) first now mid tt (Ok x) trims (read_trims looks)) after
+
+    -- there were as many turns as the disk has blocks
+    pub all_turns : {shape : Geometry} {turn : ℕ} → (told → now.spent ≡ false → IsDiskSound now) → shape ≡ first.geometry → shape.blocks ≤ turn → told → now.world.geometry.blocks ≤ turn
+    all_turns {turn = turn} sound is past t = subst (λ x. x.blocks ≤ turn) (is ∙ (sym trims.runs.counts.geometry ∙ sym (sound t tree.ready.unspent).geometry)) past
 
 -- ---- the walk goes on over deletions
 
@@ -209,3 +216,59 @@ file_short c k now f b turn s left past =
     let more = one_more c now f.chain left.before b left.walked in
     let short = (of_entry c k now s f left.one).2.chain.short in
     omega (arith, more, short, left.count, past)
+
+-- ---- a file's turn
+
+abbrev pub part_said : Part → Cluster
+part_said part = cluster_of (part_cluster part.cluster)
+
+pub first_part : {told : Type 0} {c : Client} {k : Chains} {v : DiskView} {b : ℕ} → MayTidy told c k v → (told → v.spent ≡ false → IsDiskSound v) → FileGoing told c k v v b b 0
+first_part {c = c} {k = k} {v = v} {b = b} tree sound = record {
+  tree = tree;
+  trims = first_trims tree sound;
+  left = λ t f here. file_starts c k v b f tree.ready (tree.valid t) (tree.stands t) here;
+}
+
+module _ {told : Type 0} {c : Client} {k : Chains} {first now : DiskView} {start b turn : ℕ} (going : FileGoing told c k first now start b turn) where
+  module _ (file : told → (f : ChainFile) × IsFileHere c k first start f) where
+    file_left : (t : told) → FileLeft c k now (file t).0 b turn
+    file_left t = going.left t (file t).0 (file t).1
+
+    pub part_may : told → MayWrite c now b
+    part_may t = (file_left t).walked.ahead.may
+
+    pub part_is : told → has_part now.world b ≡ true
+    part_is t =
+        let left = file_left t in
+        part_there c now (file t).0.chain left.before b left.walked (of_entry c k now (going.tree.stands t) (file t).0 left.one).2.filled
+
+    pub parts_over : {shape : Geometry} → (told → now.spent ≡ false → IsDiskSound now) → shape ≡ first.geometry → shape.blocks ≤ turn → Trims {X = Unit {0}} told c (named_of k) first now (Err no.NotThisFs)
+    parts_over sound is past = trims_refuse told c (named_of k) first now
+        (λ t. file_short c k now (file t).0 b turn (going.tree.stands t) (file_left t) (all_turns going.tree going.trims sound is past t)) going.trims
+
+  module _ {mid : DiskView} {part : Part} (looks : OnlyLooks told now mid (Ok part)) (is : told → IsPartOfRoot now.world b part) where
+    part_lets : (t : told) (f : ChainFile) → FileLeft c k now f b turn → MayTrim c (named_of k) now b (next_blocks (part_said part).next)
+    part_lets t f left = part_trim c k now (going.tree.stands t) f b turn left (part_said part) (is t).read.says
+
+    pub part_deletes : (told → (f : ChainFile) × IsFileHere c k first start f) → MayDelete told c (named_of k) mid b (next_blocks (part_said part).next)
+    part_deletes file = delete_still told c (named_of k) now mid b (next_blocks (part_said part).next) part
+        (record { unspent = going.tree.ready.unspent; valid = going.tree.valid; trim = λ t. part_lets t (file t).0 (file_left file t) }) (read_trims going.tree looks)
+
+    module _ {new : DiskView} (after : Trims {X = Unit {0}} told c (named_of k) mid new (Ok tt)) (only : told → OnlyNamed new.world b (next_blocks (part_said part).next)) where
+      part_trims : Trims {X = Unit {0}} told c (named_of k) now new (Ok tt)
+      part_trims = then_trims told c (named_of k) now mid new part (Ok tt) (read_trims going.tree looks) after
+
+      pub part_last : (part_said part).next ≡ None → told → (f : ChainFile) → IsFileHere c k first start f → AreClean (named_of k) new.world (blocks_of f.chain)
+      part_last next t f here =
+          file_ends c k now (going.tree.stands t) f b turn (going.left t f here) (part_said part) (is t).read.says new (part_trims.trimmed t) (only t) next
+
+      pub part_next : {d : ℕ} → (part_said part).next ≡ Some d → (told → HoldsWrite (state_of mid) c.session b) → FileGoing told c k first new start d (turn + 1)
+      part_next {d} next held = record {
+        tree = tidy_still told c k now new tt going.tree part_trims;
+        trims = turn_trims going.tree going.trims looks after;
+        left = λ t f here.
+            let left = going.left t f here in
+            let live = (after.trimmed t).keeps.live b (part_lets t f left).named in
+            file_on c k now (going.tree.stands t) f b turn left (part_said part) (is t).read.says new (part_trims.trimmed t) (only t) d next part_trims.runs.stays.0
+            ((after.trimmed t).ways c.session b (held t) live);
+      }

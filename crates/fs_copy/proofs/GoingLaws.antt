@@ -1,33 +1,13 @@
 -- Some of the asks of a copy, made one after the other.
 use Rattle.std.proofs.Common.{◌≡◌, ◌≢◌, ◌<◌, ℕ, true, false, cond, List, [], ◌∷◌, ◌++◌, refl, sym, ◌∙◌, ap, subst, inl, inr, append_assoc, append-nil, length, arith, ◌⊎◌, Result, Ok, Err, Option, Some, None}
-use Rattle.std.specs.Prelude.{IfErr, OnOk, slice_get}
+use Rattle.fs_copy.proofs.Common.{IfErr, OnOk, slice_get, IsValid, World, free_count, done, after_asks, tree_at, IsTidy, step_in, Path, need_of, OthersStay, refusal, change, judged, nothing, a_file, a_dir, Tree, is_there, with_at, ShellAsk, FsRefusal, AreApart, StaysApart, DiskView, IsDiskSound, Counts, IsLedTo, IsValidNow, LeavesWorldsOnly, Stays, FilesView, Answers, IsClientReady, IsEitherTree, LeavesTidyWorld, OnAnswer, step_on, tree_on, tree_after, unless_refused, Changes, Looks, Runs, both_leave, leaves_more, on_answer, if_fault, both_stay, both_count, led_both, tree_under, AreSet, IsSource, IsPartly, IsRefusedAmong, MakesSteps}
 use Rattle.image_device.specs.Counts.{Rose}
 use Rattle.tsd_model.specs.Attained.{record_level}
 use Rattle.tsd_model.specs.Records.{kept_of}
-use Rattle.tsd_model.specs.Valid.{IsValid}
-use Rattle.tsd_model.specs.World.{World, free_count}
-use Rattle.fs_trees.specs.Answer.{done}
-use Rattle.fs_trees.specs.Copying.{after_asks}
-use Rattle.fs_trees.specs.Layouts.{tree_at, IsTidy, step_in}
-use Rattle.fs_trees.specs.Names.{Path}
-use Rattle.fs_trees.specs.Needs.{need_of}
-use Rattle.fs_trees.specs.Outside.{OthersStay}
-use Rattle.fs_trees.specs.Refusals.{refusal}
-use Rattle.fs_trees.specs.Step.{change, judged}
-use Rattle.fs_trees.specs.Tree.{nothing, a_file, a_dir, Tree, is_there, with_at}
-use Rattle.fs_trees.specs.declared.ask.ShellAsk.{ShellAsk}
 use Rattle.fs_trees.specs.declared.ask.ShellAsk.TheVariants as ask
-use Rattle.fs_trees.specs.declared.refusal.FsRefusal.{FsRefusal}
 use Rattle.fs_trees.specs.declared.refusal.FsRefusal.TheVariants as no
-use Rattle.fs_laws.specs.Apart.{AreApart, StaysApart}
 use Rattle.fs_laws.proofs.ApartLaws.{apart_stays}
 use Rattle.fs_laws.proofs.OutsideLaws.{outside_twice}
-use Rattle.fs_port.specs.View.{DiskView, IsDiskSound}
-use Rattle.fs_port.specs.Calls.{Counts, IsLedTo, IsValidNow, LeavesWorldsOnly, Stays}
-use Rattle.fs_port.specs.Files.{FilesView, Answers, IsClientReady, IsEitherTree, LeavesTidyWorld, OnAnswer, step_on, tree_on, tree_after, unless_refused}
-use Rattle.fs_port.specs.Runs.{Changes, Looks, Runs}
-use Rattle.fs_port.proofs.RunLaws.{both_leave, leaves_more, on_answer, if_fault, both_stay, both_count, led_both}
-use Rattle.fs_copy.specs.Going.{tree_under, AreSet, IsSource, IsPartly, IsRefusedAmong, MakesSteps}
 
 -- ---- runs
 
@@ -137,7 +117,7 @@ others_same root w = record { records = refl; bytes = λ b live away. refl; pair
 
 -- ---- one call
 
-module _ {X : Type 0} (told : Type 0) (g : FilesView) (old new : DiskView) (result : Result X FsRefusal) (valid : told → IsValid old.world) where
+module _ {X told : Type 0} {g : FilesView} {old new : DiskView} {result : Result X FsRefusal} (valid : told → IsValid old.world) where
   -- where it only looked, and wasn't refused
   pub look_goes : (told → IfErr result (λ e. e ≢ no.Device → ⊥)) → Looks told old new result → MakesSteps told g old new [] result
   look_goes only looks = record {
@@ -164,171 +144,171 @@ module _ {X : Type 0} (told : Type 0) (g : FilesView) (old new : DiskView) (resu
       never (Ok x) h = tt
       never (Err e) h = λ ne. absurd (h ne)
 
-  -- where it was asked to change the tree
-  pub change_goes : (a : ShellAsk) → Makes a → g.mounted ≡ true → (told → IsDiskSound old) → (told → OnAnswer result (IsDiskSound new))
-      → (told → Answers g old new a result (λ _ answer. answer ≡ done)) → Changes told g old new a result → MakesSteps told g old new (a ∷ []) result
-  change_goes a makes mounted sound_old sound_new answers changes = record {
-    done = λ t. ok_tree result (answers t);
-    refused = λ t. is_refused result (answers t);
-    there = λ t. still_there result (answers t);
-    tidy = λ t. on_answer (LeavesTidyWorld g old new) (IsTidy g.kind old.world g.root → IsTidy g.kind new.world g.root) result (λ l. l.tidy) (changes.world t);
-    size = λ t. on_answer (IsDiskSound new) (new.world.geometry ≡ old.world.geometry) result (λ s. s.geometry ∙ (changes.counts.geometry ∙ sym (sound_old t).geometry)) (sound_new t);
-    others = λ t. on_answer (LeavesTidyWorld g old new) (OthersStay g.root old.world new.world) result (λ l. l.others) (changes.world t);
-    runs = runs_more told old new (IsEitherTree g old a) (IsPartly g old (a ∷ [])) result (λ t w either. partly w either)
-        (record { valid = changes.valid; led = changes.led; crash = changes.crash; stays = changes.stays; counts = changes.counts; unspent = changes.unspent; faultless = changes.faultless; cause = changes.cause; spent = changes.spent });
-  }
-    where
-      on_tree : (v : DiskView) → tree_on g v ≡ tree_under g v
-      on_tree v = ap (λ m. cond m (tree_under g v) nothing) mounted
+-- where it was asked to change the tree
+pub change_goes : {X told : Type 0} {g : FilesView} {old new : DiskView} {a : ShellAsk} {result : Result X FsRefusal} → IsSource told g old → (told → old.spent ≡ false → IsDiskSound old) → (told → new.spent ≡ false → IsDiskSound new)
+    → (told → Answers g old new a result (λ _ answer. answer ≡ done)) → Changes told g old new a result → Makes a → MakesSteps told g old new (a ∷ []) result
+change_goes {X} {told} {g} {old} {new} {a} {result} source sound_old sound_new answers changes makes = record {
+  done = λ t. ok_tree result (answers t);
+  refused = λ t. is_refused result (answers t);
+  there = λ t. still_there result (answers t);
+  tidy = λ t. on_answer (LeavesTidyWorld g old new) (IsTidy g.kind old.world g.root → IsTidy g.kind new.world g.root) result (λ l. l.tidy) (changes.world t);
+  size = λ t. on_answer (new.spent ≡ false) (new.world.geometry ≡ old.world.geometry) result (λ u. (sound_new t u).geometry ∙ (changes.counts.geometry ∙ sym (sound_old t source.ready.unspent).geometry)) changes.unspent;
+  others = λ t. on_answer (LeavesTidyWorld g old new) (OthersStay g.root old.world new.world) result (λ l. l.others) (changes.world t);
+  runs = runs_more told old new (IsEitherTree g old a) (IsPartly g old (a ∷ [])) result (λ t w either. partly w either)
+      (record { valid = changes.valid; led = changes.led; crash = changes.crash; stays = changes.stays; counts = changes.counts; unspent = changes.unspent; faultless = changes.faultless; cause = changes.cause; spent = changes.spent });
+}
+  where
+    on_tree : (v : DiskView) → tree_on g v ≡ tree_under g v
+    on_tree v = ap (λ m. cond m (tree_under g v) nothing) source.mounted
 
-      tree_done : (step_on g old a).answer ≡ done → (step_on g old a).tree ≡ (change (tree_under g old) 0 a).tree
-      tree_done e =
+    tree_done : (step_on g old a).answer ≡ done → (step_on g old a).tree ≡ (change (tree_under g old) 0 a).tree
+    tree_done e =
+        let t = tree_under g old in
+        let same : step_on g old a ≡ step_in g.kind old.world g.root t a = ap (λ u. step_in g.kind old.world g.root u a) (on_tree old) in
+        ap (λ o. o.tree) same ∙ made_so t (free_count old.world) a _ makes (ap (λ o. o.answer) (sym same) ∙ e)
+
+    ok_tree : (r : Result X FsRefusal) → Answers g old new a r (λ _ answer. answer ≡ done) → OnOk r (tree_under g new ≡ (change (tree_under g old) 0 a).tree)
+    ok_tree (Ok x) h = h.ok.1 ∙ tree_done h.ok.0
+    ok_tree (Err e) h = tt
+
+    is_refused : (r : Result X FsRefusal) → Answers g old new a r (λ _ answer. answer ≡ done) → IfErr r (λ e. e ≢ no.Device → IsRefusedAmong g old new (a ∷ []) e)
+    is_refused (Ok x) h = tt
+    is_refused (Err e) h = λ ne. let k = h.err ne in record {
+      front = [];
+      here = a;
+      back = [];
+      parts = refl;
+      tree = ap (λ w. tree_at g.kind w g.root) k.1;
+      answer = ap (λ w. (step_in g.kind w g.root (cond g.mounted (tree_at g.kind w g.root) nothing) a).answer) k.1 ∙ k.0;
+    }
+
+    still_there : (r : Result X FsRefusal) → Answers g old new a r (λ _ answer. answer ≡ done) → OnAnswer r (is_there (tree_under g old) ≡ true → is_there (tree_under g new) ≡ true)
+    still_there (Ok x) k = (λ h. ap is_there (ok_tree (Ok x) k) ∙ made_there (tree_under g old) a makes h, tt)
+    still_there (Err e) k = (tt, λ ne h. ap (λ w. is_there (tree_at g.kind w g.root)) (k.err ne).1 ∙ h)
+
+    partly : (w : World) → IsEitherTree g old a w → IsPartly g old (a ∷ []) w
+    partly w either = elim either.0 [
+      | inl before ↦ record { front = []; back = a ∷ []; parts = refl; tree = before; left = either.1 }
+      | inr after ↦
           let t = tree_under g old in
-          let same : step_on g old a ≡ step_in g.kind old.world g.root t a = ap (λ u. step_in g.kind old.world g.root u a) (on_tree old) in
-          ap (λ o. o.tree) same ∙ made_so t (free_count old.world) a _ makes (ap (λ o. o.answer) (sym same) ∙ e)
-
-      ok_tree : (r : Result X FsRefusal) → Answers g old new a r (λ _ answer. answer ≡ done) → OnOk r (tree_under g new ≡ (change (tree_under g old) 0 a).tree)
-      ok_tree (Ok x) h = h.ok.1 ∙ tree_done h.ok.0
-      ok_tree (Err e) h = tt
-
-      is_refused : (r : Result X FsRefusal) → Answers g old new a r (λ _ answer. answer ≡ done) → IfErr r (λ e. e ≢ no.Device → IsRefusedAmong g old new (a ∷ []) e)
-      is_refused (Ok x) h = tt
-      is_refused (Err e) h = λ ne. let k = h.err ne in record {
-        front = [];
-        here = a;
-        back = [];
-        parts = refl;
-        tree = ap (λ w. tree_at g.kind w g.root) k.1;
-        answer = ap (λ w. (step_in g.kind w g.root (cond g.mounted (tree_at g.kind w g.root) nothing) a).answer) k.1 ∙ k.0;
-      }
-
-      still_there : (r : Result X FsRefusal) → Answers g old new a r (λ _ answer. answer ≡ done) → OnAnswer r (is_there (tree_under g old) ≡ true → is_there (tree_under g new) ≡ true)
-      still_there (Ok x) k = (λ h. ap is_there (ok_tree (Ok x) k) ∙ made_there (tree_under g old) a makes h, tt)
-      still_there (Err e) k = (tt, λ ne h. ap (λ w. is_there (tree_at g.kind w g.root)) (k.err ne).1 ∙ h)
-
-      partly : (w : World) → IsEitherTree g old a w → IsPartly g old (a ∷ []) w
-      partly w either = elim either.0 [
-        | inl before ↦ record { front = []; back = a ∷ []; parts = refl; tree = before; left = either.1 }
-        | inr after ↦
-            let t = tree_under g old in
-            let same : tree_after g old a ≡ unless_refused (step_in g.kind old.world g.root t a).answer (step_in g.kind old.world g.root t a).tree t = ap (λ u. unless_refused (step_in g.kind old.world g.root u a).answer (step_in g.kind old.world g.root u a).tree t) (on_tree old) in
-            elim (either_so t (free_count old.world) a (refusal g.kind old.world.geometry t (free_count old.world) (length old.world.pairs) (need_of g.kind old.world g.root t a) a) makes) [
-              | inl none ↦ record { front = []; back = a ∷ []; parts = refl; tree = after ∙ (same ∙ none); left = either.1 }
-              | inr made ↦ record { front = a ∷ []; back = []; parts = refl; tree = after ∙ (same ∙ made); left = either.1 }
-            ]
-      ]
+          let same : tree_after g old a ≡ unless_refused (step_in g.kind old.world g.root t a).answer (step_in g.kind old.world g.root t a).tree t = ap (λ u. unless_refused (step_in g.kind old.world g.root u a).answer (step_in g.kind old.world g.root u a).tree t) (on_tree old) in
+          elim (either_so t (free_count old.world) a (refusal g.kind old.world.geometry t (free_count old.world) (length old.world.pairs) (need_of g.kind old.world g.root t a) a) makes) [
+            | inl none ↦ record { front = []; back = a ∷ []; parts = refl; tree = after ∙ (same ∙ none); left = either.1 }
+            | inr made ↦ record { front = a ∷ []; back = []; parts = refl; tree = after ∙ (same ∙ made); left = either.1 }
+          ]
+    ]
 
 -- ---- one after the other
 
-module _ (told : Type 0) (g : FilesView) where
-  -- nothing was asked yet
-  pub none_goes : (v : DiskView) → v.spent ≡ false → (told → IsDiskSound v) → (told → IsValidNow v) → MakesSteps {X = Unit {0}} told g v v [] (Ok tt)
-  none_goes v unspent sound valid = record {
-    done = λ t. refl;
-    refused = λ t. tt;
-    there = λ t. (λ h. h, tt);
-    tidy = λ t. (λ h. h, tt);
-    size = λ t. (refl, tt);
-    others = λ t. (others_same g.root v.world, tt);
-    runs = record {
-      valid = λ t. (valid t, tt);
-      led = λ t. (([], refl), tt);
-      crash = λ t. record {
-        later = omega arith;
-        sent = refl;
-        each = λ x f h. let here = (sound t).only_now x f h in (v.world, here.0, record { front = []; back = []; parts = refl; tree = refl; left = record { valid = (valid t).valid; geometry = refl; others = others_same g.root v.world } }, here.1);
-        before = λ s x f le h. inl h;
-        keeps = λ s x f le h. h;
-      };
-      stays = (record { records = refl; sessions = λ s. refl }, tt);
-      counts = record { geometry = refl; version = refl; kind = refl; clock = omega arith; faults = omega arith; put_faults = refl; lenders = refl };
-      unspent = (unspent, tt);
-      faultless = (refl, tt);
-      cause = tt;
-      spent = tt;
+-- nothing was asked yet
+pub none_goes : {told : Type 0} {g : FilesView} {v : DiskView} → v.spent ≡ false → (told → IsDiskSound v) → (told → IsValidNow v) → MakesSteps {X = Unit {0}} told g v v [] (Ok tt)
+none_goes {g = g} {v = v} unspent sound valid = record {
+  done = λ t. refl;
+  refused = λ t. tt;
+  there = λ t. (λ h. h, tt);
+  tidy = λ t. (λ h. h, tt);
+  size = λ t. (refl, tt);
+  others = λ t. (others_same g.root v.world, tt);
+  runs = record {
+    valid = λ t. (valid t, tt);
+    led = λ t. (([], refl), tt);
+    crash = λ t. record {
+      later = omega arith;
+      sent = refl;
+      each = λ x f h. let here = (sound t).only_now x f h in (v.world, here.0, record { front = []; back = []; parts = refl; tree = refl; left = record { valid = (valid t).valid; geometry = refl; others = others_same g.root v.world } }, here.1);
+      before = λ s x f le h. inl h;
+      keeps = λ s x f le h. h;
     };
-  }
+    stays = (record { records = refl; sessions = λ s. refl }, tt);
+    counts = record { geometry = refl; version = refl; kind = refl; clock = omega arith; faults = omega arith; put_faults = refl; lenders = refl };
+    unspent = (unspent, tt);
+    faultless = (refl, tt);
+    cause = tt;
+    spent = tt;
+  };
+}
 
-  module _ (old mid new : DiskView) (qs rs : List ShellAsk) where
-    further : (size : mid.world.geometry ≡ old.world.geometry) → OthersStay g.root old.world mid.world → tree_under g mid ≡ after_asks (tree_under g old) qs → (w : World) → IsPartly g mid rs w → IsPartly g old (qs ++ rs) w
-    further size others tree w h = record {
-      front = qs ++ h.front;
-      back = h.back;
-      parts = ap (λ s. qs ++ s) h.parts ∙ sym (append_assoc qs h.front h.back);
-      tree = h.tree ∙ (ap (λ t. after_asks t h.front) tree ∙ sym (after-append (tree_under g old) qs h.front));
-      left = record { valid = h.left.valid; geometry = h.left.geometry ∙ size; others = outside_twice g.root old.world mid.world w others h.left.others };
+further : {g : FilesView} {old mid : DiskView} (qs : List ShellAsk) {rs : List ShellAsk} → mid.world.geometry ≡ old.world.geometry → OthersStay g.root old.world mid.world → tree_under g mid ≡ after_asks (tree_under g old) qs → (w : World) → IsPartly g mid rs w → IsPartly g old (qs ++ rs) w
+further {g} {old} {mid} qs size others tree w h = record {
+  front = qs ++ h.front;
+  back = h.back;
+  parts = ap (λ s. qs ++ s) h.parts ∙ sym (append_assoc qs h.front h.back);
+  tree = h.tree ∙ (ap (λ t. after_asks t h.front) tree ∙ sym (after-append (tree_under g old) qs h.front));
+  left = record { valid = h.left.valid; geometry = h.left.geometry ∙ size; others = outside_twice g.root old.world mid.world w others h.left.others };
+}
+
+earlier : {g : FilesView} {old : DiskView} {qs : List ShellAsk} (rs : List ShellAsk) (w : World) → IsPartly g old qs w → IsPartly g old (qs ++ rs) w
+earlier rs w h = record { front = h.front; back = h.back ++ rs; parts = ap (λ s. s ++ rs) h.parts ∙ append_assoc h.front h.back rs; tree = h.tree; left = h.left }
+
+pub then_goes : {X Y told : Type 0} {g : FilesView} {old mid new : DiskView} {qs rs : List ShellAsk} {x : X} {result : Result Y FsRefusal} → MakesSteps told g old mid qs (Ok x) → MakesSteps told g mid new rs result → MakesSteps told g old new (qs ++ rs) result
+then_goes {Y = Y} {told = told} {g = g} {old = old} {mid = mid} {new = new} {qs = qs} {rs = rs} {x = x} {result = result} first second = record {
+  done = λ t. ok_tree result (first.done t) (second.done t);
+  refused = λ t. is_refused result (first.done t) (second.refused t);
+  there = λ t. on_answer (is_there (tree_under g mid) ≡ true → is_there (tree_under g new) ≡ true) (is_there (tree_under g old) ≡ true → is_there (tree_under g new) ≡ true) result (λ k h. k ((first.there t).0 h)) (second.there t);
+  tidy = λ t. on_answer (IsTidy g.kind mid.world g.root → IsTidy g.kind new.world g.root) (IsTidy g.kind old.world g.root → IsTidy g.kind new.world g.root) result (λ k h. k ((first.tidy t).0 h)) (second.tidy t);
+  size = λ t. on_answer (new.world.geometry ≡ mid.world.geometry) (new.world.geometry ≡ old.world.geometry) result (λ e. e ∙ (first.size t).0) (second.size t);
+  others = λ t. on_answer (OthersStay g.root mid.world new.world) (OthersStay g.root old.world new.world) result (outside_twice g.root old.world mid.world new.world (first.others t).0) (second.others t);
+  runs = then_runs told old mid new (IsPartly g old (qs ++ rs)) x result
+      (runs_more told old mid (IsPartly g old qs) (IsPartly g old (qs ++ rs)) (Ok x) (λ t. earlier rs) first.runs)
+      (runs_more told mid new (IsPartly g mid rs) (IsPartly g old (qs ++ rs)) result (λ t. further qs (first.size t).0 (first.others t).0 (first.done t)) second.runs);
+}
+  where
+    ok_tree : (r : Result Y FsRefusal) → tree_under g mid ≡ after_asks (tree_under g old) qs → OnOk r (tree_under g new ≡ after_asks (tree_under g mid) rs) → OnOk r (tree_under g new ≡ after_asks (tree_under g old) (qs ++ rs))
+    ok_tree (Ok y) e h = h ∙ (ap (λ t. after_asks t rs) e ∙ sym (after-append (tree_under g old) qs rs))
+    ok_tree (Err r) e h = tt
+
+    is_refused : (r : Result Y FsRefusal) → tree_under g mid ≡ after_asks (tree_under g old) qs → IfErr r (λ e. e ≢ no.Device → IsRefusedAmong g mid new rs e) → IfErr r (λ e. e ≢ no.Device → IsRefusedAmong g old new (qs ++ rs) e)
+    is_refused (Ok y) e h = tt
+    is_refused (Err r) e h = λ ne. let k = h ne in record {
+      front = qs ++ k.front;
+      here = k.here;
+      back = k.back;
+      parts = ap (λ s. qs ++ s) k.parts ∙ sym (append_assoc qs k.front (k.here ∷ k.back));
+      tree = k.tree ∙ (ap (λ t. after_asks t k.front) e ∙ sym (after-append (tree_under g old) qs k.front));
+      answer = k.answer;
     }
 
-    earlier : (w : World) → IsPartly g old qs w → IsPartly g old (qs ++ rs) w
-    earlier w h = record { front = h.front; back = h.back ++ rs; parts = ap (λ s. s ++ rs) h.parts ∙ append_assoc h.front h.back rs; tree = h.tree; left = h.left }
+pub ok_as : {X Y told : Type 0} {g : FilesView} {old new : DiskView} {qs : List ShellAsk} {x : X} {y : Y} → MakesSteps told g old new qs (Ok x) → MakesSteps told g old new qs (Ok y)
+ok_as h = record { done = h.done; refused = λ t. tt; there = h.there; tidy = h.tidy; size = h.size; others = h.others; runs = record { valid = h.runs.valid; led = h.runs.led; crash = h.runs.crash; stays = h.runs.stays; counts = h.runs.counts; unspent = h.runs.unspent; faultless = h.runs.faultless; cause = tt; spent = tt } }
 
-    pub then_goes : {X Y : Type 0} (x : X) (result : Result Y FsRefusal) → MakesSteps told g old mid qs (Ok x) → MakesSteps told g mid new rs result → MakesSteps told g old new (qs ++ rs) result
-    then_goes {X} {Y} x result first second = record {
-      done = λ t. ok_tree result (first.done t) (second.done t);
-      refused = λ t. is_refused result (first.done t) (second.refused t);
-      there = λ t. on_answer (is_there (tree_under g mid) ≡ true → is_there (tree_under g new) ≡ true) (is_there (tree_under g old) ≡ true → is_there (tree_under g new) ≡ true) result (λ k h. k ((first.there t).0 h)) (second.there t);
-      tidy = λ t. on_answer (IsTidy g.kind mid.world g.root → IsTidy g.kind new.world g.root) (IsTidy g.kind old.world g.root → IsTidy g.kind new.world g.root) result (λ k h. k ((first.tidy t).0 h)) (second.tidy t);
-      size = λ t. on_answer (new.world.geometry ≡ mid.world.geometry) (new.world.geometry ≡ old.world.geometry) result (λ e. e ∙ (first.size t).0) (second.size t);
-      others = λ t. on_answer (OthersStay g.root mid.world new.world) (OthersStay g.root old.world new.world) result (outside_twice g.root old.world mid.world new.world (first.others t).0) (second.others t);
-      runs = then_runs told old mid new (IsPartly g old (qs ++ rs)) x result
-          (runs_more told old mid (IsPartly g old qs) (IsPartly g old (qs ++ rs)) (Ok x) (λ t w h. earlier w h) first.runs)
-          (runs_more told mid new (IsPartly g mid rs) (IsPartly g old (qs ++ rs)) result (λ t w h. further (first.size t).0 (first.others t).0 (first.done t) w h) second.runs);
-    }
-      where
-        ok_tree : (r : Result Y FsRefusal) → tree_under g mid ≡ after_asks (tree_under g old) qs → OnOk r (tree_under g new ≡ after_asks (tree_under g mid) rs) → OnOk r (tree_under g new ≡ after_asks (tree_under g old) (qs ++ rs))
-        ok_tree (Ok y) e h = h ∙ (ap (λ t. after_asks t rs) e ∙ sym (after-append (tree_under g old) qs rs))
-        ok_tree (Err r) e h = tt
-
-        is_refused : (r : Result Y FsRefusal) → tree_under g mid ≡ after_asks (tree_under g old) qs → IfErr r (λ e. e ≢ no.Device → IsRefusedAmong g mid new rs e) → IfErr r (λ e. e ≢ no.Device → IsRefusedAmong g old new (qs ++ rs) e)
-        is_refused (Ok y) e h = tt
-        is_refused (Err r) e h = λ ne. let k = h ne in record {
-          front = qs ++ k.front;
-          here = k.here;
-          back = k.back;
-          parts = ap (λ s. qs ++ s) k.parts ∙ sym (append_assoc qs k.front (k.here ∷ k.back));
-          tree = k.tree ∙ (ap (λ t. after_asks t k.front) e ∙ sym (after-append (tree_under g old) qs k.front));
-          answer = k.answer;
-        }
-
-  module _ {X Y : Type 0} (old new : DiskView) (qs : List ShellAsk) where
-    pub ok_as : (x : X) (y : Y) → MakesSteps told g old new qs (Ok x) → MakesSteps told g old new qs (Ok y)
-    ok_as x y h = record { done = h.done; refused = λ t. tt; there = h.there; tidy = h.tidy; size = h.size; others = h.others; runs = record { valid = h.runs.valid; led = h.runs.led; crash = h.runs.crash; stays = h.runs.stays; counts = h.runs.counts; unspent = h.runs.unspent; faultless = h.runs.faultless; cause = tt; spent = tt } }
-
-    -- what was refused was refused of more
-    pub err_as : (e : FsRefusal) (rs : List ShellAsk) → MakesSteps {X = X} told g old new qs (Err e) → MakesSteps {X = Y} told g old new (qs ++ rs) (Err e)
-    err_as e rs h = record {
-      done = λ t. tt;
-      refused = λ t ne. let k = h.refused t ne in record {
-        front = k.front;
-        here = k.here;
-        back = k.back ++ rs;
-        parts = ap (λ s. s ++ rs) k.parts ∙ append_assoc k.front (k.here ∷ k.back) rs;
-        tree = k.tree;
-        answer = k.answer;
-      };
-      there = h.there;
-      tidy = h.tidy;
-      size = h.size;
-      others = h.others;
-      runs = record {
-        valid = h.runs.valid;
-        led = h.runs.led;
-        crash = λ t. leaves_more old new (IsPartly g old qs) (IsPartly g old (qs ++ rs)) (earlier old new new qs rs) (h.runs.crash t);
-        stays = h.runs.stays;
-        counts = h.runs.counts;
-        unspent = h.runs.unspent;
-        faultless = h.runs.faultless;
-        cause = h.runs.cause;
-        spent = h.runs.spent;
-      };
-    }
+-- what was refused was refused of more
+pub err_as : {X Y told : Type 0} {g : FilesView} {old new : DiskView} {qs : List ShellAsk} {e : FsRefusal} (rs : List ShellAsk) → MakesSteps {X = X} told g old new qs (Err e) → MakesSteps {X = Y} told g old new (qs ++ rs) (Err e)
+err_as {g = g} {old = old} {new = new} {qs = qs} rs h = record {
+  done = λ t. tt;
+  refused = λ t ne. let k = h.refused t ne in record {
+    front = k.front;
+    here = k.here;
+    back = k.back ++ rs;
+    parts = ap (λ s. s ++ rs) k.parts ∙ append_assoc k.front (k.here ∷ k.back) rs;
+    tree = k.tree;
+    answer = k.answer;
+  };
+  there = h.there;
+  tidy = h.tidy;
+  size = h.size;
+  others = h.others;
+  runs = record {
+    valid = h.runs.valid;
+    led = h.runs.led;
+    crash = λ t. leaves_more old new (IsPartly g old qs) (IsPartly g old (qs ++ rs)) (earlier rs) (h.runs.crash t);
+    stays = h.runs.stays;
+    counts = h.runs.counts;
+    unspent = h.runs.unspent;
+    faultless = h.runs.faultless;
+    cause = h.runs.cause;
+    spent = h.runs.spent;
+  };
+}
 
 -- ---- both file systems afterwards
 
-pub source_of : (told : Type 0) (f g : FilesView) (v : DiskView) → AreSet told f g v → IsSource told f v
-source_of told f g v set = record { ready = set.from_ready; mounted = set.from_mounted; valid = set.valid; there = set.from_there }
+pub source_of : {told : Type 0} {f g : FilesView} {v : DiskView} → AreSet told f g v → IsSource told f v
+source_of set = record { ready = set.from_ready; mounted = set.from_mounted; valid = set.valid; there = set.from_there }
 
-module _ {X : Type 0} (told : Type 0) (f g : FilesView) (old new : DiskView) (qs : List ShellAsk) (result : Result X FsRefusal) (sound : told → IsDiskSound old) (source : IsSource told f old) (apart : told → AreApart old.world f.root g.root) (goes : MakesSteps told g old new qs result) where
+pub target_of : {told : Type 0} {f g : FilesView} {v : DiskView} → AreSet told f g v → IsSource told g v
+target_of set = record { ready = set.into_ready; mounted = set.into_mounted; valid = set.valid; there = set.into_there }
+
+module _ {X told : Type 0} {f g : FilesView} {old new : DiskView} {qs : List ShellAsk} {result : Result X FsRefusal} (sound : told → IsDiskSound old) (source : IsSource told f old) (apart : told → AreApart old.world f.root g.root) (goes : MakesSteps told g old new qs result) where
   primary : told → f.root < old.world.geometry.primaries
   primary t = subst (λ h. f.root < h.primaries) (sym (sound t).geometry) source.ready.primary
 
@@ -344,29 +324,30 @@ module _ {X : Type 0} (told : Type 0) (f g : FilesView) (old new : DiskView) (qs
   pub source_left : told → (w : World) → IsPartly g old qs w → tree_at f.kind w f.root ≡ tree_under f old
   source_left t w h = (apart_stays f.kind old.world w f.root g.root (source.valid t).valid h.left.valid h.left.geometry (primary t) (source.there t) (apart t) h.left.others).same.tree
 
-module _ {X : Type 0} (told : Type 0) (f g : FilesView) (old new : DiskView) (qs : List ShellAsk) (x : X) (sound : told → IsDiskSound old) (set : AreSet told f g old) (goes : MakesSteps told g old new qs (Ok x)) where
+module _ {X told : Type 0} {f g : FilesView} {old new : DiskView} {qs : List ShellAsk} {x : X} (sound : told → IsDiskSound old) (set : AreSet told f g old) (goes : MakesSteps told g old new qs (Ok x)) where
   apart_now : told → StaysApart f.kind f.root g.root old.world new.world
-  apart_now t = (source_stays told f g old new qs (Ok x) sound (source_of told f g old set) set.apart goes t).0
+  apart_now t = (source_stays sound (source_of set) set.apart goes t).0
 
-  pub same_source : told → tree_under f new ≡ tree_under f old
-  same_source t = (apart_now t).same.tree
+  -- as both are seen then
+  pub same_source : {h : FilesView} → h ≡ f → told → tree_under h new ≡ tree_under f old
+  same_source from_same t = ap (λ (w : FilesView). tree_under w new) from_same ∙ (apart_now t).same.tree
 
-  pub now_set : AreSet told f g new
-  now_set = record {
+  pub now_set : {h k : FilesView} → h ≡ f → k ≡ g → AreSet told h k new
+  now_set {h} {k} from_same into_same = subst (λ (w : FilesView). AreSet told w k new) (sym from_same) (subst (λ (w : FilesView). AreSet told f w new) (sym into_same) (record {
     from_ready = ready_still f old new goes.runs.stays.0 goes.runs.counts goes.runs.unspent.0 set.from_ready;
     into_ready = ready_still g old new goes.runs.stays.0 goes.runs.counts goes.runs.unspent.0 set.into_ready;
     from_mounted = set.from_mounted;
     into_mounted = set.into_mounted;
     valid = λ t. (goes.runs.valid t).0;
-    from_there = λ t. ap is_there (same_source t) ∙ set.from_there t;
+    from_there = λ t. ap is_there (apart_now t).same.tree ∙ set.from_there t;
     into_there = λ t. (goes.there t).0 (set.into_there t);
     apart = λ t. (apart_now t).apart;
-  }
+  }))
 
 -- ---- the same, said of other asks
 
-pub goes_as : {X : Type 0} (told : Type 0) (g : FilesView) (old new : DiskView) (qs rs : List ShellAsk) (result : Result X FsRefusal) → (told → qs ≡ rs) → MakesSteps told g old new qs result → MakesSteps told g old new rs result
-goes_as {X} told g old new qs rs result e h = record {
+pub goes_as : {X told : Type 0} {g : FilesView} {old new : DiskView} {qs rs : List ShellAsk} {result : Result X FsRefusal} → (told → qs ≡ rs) → MakesSteps told g old new qs result → MakesSteps told g old new rs result
+goes_as {g = g} {old = old} {new = new} {result = result} e h = record {
   done = λ t. subst (λ s. OnOk result (tree_under g new ≡ after_asks (tree_under g old) s)) (e t) (h.done t);
   refused = λ t. subst (λ s. IfErr result (λ r. r ≢ no.Device → IsRefusedAmong g old new s r)) (e t) (h.refused t);
   there = h.there;
@@ -387,8 +368,8 @@ goes_as {X} told g old new qs rs result e h = record {
 }
 
 -- an answer that is none where the disk tells its world
-pub lost_goes : {X Y : Type 0} (told : Type 0) (g : FilesView) (old new : DiskView) (qs rs : List ShellAsk) (x : X) (e : FsRefusal) → (told → ⊥) → e ≢ no.Device → MakesSteps told g old new qs (Ok x) → MakesSteps {X = Y} told g old new rs (Err e)
-lost_goes told g old new qs rs x e never ne h = record {
+pub lost_goes : {X Y told : Type 0} {g : FilesView} {old new : DiskView} {qs rs : List ShellAsk} {x : X} {e : FsRefusal} → (told → ⊥) → e ≢ no.Device → MakesSteps told g old new qs (Ok x) → MakesSteps {X = Y} told g old new rs (Err e)
+lost_goes never ne h = record {
   done = λ t. absurd (never t);
   refused = λ t. absurd (never t);
   there = λ t. absurd (never t);
@@ -409,13 +390,36 @@ lost_goes told g old new qs rs x e never ne h = record {
 }
 
 -- a refusal of nothing more
-pub err_same : {X Y : Type 0} (told : Type 0) (g : FilesView) (old new : DiskView) (qs : List ShellAsk) (e : FsRefusal) → MakesSteps {X = X} told g old new qs (Err e) → MakesSteps {X = Y} told g old new qs (Err e)
-err_same {X} {Y} told g old new qs e h = goes_as told g old new (qs ++ []) qs (Err e) (λ t. append-nil qs) (err_as told g {X = X} {Y = Y} old new qs e [] h)
+pub err_same : {X Y told : Type 0} {g : FilesView} {old new : DiskView} {qs : List ShellAsk} {e : FsRefusal} → MakesSteps {X = X} told g old new qs (Err e) → MakesSteps {X = Y} told g old new qs (Err e)
+err_same {qs = qs} h = goes_as (λ t. append-nil qs) (err_as [] h)
 
--- the source only looked
-module _ {X : Type 0} (told : Type 0) (f g : FilesView) (old new : DiskView) (set : AreSet told f g old) where
-  pub looked : (x : X) → Looks told old new (Ok x) → MakesSteps told g old new [] (Ok x)
-  looked x looks = look_goes told g old new (Ok x) (λ t. (set.valid t).valid) (λ t. tt) looks
+-- ---- the source only looked
 
-  pub look_lost : (e : FsRefusal) → (told → e ≢ no.Device → ⊥) → Looks {X = X} told old new (Err e) → MakesSteps {X = X} told g old new [] (Err e)
-  look_lost e only looks = look_goes told g old new (Err e) (λ t. (set.valid t).valid) only looks
+-- Afterwards both file systems may go on, and the source's tree is what it was.
+pub record AfterLook (told : Type 0) (f h g : FilesView) (old mid : DiskView) : Type 0 where
+  pub set : AreSet told h g mid
+  pub tree : told → tree_under h mid ≡ tree_under f old
+  pub goes : MakesSteps {X = Unit {0}} told g old mid [] (Ok tt)
+
+module _ {X told : Type 0} {f g : FilesView} {old mid : DiskView} (set : AreSet told f g old) where
+  pub after_look : {h : FilesView} {x : X} → (told → old.spent ≡ false → IsDiskSound old) → h ≡ f → Looks told old mid (Ok x) → AfterLook told f h g old mid
+  after_look {h} {x} sound same looks =
+      let here : told → IsDiskSound old = λ t. sound t set.from_ready.unspent in
+      let goes : MakesSteps told g old mid [] (Ok x) = look_goes (λ t. (set.valid t).valid) (λ t. tt) looks in
+      record {
+        set = now_set here set goes same refl;
+        tree = same_source here set goes same;
+        goes = ok_as goes;
+      }
+
+  pub look_lost : {e : FsRefusal} → (told → e ≢ no.Device → ⊥) → Looks {X = X} told old mid (Err e) → MakesSteps {X = X} told g old mid [] (Err e)
+  look_lost {e} only looks = look_goes (λ t. (set.valid t).valid) only looks
+
+-- what is made behind a look
+pub look_then : {X told : Type 0} {f h g : FilesView} {old mid new : DiskView} {qs rs : List ShellAsk} {r : Result X FsRefusal} → AfterLook told f h g old mid → (told → qs ≡ rs) → MakesSteps told g mid new qs r → MakesSteps told g old new rs r
+look_then look same goes = goes_as same (then_goes look.goes goes)
+
+-- the target is asked to change behind it
+pub look_change : {X told : Type 0} {f h g : FilesView} {old mid new : DiskView} {a b : ShellAsk} {r : Result X FsRefusal} → AfterLook told f h g old mid → (told → mid.spent ≡ false → IsDiskSound mid) → (told → new.spent ≡ false → IsDiskSound new)
+    → (told → Answers g mid new a r (λ _ answer. answer ≡ done)) → Changes told g mid new a r → (told → a ≡ b) → Makes a → MakesSteps told g old new (b ∷ []) r
+look_change look sound_mid sound_new answers changes same makes = look_then look (λ t. ap (λ q. q ∷ []) (same t)) (change_goes (target_of look.set) sound_mid sound_new answers changes makes)

@@ -1,3 +1,4 @@
+pub mod Common
 pub mod GoingLaws
 pub mod NameLaws
 pub mod TodoLaws

@@ -1,13 +1,6 @@
 -- The order of names, and the entries behind one.
 use Rattle.std.proofs.Common.{◌≡◌, ℕ, Bool, true, false, cond, List, [], ◌∷◌, refl, sym, ◌∙◌, ap, subst, Some, None}
-use Rattle.std.proofs.lemmas.Bool.{and_parts}
-use Rattle.std.specs.Prelude.{⊤}
-use Rattle.std.specs.List.{list_all}
-use Rattle.fs_trees.specs.Names.{Name, name_lt, is_name, is_below_first_name, are_ascending}
-use Rattle.fs_trees.specs.Tree.{Entries, none, file, dir, nothing, a_file, a_dir, Tree, entry, is_there, names, names_in, before}
-use Rattle.fs_laws.proofs.OrderLaws.{lt_trans, lt_irreflexive, below_only}
-use Rattle.fs_port.specs.Files.{above}
-use Rattle.fs_copy.specs.Walk.{inside, entries_behind}
+use Rattle.fs_copy.proofs.Common.{and_parts, ⊤, list_all, Name, name_lt, is_name, is_below_first_name, are_ascending, Entries, none, file, dir, nothing, a_file, a_dir, Tree, entry, is_there, names, names_in, before, lt_trans, lt_irreflexive, below_only, above, inside, entries_behind}
 
 -- a name in front of others stands below each that is found among them
 below_found : (m a n : Name) (ns : List Name) → is_below_first_name m ns ≡ true → are_ascending ns ≡ true → above a ns ≡ Some n → name_lt m n ≡ true

@@ -1,17 +1,10 @@
 -- A file that is copied piece by piece.
-use Rattle.std.proofs.Common.{◌≡◌, ◌+◌, ◌-◌, ◌*◌, ◌^◌, ◌<◌, ◌≤◌, ℕ, suc, List, [], ◌∷◌, ◌++◌, length, map, take, drop, sym, ◌∙◌, ap, arith, append_assoc, append-nil, Result, Ok, Err}
-use Rattle.std.proofs.lemmas.Grind.{div_ceil_times}
+use Rattle.std.proofs.Common.{◌≡◌, ◌+◌, ◌-◌, ◌*◌, ◌^◌, ◌<◌, ◌≤◌, ℕ, suc, false, List, [], ◌∷◌, ◌++◌, length, map, take, drop, sym, ◌∙◌, ap, subst, arith, append_assoc, append-nil, Result, Ok, Err}
+use Rattle.fs_copy.proofs.Common.{div_ceil_times, div_ceil, file_pieces, file_steps, Path, at, bytes_in, ShellAsk, FsRefusal, DiskView, IsDiskSound, FilesView, Answers, TellsPart, Looks, tree_under, AreSet, MakesSteps, IsFileAt}
 use Rattle.std.proofs.lemmas.List.{drop-drop}
-use Rattle.std.specs.Int.{div_ceil}
-use Rattle.fs_trees.specs.Copying.{file_pieces, file_steps}
-use Rattle.fs_trees.specs.Names.{Path}
-use Rattle.fs_trees.specs.declared.ask.ShellAsk.{ShellAsk}
 use Rattle.fs_trees.specs.declared.ask.ShellAsk.TheVariants as ask
-use Rattle.fs_trees.specs.declared.refusal.FsRefusal.{FsRefusal}
-use Rattle.fs_port.specs.View.{DiskView}
-use Rattle.fs_port.specs.Files.{FilesView}
-use Rattle.fs_copy.specs.Going.{MakesSteps}
-use Rattle.fs_copy.proofs.GoingLaws.{goes_as, then_goes, err_as}
+use Rattle.fs_copy.proofs.GoingLaws.{goes_as, then_goes, err_as, look_lost, now_set, same_source}
+use Rattle.fs_copy.proofs.ReadLaws.{never_refused, part_refused, part_tells}
 
 abbrev pub Done : Type 0
 Done = Result (Unit {0}) FsRefusal
@@ -50,39 +43,100 @@ none_from path n i x h = ap (λ k. map (ask.Append path) (file_pieces k (drop (i
     none_left : (n i : ℕ) → n ≤ i → n - i ≡ 0
     none_left n i h = omega (arith, h)
 
-module _ (told : Type 0) (g : FilesView) (old now : DiskView) (path : Path) (x : List ℕ) (n : ℕ) where
-  pub up_first : (told → n ≡ div_ceil (length x) 4096) → MakesSteps {X = Unit {0}} told g old now (ask.Put path (take 4096 x) ∷ []) (Ok tt) → UpTo told g old now path x n 1
-  up_first many goes = record {
-    made = ask.Put path (take 4096 x) ∷ [];
-    goes = goes;
-    rest = λ t. ap (λ k. ask.Put path (take 4096 x) ∷ map (ask.Append path) (file_pieces (k - 1) (drop 4096 x))) (many t);
-    some = omega arith;
-  }
-
-  module _ (i : ℕ) (up : UpTo told g old now path x n i) where
-    pub up_end : n ≤ i → MakesSteps {X = Unit {0}} told g old now (file_steps path x) (Ok tt)
-    up_end h = goes_as told g old now up.made (file_steps path x) (Ok tt)
-        (λ t. sym (append-nil up.made) ∙ (ap (λ s. up.made ++ s) (sym (none_from path n i x h)) ∙ up.rest t)) up.goes
-
-    module _ (new : DiskView) (y : List ℕ) (same : told → y ≡ x) (h : i < n) where
-      parts : told → up.made ++ piece_at path i y ∷ pieces_from path n (i + 1) x ≡ file_steps path x
-      parts t = ap (λ z. up.made ++ piece_at path i z ∷ pieces_from path n (i + 1) x) (same t) ∙ (ap (λ s. up.made ++ s) (sym (next_from path n i x h)) ∙ up.rest t)
-
-      pub up_next : MakesSteps {X = Unit {0}} told g now new (piece_at path i y ∷ []) (Ok tt) → UpTo told g old new path x n (i + 1)
-      up_next goes = record {
-        made = up.made ++ piece_at path i y ∷ [];
-        goes = then_goes told g old now new up.made (piece_at path i y ∷ []) tt (Ok tt) up.goes goes;
-        rest = λ t. append_assoc up.made (piece_at path i y ∷ []) (pieces_from path n (i + 1) x) ∙ parts t;
-        some = omega arith;
-      }
-
-      pub up_lost : (e : FsRefusal) → MakesSteps {X = Unit {0}} told g now new (piece_at path i y ∷ []) (Err e) → MakesSteps {X = Unit {0}} told g old new (file_steps path x) (Err e)
-      up_lost e goes =
-          let all = then_goes told g old now new up.made (piece_at path i y ∷ []) tt (Err e) up.goes goes in
-          goes_as told g old new ((up.made ++ piece_at path i y ∷ []) ++ pieces_from path n (i + 1) x) (file_steps path x) (Err e)
-          (λ t. append_assoc up.made (piece_at path i y ∷ []) (pieces_from path n (i + 1) x) ∙ parts t)
-          (err_as told g {X = Unit {0}} {Y = Unit {0}} old new (up.made ++ piece_at path i y ∷ []) e (pieces_from path n (i + 1) x) all)
-
 -- the place of a piece fits
 pub place_fits : (size i n : ℕ) → n ≡ div_ceil size 4096 → i < n → size < 2 ^ 64 → i * 4096 < 2 ^ 64
 place_fits size i n is h fits = let all = div_ceil_times size 4096 (omega arith) in omega (arith, all.1, is, h, fits)
+
+-- ---- a piece that is read
+
+module _ {told : Type 0} {f g : FilesView} {old mid : DiskView} {path : Path} (start : ℕ) {part : List ℕ} (set : AreSet told f g old) (file : told → IsFileAt (tree_under f old) path) where
+  pub part_read : {x : Unit {0}} → (told → Answers f old mid (ask.Cat path) (Ok x) (λ _. TellsPart start part)) → told → part ≡ take 4096 (drop start (bytes_in (at (tree_under f old) path)))
+  part_read answers t = part_tells f old set.from_mounted path (file t) start part (answers t).ok.0
+
+  -- then nothing is asked of the target
+  pub part_lost : {e : FsRefusal} (a : ShellAsk) → (told → Answers {X = Unit {0}} f old mid (ask.Cat path) (Err e) (λ _. TellsPart start part)) → Looks {X = Unit {0}} told old mid (Err e) → MakesSteps {X = Unit {0}} told g old mid (a ∷ []) (Err e)
+  part_lost {e} a answers looks =
+      let never = part_refused f old set.from_mounted path in
+      err_as (a ∷ []) (look_lost set (λ t. never_refused f old mid (ask.Cat path) (Err e) _ (never (file t)) (answers t)) looks)
+
+-- ---- the pieces of two file systems
+
+-- At each piece the first of them are copied, and both file systems are seen as they were.
+pub record AtPiece (told : Type 0) (f g h k : FilesView) (old now : DiskView) (path : Path) (n i : ℕ) : Type 0 where
+  pub set : AreSet told f g old
+  pub sound : told → IsDiskSound old
+  pub file : told → IsFileAt (tree_under f old) path
+  pub up : UpTo told g old now path (bytes_in (at (tree_under f old) path)) n i
+  pub from_same : h ≡ f
+  pub into_same : k ≡ g
+
+-- the first is not put
+pub put_lost : {told : Type 0} {f g : FilesView} {old now : DiskView} {path : Path} {e : FsRefusal} → AreSet told f g old → MakesSteps {X = Unit {0}} told g old now (ask.Put path (take 4096 (bytes_in (at (tree_under f old) path))) ∷ []) (Err e)
+    → MakesSteps {X = Unit {0}} told g old now (file_steps path (bytes_in (at (tree_under f old) path))) (Err e)
+put_lost {told} {f} {g} {old} {now} {path} {e} set goes =
+    let x = bytes_in (at (tree_under f old) path) in
+    err_as (pieces_from path (div_ceil (length x) 4096) 1 x) goes
+
+-- at the second one the first is put
+pub first_put : {told : Type 0} {f g h k : FilesView} {old now : DiskView} {path : Path} {n size : ℕ} → AreSet told f g old → (told → old.spent ≡ false → IsDiskSound old) → (told → IsFileAt (tree_under f old) path) → n ≡ div_ceil size 4096 → (told → size ≡ length (bytes_in (at (tree_under f old) path)))
+    → MakesSteps {X = Unit {0}} told g old now (ask.Put path (take 4096 (bytes_in (at (tree_under f old) path))) ∷ []) (Ok tt) → h ≡ f → k ≡ g → AtPiece told f g h k old now path n 1
+first_put {f = f} {old = old} {path = path} set sound file many sized goes from_same into_same =
+    let x = bytes_in (at (tree_under f old) path) in
+    record {
+      set = set;
+      sound = λ t. sound t set.from_ready.unspent;
+      file = file;
+      up = record {
+        made = ask.Put path (take 4096 x) ∷ [];
+        goes = goes;
+        rest = λ t. ap (λ k. ask.Put path (take 4096 x) ∷ map (ask.Append path) (file_pieces (k - 1) (drop 4096 x))) (many ∙ ap (λ m. div_ceil m 4096) (sized t));
+        some = omega arith;
+      };
+      from_same = from_same;
+      into_same = into_same;
+    }
+
+module _ {told : Type 0} {f g h k : FilesView} {old now : DiskView} {path : Path} {n i : ℕ} (here : AtPiece told f g h k old now path n i) where
+  -- the file's bytes, as they were and as they are
+  abbrev x : List ℕ
+  x = bytes_in (at (tree_under f old) path)
+
+  abbrev y : List ℕ
+  y = bytes_in (at (tree_under h now) path)
+
+  -- both may go on, and the file is what it was
+  pub piece_set : AreSet told h k now
+  piece_set = now_set here.sound here.set here.up.goes here.from_same here.into_same
+
+  piece_tree : told → tree_under h now ≡ tree_under f old
+  piece_tree = same_source here.sound here.set here.up.goes here.from_same
+
+  pub piece_file : told → IsFileAt (tree_under h now) path
+  piece_file t = let file = here.file t in (file.0, ap (λ u. at u path) (piece_tree t) ∙ file.1)
+
+  -- none is left
+  pub piece_end : n ≤ i → MakesSteps {X = Unit {0}} told g old now (file_steps path x) (Ok tt)
+  piece_end none = goes_as (λ t. sym (append-nil here.up.made) ∙ (ap (λ s. here.up.made ++ s) (sym (none_from path n i x none)) ∙ here.up.rest t)) here.up.goes
+
+  -- the next one is appended, and then the others are left
+  module _ (some : i < n) where
+    piece_parts : told → (here.up.made ++ piece_at path i y ∷ []) ++ pieces_from path n (i + 1) x ≡ file_steps path x
+    piece_parts t =
+        append_assoc here.up.made (piece_at path i y ∷ []) (pieces_from path n (i + 1) x)
+        ∙ (ap (λ u. here.up.made ++ piece_at path i (bytes_in (at u path)) ∷ pieces_from path n (i + 1) x) (piece_tree t) ∙ (ap (λ s. here.up.made ++ s) (sym (next_from path n i x some)) ∙ here.up.rest t))
+
+    piece_goes : {new : DiskView} {r : Done} → MakesSteps told k now new (piece_at path i y ∷ []) r → MakesSteps told g old new (here.up.made ++ piece_at path i y ∷ []) r
+    piece_goes {new} {r} goes = then_goes here.up.goes (subst (λ (w : FilesView). MakesSteps told w now new (piece_at path i y ∷ []) r) here.into_same goes)
+
+    pub piece_next : {new : DiskView} {h2 k2 : FilesView} → MakesSteps {X = Unit {0}} told k now new (piece_at path i y ∷ []) (Ok tt) → h2 ≡ h → k2 ≡ k → AtPiece told f g h2 k2 old new path n (i + 1)
+    piece_next goes from_same into_same = record {
+      set = here.set;
+      sound = here.sound;
+      file = here.file;
+      up = record { made = here.up.made ++ piece_at path i y ∷ []; goes = piece_goes goes; rest = piece_parts; some = omega arith };
+      from_same = from_same ∙ here.from_same;
+      into_same = into_same ∙ here.into_same;
+    }
+
+    pub piece_lost : {new : DiskView} {e : FsRefusal} → MakesSteps {X = Unit {0}} told k now new (piece_at path i y ∷ []) (Err e) → MakesSteps {X = Unit {0}} told g old new (file_steps path x) (Err e)
+    piece_lost goes = goes_as piece_parts (err_as (pieces_from path n (i + 1) x) (piece_goes goes))

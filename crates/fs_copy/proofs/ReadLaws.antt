@@ -1,23 +1,9 @@
 -- What the source answers of its tree.
 use Rattle.std.proofs.Common.{◌≡◌, ◌≢◌, ℕ, true, false, cond, not, List, [], ◌∷◌, length, take, drop, refl, sym, ◌∙◌, ap, inl, inr, ◌⊎◌, Result, Ok, Err, Option, None}
-use Rattle.std.specs.Prelude.{IfErr}
-use Rattle.tsd_model.specs.World.{free_count}
+use Rattle.fs_copy.proofs.Common.{IfErr, free_count, Answer, bytes, listed, refused, step_in, Name, Path, need_of, RoomNeed, when, first_of, lost_on_the_way, not_mounted, missing, no_file, no_dir, judged, tree_step, nothing, a_file, a_dir, Tree, at, entry, is_dir, is_file, is_there, names_in, bytes_in, ShellAsk, ShellKind, FsRefusal, DiskView, FilesView, Answers, TellsNext, TellsPart, TellsSize, above, step_on, tree_under, IsFileAt, IsSource}
 use Rattle.tsd_model.specs.declared.geometry.Geometry.{Geometry}
-use Rattle.fs_trees.specs.Answer.{Answer, bytes, listed, refused}
-use Rattle.fs_trees.specs.Layouts.{step_in}
-use Rattle.fs_trees.specs.Names.{Name, Path}
-use Rattle.fs_trees.specs.Needs.{need_of}
-use Rattle.fs_trees.specs.Refusals.{RoomNeed, when, first_of, lost_on_the_way, not_mounted, missing, no_file, no_dir}
-use Rattle.fs_trees.specs.Step.{judged, tree_step}
-use Rattle.fs_trees.specs.Tree.{nothing, a_file, a_dir, Tree, at, entry, is_dir, is_file, is_there, names_in, bytes_in}
-use Rattle.fs_trees.specs.declared.ask.ShellAsk.{ShellAsk}
 use Rattle.fs_trees.specs.declared.ask.ShellAsk.TheVariants as ask
-use Rattle.fs_trees.specs.declared.ask.ShellKind.{ShellKind}
-use Rattle.fs_trees.specs.declared.refusal.FsRefusal.{FsRefusal}
 use Rattle.fs_trees.specs.declared.refusal.FsRefusal.TheVariants as no
-use Rattle.fs_port.specs.View.{DiskView}
-use Rattle.fs_port.specs.Files.{FilesView, Answers, TellsNext, TellsPart, TellsSize, above, step_on}
-use Rattle.fs_copy.specs.Going.{tree_under, IsFileAt}
 
 -- ---- where something stands at a path
 
@@ -119,14 +105,14 @@ module _ (f : FilesView) (v : DiskView) (mounted : f.mounted ≡ true) (p : Path
   says_names is = at_view (ask.Ls p) ∙ ls_dir f.kind v.world.geometry (free_count v.world) (length v.world.pairs) (need_of f.kind v.world f.root t (ask.Ls p)) t p is
 
   -- the size is that of a file
-  pub size_tells : is_there (at t p) ≡ true → (n : ℕ) → TellsSize n (step_on f v (ask.Cat p)).answer → (x : List ℕ) × (at t p ≡ a_file x) × (n ≡ length x)
+  size_tells : is_there (at t p) ≡ true → (n : ℕ) → TellsSize n (step_on f v (ask.Cat p)).answer → (x : List ℕ) × (at t p ≡ a_file x) × (n ≡ length x)
   size_tells there n tells = elim (file_or_dir (at t p) there) [
     | inl file ↦ (file.0, file.1, tells.2 ∙ ap length (bytes_same tells.0 file.0 (sym tells.1 ∙ says_file file.0 file.1)))
     | inr dir ↦ absurd (never_bytes tells.0 no.IsDir (sym tells.1 ∙ says_dir dir))
   ]
 
   -- only a directory has none
-  pub size_refused : is_there (at t p) ≡ true → (e : FsRefusal) → (step_on f v (ask.Cat p)).answer ≡ refused e → (is_dir (at t p) ≡ true) × (e ≡ no.IsDir)
+  size_refused : is_there (at t p) ≡ true → (e : FsRefusal) → (step_on f v (ask.Cat p)).answer ≡ refused e → (is_dir (at t p) ≡ true) × (e ≡ no.IsDir)
   size_refused there e is = elim (file_or_dir (at t p) there) [
     | inl file ↦ absurd (never_bytes file.0 e (sym (says_file file.0 file.1) ∙ is))
     | inr dir ↦ (dir, sym (same_refusal no.IsDir e (sym (says_dir dir) ∙ is)))
@@ -148,6 +134,14 @@ module _ (f : FilesView) (v : DiskView) (mounted : f.mounted ≡ true) (p : Path
 pub never_refused : {X : Type 0} (f : FilesView) (v new : DiskView) (a : ShellAsk) (r : Result X FsRefusal) (tells : X → Answer → Type 0) → ((e : FsRefusal) → (step_on f v a).answer ≡ refused e → ⊥) → Answers f v new a r tells → IfErr r (λ e. e ≢ no.Device → ⊥)
 never_refused f v new a (Ok x) tells never h = tt
 never_refused f v new a (Err e) tells never h = λ ne. never e (h.err ne).0
+
+-- the size at a path where something stands
+module _ {told : Type 0} {f : FilesView} {v new : DiskView} {p : Path} (source : IsSource told f v) (there : told → is_there (at (tree_under f v) p) ≡ true) where
+  pub told_file : {n : ℕ} → (told → Answers f v new (ask.Cat p) (Ok n) TellsSize) → told → (x : List ℕ) × (at (tree_under f v) p ≡ a_file x) × (n ≡ length x)
+  told_file {n} answers t = size_tells f v source.mounted p (there t) n (answers t).ok.0
+
+  pub told_dir : {e : FsRefusal} → (told → Answers {X = ℕ} f v new (ask.Cat p) (Err e) TellsSize) → told → e ≢ no.Device → (is_dir (at (tree_under f v) p) ≡ true) × (e ≡ no.IsDir)
+  told_dir {e} answers t ne = size_refused f v source.mounted p (there t) e ((answers t).err ne).0
 
 pub dir_no_fault : (e : FsRefusal) → e ≡ no.IsDir → e ≢ no.Device
 dir_no_fault e is same = let both : no.IsDir ≡ no.Device = sym is ∙ same in absurd (cc)

@@ -1,17 +1,8 @@
 -- The steps of a copy make the tree again.
 use Rattle.std.proofs.Common.{◌≡◌, ◌*◌, ◌-◌, ◌≤◌, ℕ, zero, suc, Bool, true, false, cond, List, [], ◌∷◌, ◌++◌, length, map, take, drop, refl, sym, ◌∙◌, ap, arith, append_assoc, append-nil, length-drop, take-append-drop}
-use Rattle.std.proofs.lemmas.Bool.{and_parts}
-use Rattle.std.proofs.lemmas.Grind.{div_ceil_times}
-use Rattle.std.specs.Int.{div_ceil}
-use Rattle.std.specs.Prelude.{⊤}
-use Rattle.fs_trees.specs.Copying.{file_pieces, further_pieces, file_steps, entry_steps, copy_steps, after_asks}
-use Rattle.fs_trees.specs.Names.{Name, Path, name_lt, is_below_first_name, are_ascending}
-use Rattle.fs_trees.specs.Step.{change, empty_tree}
-use Rattle.fs_trees.specs.Tree.{Entries, none, file, dir, nothing, a_file, a_dir, Tree, child, entry, at, is_there, names, bytes_in, before, with_entry, with_child, with_at}
+use Rattle.fs_copy.proofs.Common.{and_parts, div_ceil_times, div_ceil, ⊤, file_pieces, further_pieces, file_steps, entry_steps, copy_steps, after_asks, Name, Path, name_lt, is_below_first_name, are_ascending, change, empty_tree, Entries, none, file, dir, nothing, a_file, a_dir, Tree, child, entry, at, is_there, names, bytes_in, before, with_entry, with_child, with_at, AllListed, lt_trans, below_only, with_entry-again, entry-same}
 use Rattle.fs_trees.specs.declared.ask.ShellAsk.TheVariants as ask
 use Rattle.fs_laws.proofs.DirectoryLaws.{with_last, names_meet}
-use Rattle.fs_laws.proofs.ListingLaws.{AllListed}
-use Rattle.fs_laws.proofs.OrderLaws.{lt_trans, below_only, with_entry-again, entry-same}
 use Rattle.fs_copy.proofs.GoingLaws.{after-append, there_with}
 use Rattle.fs_copy.proofs.TodoLaws.{at_last}
 

@@ -1,22 +1,7 @@
 -- What is left of a copy, from one place of the walk to the next.
 use Rattle.std.proofs.Common.{◌≡◌, ◌+◌, ◌≤◌, ◌*◌, ℕ, zero, suc, true, List, [], ◌∷◌, ◌++◌, length, map, drop, refl, sym, ◌∙◌, ap, subst, arith, append_assoc, append-nil, length-append, length-take, length-drop, ◌-◌, nat_le, None}
-use Rattle.std.proofs.lemmas.Bool.{and_parts, and_from}
-use Rattle.std.proofs.lemmas.Bool.Decides.{nat_tests}
-use Rattle.std.specs.Prelude.{⊤}
-use Rattle.std.proofs.lemmas.Grind.{div_ceil_times}
-use Rattle.std.specs.Int.{div_ceil}
-use Rattle.std.specs.List.{list_all}
-use Rattle.fs_trees.specs.Copying.{file_pieces, further_pieces, file_steps, entry_steps}
-use Rattle.fs_trees.specs.Names.{Name, Path, path_max, is_name, is_path, are_ascending}
-use Rattle.fs_trees.specs.Tree.{Entries, none, file, dir, nothing, a_file, a_dir, Tree, child, entry, at, is_dir, is_there, names, names_in, before}
-use Rattle.fs_trees.specs.declared.ask.ShellAsk.{ShellAsk}
+use Rattle.fs_copy.proofs.Common.{and_parts, and_from, nat_tests, ⊤, div_ceil_times, div_ceil, list_all, file_pieces, further_pieces, file_steps, entry_steps, Name, Path, path_max, is_name, is_path, are_ascending, Entries, none, file, dir, nothing, a_file, a_dir, Tree, child, entry, at, is_dir, is_there, names, names_in, before, ShellAsk, IsNameListing, entry_count, above, file_count, byte_count, own_steps, first_made, inside, entries_behind, outer, todo, files_made, bytes_made, turns, IsNextName}
 use Rattle.fs_trees.specs.declared.ask.ShellAsk.TheVariants as ask
-use Rattle.fs_laws.specs.Small.{IsNameListing, entry_count}
-use Rattle.fs_port.specs.Files.{above}
-use Rattle.fs_copy.specs.Counted.{file_count, byte_count}
-use Rattle.fs_copy.specs.Going.{own_steps}
-use Rattle.fs_copy.specs.Nesting.{first_made}
-use Rattle.fs_copy.specs.Walk.{inside, entries_behind, outer, todo, files_made, bytes_made, turns, IsNextName}
 use Rattle.fs_copy.proofs.NameLaws.{none_behind, stands_next, behind_empty, names_inside}
 
 -- ---- paths

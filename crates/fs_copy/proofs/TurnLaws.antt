@@ -1,26 +1,12 @@
 -- One turn of the walk.
-use Rattle.std.proofs.Common.{◌≡◌, ◌+◌, ◌<◌, ◌≤◌, ℕ, Bool, true, false, cond, List, [], ◌∷◌, ◌++◌, length, refl, sym, ◌∙◌, ap, subst, inl, inr, arith, length-append, Result, Ok, Err, Some, None}
-use Rattle.std.specs.Prelude.{IfOk}
-use Rattle.tsd_model.specs.Valid.{IsValid}
-use Rattle.fs_trees.specs.Names.{Name, Path, path_max, is_name, is_path}
-use Rattle.fs_trees.specs.Tree.{nothing, a_file, a_dir, Tree, child, at, is_dir, is_there, names_in}
-use Rattle.fs_trees.specs.declared.ask.ShellAsk.{ShellAsk}
+use Rattle.std.proofs.Common.{◌≡◌, ◌+◌, ◌<◌, ◌≤◌, ℕ, Bool, true, false, cond, List, [], ◌∷◌, ◌++◌, length, refl, sym, ◌∙◌, ap, subst, inl, inr, arith, length-append, Result, Ok, Err, Option, Some, None}
+use Rattle.fs_copy.proofs.Common.{IfOk, IsValid, Name, Path, path_max, is_path, nothing, a_file, a_dir, Tree, child, at, is_dir, is_there, names_in, ShellAsk, ShellKind, FsRefusal, IsNameListing, tree_lists, tree_depth, DiskView, IsDiskSound, FilesView, Answers, TellsNext, above, has_dirs, Looks, capped, AreSet, MakesSteps, own_steps, file_size, tree_under, CanMake, outer, todo, files_made, bytes_made, turns, turns_left, IsNextName, CountsOn, IsCountedOn, WalksOn, Copied}
 use Rattle.fs_trees.specs.declared.ask.ShellAsk.TheVariants as ask
-use Rattle.fs_trees.specs.declared.ask.ShellKind.{ShellKind}
-use Rattle.fs_trees.specs.declared.refusal.FsRefusal.{FsRefusal}
-use Rattle.fs_laws.specs.Small.{IsNameListing}
-use Rattle.fs_laws.proofs.ListingLaws.{tree_lists}
-use Rattle.fs_laws.proofs.SizeLaws.{tree_depth}
-use Rattle.fs_port.specs.View.{DiskView}
-use Rattle.fs_port.specs.Files.{FilesView, above, has_dirs}
-use Rattle.fs_copy.specs.Counted.{capped}
-use Rattle.fs_copy.specs.Going.{MakesSteps, own_steps, file_size, tree_under}
-use Rattle.fs_copy.specs.Nesting.{CanMake}
-use Rattle.fs_copy.specs.Walk.{outer, todo, files_made, bytes_made, turns, turns_left, IsNextName, CountsOn, IsCountedOn, WalksOn}
-use Rattle.fs_copy.specs.declared.copied.Copied.{Copied}
+use Rattle.fs_trees.specs.declared.refusal.FsRefusal.TheVariants as no
 use Rattle.fs_copy.proofs.NameLaws.{found_named}
 use Rattle.fs_copy.proofs.TodoLaws.{at_last, path_front, path_with, outer_last, todo_none, next_path, next_after, there_now, todo_enter, turns-append, file_turns, file_files, file_bytes, made_later}
-use Rattle.fs_copy.proofs.GoingLaws.{then_goes}
+use Rattle.fs_copy.proofs.GoingLaws.{AfterLook, after_look, err_same, goes_as, look_lost, lost_goes, none_goes, ok_as, then_goes}
+use Rattle.fs_copy.proofs.ReadLaws.{never_refused, next_refused, next_tells, other_fault}
 
 -- ---- paths and their last names
 
@@ -85,27 +71,7 @@ path_left : (p q : Path) (b : Name) (more : Bool) → Leaves p q b more → is_p
 path_left p q b true left h = path_front q b (subst (λ z. is_path z ≡ true) (left.on refl) h)
 path_left p q b false left h = ap is_path (left.there refl)
 
-module _ (told : Type 0) (g : FilesView) (t : Tree) (old new : DiskView) (p q : Path) (a b : Name) (c : Copied) where
-  -- the directory has no other name
-  pub turn_left : (more : Bool) → Leaves p q b more → is_path p ≡ true → (told → is_dir (at t p) ≡ true) → (told → above a (names_in (at t p)) ≡ None) → MakesSteps told g old new [] (Ok more) → WalksOn told g t old new p q a b c c (Ok more)
-  turn_left more left path stands last goes = record {
-    made = [];
-    rest = outer [] t p;
-    parts = λ h. sym (todo_none t p a (last h));
-    goes = goes;
-    count = λ h. none_counted c [] refl refl;
-    named = path_left p q b more left path;
-    on = λ h is.
-        let from = left.on is in
-        let rest_is : outer [] t p ≡ todo t q b = ap (outer [] t) from ∙ outer_last [] t q b in
-        let same : todo t p a ≡ todo t q b = todo_none t p a (last h) ∙ rest_is in
-        let longer : length p ≡ length q + 1 = ap length from ∙ length-append q (b ∷ []) in
-        let less : turns_left t q b < turns_left t p a = omega (arith, ap turns same, longer) in
-        (around_dir t q b (ap (λ z. is_there (at t z)) (sym from) ∙ dir_there (at t p) (stands h)), rest_is, less);
-    over = λ h is. ap (outer [] t) (left.over is);
-  }
-
--- ---- an entry
+-- ---- the next name of a directory
 
 -- a path of a tree fits
 pub depth_of : (f : FilesView) (v : DiskView) (p : Path) → is_there (at (tree_under f v) p) ≡ true → length p ≤ path_max
@@ -114,111 +80,71 @@ depth_of f v p h = tree_depth f.kind v.world f.root p h
 pub listing_of : (f : FilesView) (v : DiskView) (p : Path) → IsValid v.world → IsNameListing (names_in (at (tree_under f v) p))
 listing_of f v p valid = tree_lists f.kind v.world f.root p valid.raw.sized.lawful
 
-module _ (t : Tree) (p : Path) (a n : Name) (next : IsNextName t p a n) where
-  pub is_name_next : is_name n ≡ true
-  is_name_next = found_named a n (names_in (at t p)) next.listing.0 next.next
+-- After it is told both file systems may go on, and the directory has it.
+pub record AfterName (told : Type 0) (f h g : FilesView) (old mid : DiskView) (p : Path) (a : Name) (next : Option Name) : Type 0 where
+  pub look : AfterLook told f h g old mid
+  pub dir : told → is_dir (at (tree_under f old) p) ≡ true
+  pub tells : told → next ≡ above a (names_in (at (tree_under f old) p))
 
-  pub path_next : is_path p ≡ true → length (p ++ n ∷ []) ≤ path_max → is_path (p ++ n ∷ []) ≡ true
-  path_next path few = path_with p n path is_name_next few
+module _ {told : Type 0} {f g : FilesView} {old mid : DiskView} {p : Path} {a : Name} (set : AreSet told f g old) (dir : told → is_dir (at (tree_under f old) p) ≡ true) where
+  pub after_name : {h : FilesView} {next : Option Name} → (told → old.spent ≡ false → IsDiskSound old) → h ≡ f → (told → Answers f old mid (ask.Ls p) (Ok next) (TellsNext a)) → Looks told old mid (Ok next) → AfterName told f h g old mid p a next
+  after_name {h} {next} sound same answers looks = record {
+    look = after_look set sound same looks;
+    dir = dir;
+    tells = λ t. next_tells f old set.from_mounted p (dir t) a next (answers t).ok.0;
+  }
 
--- the steps that are left, behind an entry
-abbrev pub behind_entry : Tree → Path → Name → List ShellAsk
-behind_entry t p n = todo t (next_path p n (at t (p ++ n ∷ []))) (next_after n (at t (p ++ n ∷ [])))
+  -- none is told
+  pub name_lost : {c : Copied} {e : FsRefusal} → (told → Answers {X = Option Name} f old mid (ask.Ls p) (Err e) (TellsNext a)) → Looks {X = Option Name} told old mid (Err e) → WalksOn told g (tree_under f old) old mid p p a a c c (Err e)
+  name_lost {c} {e} answers looks =
+      let lost = look_lost set (λ t. never_refused f old mid (ask.Ls p) (Err e) (TellsNext a) (next_refused f old set.from_mounted p (dir t)) (answers t)) looks in
+      record { made = []; rest = todo (tree_under f old) p a; parts = λ t. refl; goes = err_same lost; count = λ t. tt; named = tt; on = λ t. tt; over = λ t. tt }
 
-own_turns : (path : Path) (y : Tree) → is_there y ≡ true → turns (own_steps path y) ≡ cond (is_dir y) 2 1
-own_turns path nothing h = absurd (cc)
-own_turns path (a_file x) h = file_turns path x
-own_turns path (a_dir d es) h = refl
+module _ {told : Type 0} {f h g : FilesView} {old mid : DiskView} {p : Path} {a : Name} {next : Option Name} (name : AfterName told f h g old mid p a next) where
+  -- there is one
+  pub next_here : {n : Name} → next ≡ Some n → told → IsNextName (tree_under h mid) p a n
+  next_here some t = record {
+    dir = ap (λ y. is_dir (at y p)) (name.look.tree t) ∙ name.dir t;
+    listing = listing_of h mid p (name.look.set.valid t).valid;
+    next = ap (λ y. above a (names_in (at y p))) (name.look.tree t) ∙ (sym (name.tells t) ∙ some);
+  }
 
-module _ (told : Type 0) (g : FilesView) (t : Tree) (old new : DiskView) (p : Path) (a n : Name) (c d : Copied) (next : told → IsNextName t p a n) (listing : told → IsNameListing (names_in (at t (p ++ n ∷ [])))) where
-  abbrev y : Tree
-  y = at t (p ++ n ∷ [])
+  pub hold_here : (told → CanMake g.kind (todo (tree_under f old) p a)) → told → CanMake g.kind (todo (tree_under h mid) p a)
+  hold_here hold t = subst (λ y. CanMake g.kind (todo y p a)) (sym (name.look.tree t)) (hold t)
 
-  pub parts_of : told → todo t p a ≡ own_steps (p ++ n ∷ []) y ++ behind_entry t p n
-  parts_of h = todo_enter t p a n (next h) y refl (listing h)
-
-  there_of : told → is_there y ≡ true
-  there_of h = there_now t p a n (next h)
-
-  counts_of : told → turns (todo t p a) ≡ cond (is_dir y) 2 1 + turns (behind_entry t p n)
-  counts_of h = ap turns (parts_of h) ∙ (turns-append (own_steps (p ++ n ∷ []) y) (behind_entry t p n) ∙ ap (λ k. k + turns (behind_entry t p n)) (own_turns (p ++ n ∷ []) y (there_of h)))
-
-  -- it failed, or was refused
-  pub entry_lost : (q : Path) (b : Name) (e : FsRefusal) → MakesSteps {X = Bool} told g old new (own_steps (p ++ n ∷ []) y) (Err e) → WalksOn told g t old new p q a b c d (Err e)
-  entry_lost q b e goes = record { made = own_steps (p ++ n ∷ []) y; rest = behind_entry t p n; parts = λ h. sym (parts_of h); goes = goes; count = λ h. tt; named = tt; on = λ h. tt; over = λ h. tt }
-
-  module _ (counted : told → IsCountedOn c d (file_size y)) (path : is_path (p ++ n ∷ []) ≡ true) where
-    -- a directory is entered
-    pub dir_entered : (b : Name) → b ≡ [] → (told → file_size y ≡ None) → MakesSteps told g old new (own_steps (p ++ n ∷ []) y) (Ok true) → WalksOn told g t old new p (p ++ n ∷ []) a b c d (Ok true)
-    dir_entered b empty no_size goes = record {
-      made = own_steps (p ++ n ∷ []) y;
-      rest = behind_entry t p n;
-      parts = λ h. sym (parts_of h);
-      goes = goes;
-      count = λ h. entry_counted c d (p ++ n ∷ []) y (there_of h) (counted h);
-      named = path;
-      on = λ h _.
-          let stands = is_dir_of y (there_of h) (no_size h) in
-          let rest_is : behind_entry t p n ≡ todo t (p ++ n ∷ []) b = place y stands ∙ ap (todo t (p ++ n ∷ [])) (sym empty) in
-          let counts = counts_of h ∙ (ap (λ k. cond k 2 1 + turns (behind_entry t p n)) stands) in
-          let less : turns_left t (p ++ n ∷ []) b < turns_left t p a = omega (arith, counts, ap turns rest_is, length-append p (n ∷ [])) in
-          (stands, rest_is, less);
-      over = λ h never. absurd (cc);
-    }
-      where
-        is_dir_of : (x : Tree) → is_there x ≡ true → file_size x ≡ None → is_dir x ≡ true
-        is_dir_of nothing k e = absurd (cc)
-        is_dir_of (a_file z) k e = absurd (cc)
-        is_dir_of (a_dir f es) k e = refl
-
-        place : (x : Tree) → is_dir x ≡ true → todo t (next_path p n x) (next_after n x) ≡ todo t (p ++ n ∷ []) []
-        place nothing k = absurd (cc)
-        place (a_file z) k = absurd (cc)
-        place (a_dir f es) k = refl
-
-    -- a file is left behind
-    pub file_passed : (q : Path) (b : Name) (more : Bool) (size : ℕ) → Leaves (p ++ n ∷ []) q b more → (told → file_size y ≡ Some size) → MakesSteps told g old new (own_steps (p ++ n ∷ []) y) (Ok more) → WalksOn told g t old new p q a b c d (Ok more)
-    file_passed q b more size left some goes = record {
-      made = own_steps (p ++ n ∷ []) y;
-      rest = behind_entry t p n;
-      parts = λ h. sym (parts_of h);
-      goes = goes;
-      count = λ h. entry_counted c d (p ++ n ∷ []) y (there_of h) (counted h);
-      named = path_left (p ++ n ∷ []) q b more left path;
-      on = λ h is.
-          let same = last_same p q n b (left.on is) in
-          let no_dir = is_file_of y (some h) in
-          let rest_is : behind_entry t p n ≡ todo t q b = place y (some h) ∙ (ap (λ z. todo t z n) same.0 ∙ ap (todo t q) same.1) in
-          let counts = counts_of h ∙ (ap (λ k. cond k 2 1 + turns (behind_entry t p n)) no_dir) in
-          let less : turns_left t q b < turns_left t p a = omega (arith, counts, ap turns rest_is, ap length same.0) in
-          (ap (λ z. is_dir (at t z)) (sym same.0) ∙ (next h).dir, rest_is, less);
-      over = λ h is. absurd (never_empty p n (left.over is));
-    }
-      where
-        is_file_of : (x : Tree) → file_size x ≡ Some size → is_dir x ≡ false
-        is_file_of nothing e = absurd (cc)
-        is_file_of (a_file z) e = refl
-        is_file_of (a_dir f es) e = absurd (cc)
-
-        place : (x : Tree) → file_size x ≡ Some size → todo t (next_path p n x) (next_after n x) ≡ todo t p n
-        place nothing e = absurd (cc)
-        place (a_file z) e = refl
-        place (a_dir f es) e = absurd (cc)
-
--- ---- a turn that begins where the source only looked before
-
-module _ {X : Type 0} (told : Type 0) (g : FilesView) (t u : Tree) (old mid new : DiskView) (p q : Path) (a b : Name) (c d : Copied) (x : X) (result : Result Bool FsRefusal) where
-  pub turn_again : (told → u ≡ t) → MakesSteps told g old mid [] (Ok x) → WalksOn told g u mid new p q a b c d result → WalksOn told g t old new p q a b c d result
-  turn_again same look turn = record {
+  pub turn_again : {new : DiskView} {q : Path} {b : Name} {c d : Copied} {result : Result Bool FsRefusal} → WalksOn told g (tree_under h mid) mid new p q a b c d result → WalksOn told g (tree_under f old) old new p q a b c d result
+  turn_again {new} {q} {b} {c} {d} {result} turn = record {
     made = turn.made;
     rest = turn.rest;
-    parts = λ h. turn.parts h ∙ ap (λ s. todo s p a) (same h);
-    goes = then_goes told g old mid new [] turn.made x result look turn.goes;
+    parts = λ t. turn.parts t ∙ ap (λ s. todo s p a) (name.look.tree t);
+    goes = then_goes name.look.goes turn.goes;
     count = turn.count;
     named = turn.named;
-    on = λ h. subst (λ s. IfOk result (λ more. more ≡ true → (is_dir (at s q) ≡ true) × (turn.rest ≡ todo s q b) × (turns_left s q b < turns_left s p a))) (same h) (turn.on h);
+    on = λ t. subst (λ s. IfOk result (λ more. more ≡ true → (is_dir (at s q) ≡ true) × (turn.rest ≡ todo s q b) × (turns_left s q b < turns_left s p a))) (name.look.tree t) (turn.on t);
     over = turn.over;
   }
+
+  -- there is no other
+  pub turn_left : {q : Path} {b : Name} {c : Copied} {more : Bool} → Leaves p q b more → is_path p ≡ true → next ≡ None → WalksOn told g (tree_under f old) old mid p q a b c c (Ok more)
+  turn_left {q} {b} {c} {more} left path none =
+      let u = tree_under f old in
+      let last : told → above a (names_in (at u p)) ≡ None = λ t. sym (name.tells t) ∙ none in
+      record {
+        made = [];
+        rest = outer [] u p;
+        parts = λ h. sym (todo_none u p a (last h));
+        goes = ok_as name.look.goes;
+        count = λ h. none_counted c [] refl refl;
+        named = path_left p q b more left path;
+        on = λ h is.
+            let from = left.on is in
+            let rest_is : outer [] u p ≡ todo u q b = ap (outer [] u) from ∙ outer_last [] u q b in
+            let same : todo u p a ≡ todo u q b = todo_none u p a (last h) ∙ rest_is in
+            let longer : length p ≡ length q + 1 = ap length from ∙ length-append q (b ∷ []) in
+            let less : turns_left u q b < turns_left u p a = omega (arith, ap turns same, longer) in
+            (around_dir u q b (ap (λ z. is_there (at u z)) (sym from) ∙ dir_there (at u p) (name.dir h)), rest_is, less);
+        over = λ h is. ap (outer [] u) (left.over is);
+      }
 
 -- ---- which directories may be made
 
@@ -231,3 +157,140 @@ can_make kind path y ys (inl dirs) h = dirs
 can_make kind path nothing ys (inr never) h = absurd (cc)
 can_make kind path (a_file x) ys (inr never) h = absurd (cc)
 can_make kind path (a_dir d es) ys (inr never) h = absurd (cc)
+
+-- ---- an entry
+
+-- the steps that are left, behind an entry
+abbrev pub behind_entry : Tree → Path → Name → List ShellAsk
+behind_entry t p n = todo t (next_path p n (at t (p ++ n ∷ []))) (next_after n (at t (p ++ n ∷ [])))
+
+own_turns : (path : Path) (y : Tree) → is_there y ≡ true → turns (own_steps path y) ≡ cond (is_dir y) 2 1
+own_turns path nothing h = absurd (cc)
+own_turns path (a_file x) h = file_turns path x
+own_turns path (a_dir d es) h = refl
+
+-- An entry comes next, behind a name of a directory.
+pub record AtEntry (told : Type 0) (f g : FilesView) (old : DiskView) (p : Path) (a n : Name) : Type 0 where
+  pub set : AreSet told f g old
+  pub sound : told → IsDiskSound old
+  pub next : told → IsNextName (tree_under f old) p a n
+
+pub at_entry : {told : Type 0} {f g : FilesView} {old : DiskView} {p : Path} {a n : Name} → AreSet told f g old → (told → old.spent ≡ false → IsDiskSound old) → (told → IsNextName (tree_under f old) p a n) → AtEntry told f g old p a n
+at_entry set sound next = record { set = set; sound = λ t. sound t set.from_ready.unspent; next = next }
+
+module _ {told : Type 0} {f g : FilesView} {old : DiskView} {p : Path} {a n : Name} (here : AtEntry told f g old p a n) where
+  abbrev u : Tree
+  u = tree_under f old
+
+  abbrev y : Tree
+  y = at u (p ++ n ∷ [])
+
+  parts_of : told → todo u p a ≡ own_steps (p ++ n ∷ []) y ++ behind_entry u p n
+  parts_of t = todo_enter u p a n (here.next t) y refl (listing_of f old (p ++ n ∷ []) (here.set.valid t).valid)
+
+  there_of : told → is_there y ≡ true
+  there_of t = there_now u p a n (here.next t)
+
+  counts_of : told → turns (todo u p a) ≡ cond (is_dir y) 2 1 + turns (behind_entry u p n)
+  counts_of t = ap turns (parts_of t) ∙ (turns-append (own_steps (p ++ n ∷ []) y) (behind_entry u p n) ∙ ap (λ k. k + turns (behind_entry u p n)) (own_turns (p ++ n ∷ []) y (there_of t)))
+
+  -- its path fits
+  pub entry_fits : told → length p + 1 ≤ path_max
+  entry_fits t = let deep = depth_of f old (p ++ n ∷ []) (there_of t) in omega (arith, deep, length-append p (n ∷ []))
+
+  pub entry_path : is_path p ≡ true → told → is_path (p ++ n ∷ []) ≡ true
+  entry_path path t = path_with p n path (found_named a n (names_in (at u p)) (here.next t).listing.0 (here.next t).next) (depth_of f old (p ++ n ∷ []) (there_of t))
+
+  entry_lost : {new : DiskView} (q : Path) (b : Name) (c d : Copied) (e : FsRefusal) → MakesSteps {X = Bool} told g old new (own_steps (p ++ n ∷ []) y) (Err e) → WalksOn told g u old new p q a b c d (Err e)
+  entry_lost q b c d e goes = record { made = own_steps (p ++ n ∷ []) y; rest = behind_entry u p n; parts = λ t. sym (parts_of t); goes = goes; count = λ t. tt; named = tt; on = λ t. tt; over = λ t. tt }
+
+  -- it is refused only where the disk tells nothing
+  pub entry_never : {q : Path} {b : Name} {c : Copied} → (told → ⊥) → WalksOn told g u old old p q a b c c (Err no.NotThisFs)
+  entry_never {q} {b} {c} never =
+      let begun = none_goes here.set.into_ready.unspent here.sound here.set.valid in
+      entry_lost q b c c no.NotThisFs (lost_goes never other_fault begun)
+
+  module _ {q : Path} (is : q ≡ p ++ n ∷ []) where
+    pub entry_there : told → is_there (at u q) ≡ true
+    entry_there t = ap (λ (z : Path). is_there (at u z)) is ∙ there_of t
+
+    pub entry_hold : (told → CanMake g.kind (todo u p a)) → told → is_dir (at u q) ≡ true → has_dirs g.kind ≡ true
+    entry_hold hold t dir = can_make g.kind (p ++ n ∷ []) y (behind_entry u p n) (subst (λ s. CanMake g.kind s) (parts_of t) (hold t)) (ap (λ (z : Path). is_dir (at u z)) (sym is) ∙ dir)
+
+    own_goes : {X : Type 0} {new : DiskView} (r : Result X FsRefusal) → MakesSteps told g old new (own_steps q (at u q)) r → MakesSteps told g old new (own_steps (p ++ n ∷ []) y) r
+    own_goes {new = new} r goes = goes_as (λ t. ap (λ (z : Path). own_steps z (at u z)) is) goes
+
+    -- it is not copied
+    pub entry_refused : {new : DiskView} {b : Name} {c : Copied} {e : FsRefusal} → MakesSteps {X = Option ℕ} told g old new (own_steps q (at u q)) (Err e) → WalksOn told g u old new p q a b c c (Err e)
+    entry_refused {new} {b} {c} {e} goes = entry_lost q b c c e (err_same (own_goes (Err e) goes))
+
+    -- it is copied and counted
+    module _ {new : DiskView} {size : Option ℕ} (path : is_path q ≡ true) (size_is : told → size ≡ file_size (at u q)) (goes : MakesSteps told g old new (own_steps q (at u q)) (Ok size)) where
+      size_so : told → size ≡ file_size y
+      size_so t = size_is t ∙ ap (λ (z : Path). file_size (at u z)) is
+
+      path_so : is_path (p ++ n ∷ []) ≡ true
+      path_so = ap is_path (sym is) ∙ path
+
+      count_so : {c d : Copied} → IsCountedOn c d size → told → CountsOn c d (own_steps (p ++ n ∷ []) y)
+      count_so {c} {d} counted t = entry_counted c d (p ++ n ∷ []) y (there_of t) (subst (λ (o : Option ℕ). IsCountedOn c d o) (size_so t) counted)
+
+      goes_so : (more : Bool) → MakesSteps told g old new (own_steps (p ++ n ∷ []) y) (Ok more)
+      goes_so more = ok_as (own_goes (Ok size) goes)
+
+      -- a directory is entered
+      pub dir_entered : {b : Name} {c d : Copied} → IsCountedOn c d size → b ≡ [] → size ≡ None → WalksOn told g u old new p q a b c d (Ok true)
+      dir_entered {b} {c} {d} counted empty none = subst (λ (z : Path). WalksOn told g u old new p z a b c d (Ok true)) (sym is) (record {
+        made = own_steps (p ++ n ∷ []) y;
+        rest = behind_entry u p n;
+        parts = λ t. sym (parts_of t);
+        goes = goes_so true;
+        count = count_so counted;
+        named = path_so;
+        on = λ t _.
+            let stands = is_dir_of y (there_of t) (sym (size_so t) ∙ none) in
+            let rest_is : behind_entry u p n ≡ todo u (p ++ n ∷ []) b = place y stands ∙ ap (todo u (p ++ n ∷ [])) (sym empty) in
+            let counts = counts_of t ∙ (ap (λ k. cond k 2 1 + turns (behind_entry u p n)) stands) in
+            let less : turns_left u (p ++ n ∷ []) b < turns_left u p a = omega (arith, counts, ap turns rest_is, length-append p (n ∷ [])) in
+            (stands, rest_is, less);
+        over = λ t never. absurd (cc);
+      })
+        where
+          is_dir_of : (x : Tree) → is_there x ≡ true → file_size x ≡ None → is_dir x ≡ true
+          is_dir_of nothing k e = absurd (cc)
+          is_dir_of (a_file z) k e = absurd (cc)
+          is_dir_of (a_dir f es) k e = refl
+
+          place : (x : Tree) → is_dir x ≡ true → todo u (next_path p n x) (next_after n x) ≡ todo u (p ++ n ∷ []) []
+          place nothing k = absurd (cc)
+          place (a_file z) k = absurd (cc)
+          place (a_dir f es) k = refl
+
+      -- a file is left behind
+      pub file_passed : {r : Path} {b : Name} {c d : Copied} {more : Bool} {bytes : ℕ} → IsCountedOn c d size → Leaves q r b more → size ≡ Some bytes → WalksOn told g u old new p r a b c d (Ok more)
+      file_passed {r} {b} {c} {d} {more} {bytes} counted left some = record {
+        made = own_steps (p ++ n ∷ []) y;
+        rest = behind_entry u p n;
+        parts = λ t. sym (parts_of t);
+        goes = goes_so more;
+        count = count_so counted;
+        named = path_left q r b more left path;
+        on = λ t going.
+            let same = last_same p r n b (sym is ∙ left.on going) in
+            let is_size = sym (size_so t) ∙ some in
+            let rest_is : behind_entry u p n ≡ todo u r b = place y is_size ∙ (ap (λ z. todo u z n) same.0 ∙ ap (todo u r) same.1) in
+            let counts = counts_of t ∙ (ap (λ k. cond k 2 1 + turns (behind_entry u p n)) (is_file_of y is_size)) in
+            let less : turns_left u r b < turns_left u p a = omega (arith, counts, ap turns rest_is, ap length same.0) in
+            (ap (λ z. is_dir (at u z)) (sym same.0) ∙ (here.next t).dir, rest_is, less);
+        over = λ t ended. absurd (never_empty p n (sym is ∙ left.over ended));
+      }
+        where
+          is_file_of : (x : Tree) → file_size x ≡ Some bytes → is_dir x ≡ false
+          is_file_of nothing e = absurd (cc)
+          is_file_of (a_file z) e = refl
+          is_file_of (a_dir f es) e = absurd (cc)
+
+          place : (x : Tree) → file_size x ≡ Some bytes → todo u (next_path p n x) (next_after n x) ≡ todo u p n
+          place nothing e = absurd (cc)
+          place (a_file z) e = refl
+          place (a_dir f es) e = absurd (cc)

@@ -1,18 +1,9 @@
 -- What an append answers, by the refusal that applies first.
 use Rattle.std.proofs.Common.{◌≡◌, ℕ, ◌+◌, true, false, not, nat_lt, List, [], ◌∷◌, length, refl, ◌∙◌, ap, Option, Some, None}
-use Rattle.std.specs.Int.{div_ceil}
-use Rattle.tsd_model.specs.Geometry.{block_len}
-use Rattle.tsd_model.specs.declared.geometry.Geometry.{Geometry}
-use Rattle.fs_trees.specs.Names.{Path}
-use Rattle.fs_trees.specs.Tree.{Tree, nothing, a_file, a_dir, at, is_there, is_file, is_dir, bytes_in}
-use Rattle.fs_trees.specs.Inode.{data_room}
-use Rattle.fs_trees.specs.Refusals.{RoomNeed, when, first_of, lost_on_the_way, missing, no_file, too_big, no_room, refusal}
+use Rattle.inode_changes.proofs.Common.{div_ceil, block_len, Geometry, Path, Tree, nothing, a_file, a_dir, at, is_there, is_file, is_dir, bytes_in, data_room, RoomNeed, when, first_of, lost_on_the_way, missing, no_file, too_big, no_room, refusal, FsRefusal, is_mounted, lookup_refusal}
 use Rattle.fs_trees.specs.declared.ask.ShellAsk.TheVariants as ask
 use Rattle.fs_trees.specs.declared.ask.ShellKind.TheVariants as kind
-use Rattle.fs_trees.specs.declared.refusal.FsRefusal.{FsRefusal}
 use Rattle.fs_trees.specs.declared.refusal.FsRefusal.TheVariants as no
-use Rattle.fs_client.proofs.AskLaws.{is_mounted}
-use Rattle.fs_client.specs.Changing.{lookup_refusal}
 
 -- what stands there is no directory, where it is a file
 pub file_only : (x : Tree) → is_file x ≡ true → (is_there x ≡ true) × (is_dir x ≡ false)

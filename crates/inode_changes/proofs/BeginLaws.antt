@@ -1,35 +1,10 @@
 -- A block is taken for a new inode.
 use Rattle.std.proofs.Common.{◌≡◌, ◌≢◌, ℕ, suc, ◌+◌, ◌≤◌, true, false, ◌==◌, List, [], ◌∷◌, length, refl, sym, ◌∙◌, ap, subst, arith, inl, inr, ◌⊎◌, Option, Some, None}
-use Rattle.std.proofs.lemmas.Bool.{and_from, or_left, eq-eqb, false_from_ne_true}
-use Rattle.tsd_model.specs.World.{World, free_count, has_number}
-use Rattle.tsd_model.specs.Pairs.{holds}
-use Rattle.tsd_model.specs.Placing.{chosen}
-use Rattle.tsd_model.specs.Step.{zeros, with_new_blocks}
+use Rattle.inode_changes.proofs.Common.{and_from, or_left, eq-eqb, false_from_ne_true, World, free_count, has_number, holds, chosen, zeros, with_new_blocks, At, length-with_new_pair, named_at, is_under, FsRefusal, inodes_under_root, read_from_named, DiskView, IsValidNow, Stays, Client, alloc_by, unlink_by, refusal_before, MayWrite, Leads, Went, dropped, taken, clash_free_live, chosen_free, chosen_enough, free_count_new, the_block, Making, Stage, IsAside, HasNewInode, IsBack, AsideOr}
 use Rattle.tsd_model.specs.declared.requests.Hint.{Hint}
-use Rattle.tsd_model.specs.declared.requests.Hint.TheVariants.{At}
 use Rattle.tsd_model.specs.declared.requests.PlaceKind.{PlaceKind}
-use Rattle.tsd_model.proofs.PairLaws.{length-with_new_pair}
-use Rattle.fs_trees.specs.Layouts.{named_at}
-use Rattle.fs_trees.specs.Outside.{is_under}
 use Rattle.fs_trees.specs.declared.ask.ShellKind.TheVariants as kind
-use Rattle.fs_trees.specs.declared.refusal.FsRefusal.{FsRefusal}
 use Rattle.fs_trees.specs.declared.refusal.FsRefusal.TheVariants as no
-use Rattle.fs_laws.proofs.InodeLaws.{inodes_under_root}
-use Rattle.fs_laws.proofs.TreeLaws.{read_from_named}
-use Rattle.fs_port.specs.View.{DiskView}
-use Rattle.fs_port.specs.Calls.{IsValidNow, Stays}
-use Rattle.fs_client.specs.declared.client.Client.{Client}
-use Rattle.fs_client.specs.Client.{alloc_by, unlink_by}
-use Rattle.fs_client.specs.Leftovers.{refusal_before}
-use Rattle.fs_client.specs.May.{MayWrite}
-use Rattle.fs_client.specs.Steps.{Leads, Went, dropped, taken}
-use Rattle.fs_client.proofs.RunLaws.{clash_free_live}
-use Rattle.fs_client.proofs.NewLaws.{chosen_free, chosen_enough}
-use Rattle.fs_client.proofs.NeedLaws.{free_count_new}
-use Rattle.inode_changes.specs.Blocks.{the_block}
-use Rattle.inode_changes.specs.Making.{Making}
-use Rattle.inode_changes.specs.Filling.{Stage, IsAside}
-use Rattle.inode_changes.specs.Beginning.{HasNewInode, IsBack, AsideOr}
 use Rattle.inode_changes.proofs.MakingLaws.{making_begins}
 use Rattle.inode_changes.proofs.FillLaws.{aside_now, took_some}
 use Rattle.inode_changes.proofs.ShareLaws.{fault_before}

@@ -1,55 +1,19 @@
 -- What a copy answers, by the refusal that applies first, and what the new file is made of.
 use Rattle.std.proofs.Common.{◌≡◌, ℕ, suc, ◌+◌, ◌*◌, ◌/◌, ◌<◌, ◌≤◌, true, false, nat_le, List, [], ◌∷◌, ◌++◌, length, refl, sym, ◌∙◌, ap, subst, arith, Option, Some, None, Ok}
-use Rattle.std.proofs.lemmas.List.{length-take-le, take_all}
-use Rattle.std.proofs.lemmas.Grind.{div_ceil_times}
-use Rattle.std.proofs.Math.Nat.{mul-div_cancel_left, mul_comm}
-use Rattle.std.specs.Prelude.{take, flat_map, slice_get}
-use Rattle.std.specs.Int.{div_ceil}
-use Rattle.tsd_model.specs.Geometry.{block_len}
-use Rattle.tsd_model.specs.World.{free_count, has_number, are_apart}
-use Rattle.tsd_model.specs.declared.geometry.Geometry.{Geometry}
+use Rattle.inode_changes.proofs.Common.{length-take-le, take_all, div_ceil_times, mul-div_cancel_left, mul_comm, take, flat_map, slice_get, div_ceil, block_len, free_count, has_number, are_apart, Geometry, Path, is_path, node_at, inodes_under, inode_tree, Tree, a_file, at, is_there, bytes_in, with_at, numbers, entries_room, data_room, need, inode_need, need_of, RoomNeed, first_of, lost_on_the_way, missing, no_file, name_taken, dir_full, no_room, refusal, change, FsRefusal, DiskView, IsDiskSound, IsValidNow, Stays, KeepsRoom, Runs, Client, Looked, OnlyLooks, no_room_in, refused_on, lookup_refusal, is_mounted, inode_of, block_len_of, body_of, is_directory, amount_said, blocks_said, Found, Lookup, tree_under, MayAsk, mounted_by, StandsAtPath, IsLookup, not_found, no_file_found, bytes_at, bytes_said, file_said, file_count, named_held, may_look, said_is_row, row_is_long, found_long, node_is, file_is, tree_there, stands_still, IsVacant, Content, shared_count, shared_of, new_bytes, new_count, all_count, FitsInode, IsFor, IsAside, Grounds, AreOfFiles, IsMadeInode, bytes_of, Copies, IsCopied}
 use Rattle.tsd_model.specs.Records.{kept_of}
 use Rattle.tsd_model.specs.Attained.{record_level}
-use Rattle.fs_trees.specs.Names.{Path, is_path}
-use Rattle.fs_trees.specs.InodeTree.{node_at, inodes_under, inode_tree}
-use Rattle.fs_trees.specs.Tree.{Tree, a_file, at, is_there, bytes_in, with_at}
-use Rattle.fs_trees.specs.Fields.{numbers}
 use Rattle.fs_trees.specs.Inode as tree
-use Rattle.fs_trees.specs.Inode.{entries_room, data_room}
-use Rattle.fs_trees.specs.Needs.{need, inode_need, need_of}
-use Rattle.fs_trees.specs.Refusals.{RoomNeed, first_of, lost_on_the_way, missing, no_file, name_taken, dir_full, no_room, refusal}
-use Rattle.fs_trees.specs.Step.{change}
 use Rattle.fs_trees.specs.declared.ask.ShellAsk.TheVariants as ask
 use Rattle.fs_trees.specs.declared.ask.ShellKind.TheVariants as kind
-use Rattle.fs_trees.specs.declared.refusal.FsRefusal.{FsRefusal}
 use Rattle.fs_trees.specs.declared.refusal.FsRefusal.TheVariants as no
-use Rattle.fs_port.specs.View.{DiskView}
-use Rattle.fs_port.specs.Calls.{IsValidNow, Stays}
-use Rattle.fs_client.specs.declared.client.Client.{Client}
-use Rattle.fs_client.specs.May.{Looked, OnlyLooks}
-use Rattle.fs_client.specs.Steps.{no_room_in}
-use Rattle.fs_client.specs.Changing.{refused_on, lookup_refusal}
-use Rattle.fs_client.proofs.AskLaws.{is_mounted}
 use Rattle.inode_layout.specs.declared.inode.Inode as layout
-use Rattle.inode_layout.specs.Block.{inode_of, block_len_of, body_of}
-use Rattle.inode_layout.specs.Said.{is_directory, amount_said, blocks_said}
-use Rattle.inode_walks.specs.declared.finding.Found.{Found}
-use Rattle.inode_walks.specs.declared.finding.Lookup.{Lookup}
-use Rattle.inode_walks.specs.Asking.{tree_under, MayAsk, mounted_by}
-use Rattle.inode_walks.specs.Finding.{StandsAtPath, IsLookup, not_found, no_file_found}
-use Rattle.inode_walks.specs.Reading.{bytes_at, bytes_said}
 use Rattle.inode_walks.proofs.RefusalLaws.{refused_by, passes_by}
-use Rattle.inode_walks.proofs.FileLaws.{file_said, file_count, named_held, may_look, said_is_row, row_is_long, found_long, node_is, file_is, tree_there, stands_still}
+use Rattle.inode_changes.proofs.EndLaws.{ToEnter}
 use Rattle.inode_changes.proofs.MakeLaws as making
 use Rattle.inode_changes.proofs.MakeLaws.{dir_lost, dir_taken}
-use Rattle.inode_changes.specs.Directories.{IsVacant}
 use Rattle.inode_changes.proofs.SpotLaws.{said_in_order}
-use Rattle.inode_changes.specs.declared.content.Content.{Content}
-use Rattle.inode_changes.specs.Content.{shared_count, shared_of, new_bytes, new_count, all_count, FitsInode, IsFor}
 use Rattle.inode_changes.specs.Entering as entering
-use Rattle.inode_changes.specs.Entering.{Grounds, AreOfFiles}
-use Rattle.inode_changes.specs.NewFile.{bytes_of}
-use Rattle.inode_changes.specs.Copying.{Copies, IsCopied}
 use Rattle.inode_changes.proofs.NeedLaws.{copy_need}
 use Rattle.inode_changes.proofs.GrowLaws.{blocks_behind}
 use Rattle.inode_changes.proofs.GrownLaws.{append_none}
@@ -127,20 +91,22 @@ at_still c old new path file seen stays now x = record {
 }
 
 -- the file was found first, and then the place
-pub copies_now : (c : Client) (first mid v : DiskView) (path : Path) (file : Found) (new : Path) (lookup : Lookup) → is_there (tree_under c first) ≡ true → c.root < first.world.geometry.primaries → is_path new ≡ true
-    → Looked first mid → StandsAtPath c mid path file → ◌≡◌ {A = Option FsRefusal} (no_file_found (tree_under c first) path) None
-    → Looked mid v → Stays mid v → IsLookup c v new lookup → lookup.old ≡ None → ◌≡◌ {A = Option FsRefusal} (lookup_refusal (tree_under c mid) new no.Exists) None → Copies c v path file new lookup
-copies_now c first mid v path file new lookup there primary new_is seen found way seen_on stays place_is vacant new_way =
+pub copies_so : {told : Type 0} {c : Client} {first mid v : DiskView} {path : Path} {file : Found} {new : Path} {lookup : Lookup} → MayAsk told c first → (told → first.spent ≡ false → IsDiskSound first) → is_path new ≡ true
+    → OnlyLooks told first mid (Ok file) → (told → StandsAtPath c mid path file) → (told → ◌≡◌ {A = Option FsRefusal} (no_file_found (tree_under c first) path) None)
+    → OnlyLooks told mid v (Ok lookup) → (told → IsLookup c v new lookup) → (told → ◌≡◌ {A = Option FsRefusal} (lookup_refusal (tree_under c mid) new no.Exists) None) → lookup.old ≡ None → told → Copies c v path file new lookup
+copies_so {c = c} {first = first} {mid = mid} {v = v} {path = path} {file = file} {new = new} {lookup = lookup} may sound new_is one found way two place_is new_way vacant t =
+    let seen = (one.looked t).0 in
+    let seen_on = (two.looked t).0 in
     let same : v.world ≡ first.world = seen_on.world ∙ seen.world in
     record {
-      there = ap (λ w. is_there (inode_tree w c.root)) same ∙ there;
-      primary = subst (λ w. c.root < w.geometry.primaries) (sym same) primary;
-      found = at_still c mid v path file seen_on stays seen.valid found;
-      way = ap (λ w. no_file_found (inode_tree w c.root) path) same ∙ way;
+      there = ap (λ w. is_there (inode_tree w c.root)) same ∙ may.tree t;
+      primary = subst (λ w. c.root < w.geometry.primaries) (sym same) (subst (λ g. c.root < g.primaries) (sym (sound t may.ready.unspent).geometry) may.ready.primary);
+      found = at_still c mid v path file seen_on two.stays.0 seen.valid (found t);
+      way = ap (λ w. no_file_found (inode_tree w c.root) path) same ∙ way t;
       new_is = new_is;
-      new_place = place_is;
+      new_place = place_is t;
       vacant = vacant;
-      new_way = ap (λ w. lookup_refusal (inode_tree w c.root) new no.Exists) seen_on.world ∙ new_way;
+      new_way = ap (λ w. lookup_refusal (inode_tree w c.root) new no.Exists) seen_on.world ∙ new_way t;
     }
 
 -- ---- at the place of the copy
@@ -289,3 +255,18 @@ module _ (c : Client) (v : DiskView) (path : Path) (file : Found) (new : Path) (
   room_refuses room =
       roomy_asks c v path file new lookup x dir now room
       ∙ ap (λ n. first_of (no_room v.world.geometry (free_count v.world) (length v.world.pairs) n)) need_is
+
+-- after the make: the copy is to be entered
+pub to_enter : {told : Type 0} {c : Client} {v mk : DiskView} {path : Path} {file : Found} {new : Path} {lookup : Lookup} {content : Content} {i : ℕ} → is_directory (inode_of file.inode) ≡ false → is_directory (inode_of lookup.directory.inode) ≡ true
+    → (told → IsValidNow v) → (told → Copies c v path file new lookup) → IsCopied file.inode content → entering.DirectoryHasRoom lookup.directory.inode lookup.name.now
+    → (told → ◌≡◌ {A = Option FsRefusal} (no_room_in v.world (1 + new_count content) (1 + all_count content)) None) → (told → KeepsRoom (need (1 + new_count content) (1 + all_count content)) v.world mk.world)
+    → (told → IsMadeInode c.root v.world lookup.directory.block i (a_file (bytes_of v.world content)) mk.world) → Runs {X = ℕ} told v mk (IsAside c.root v.world) (Ok i) → ToEnter told c v mk (ask.Copy path new) new lookup i (a_file (bytes_of v.world content))
+to_enter {c = c} {v = v} {mk = mk} {path = path} {file = file} {new = new} {lookup = lookup} {content = content} no_dir dir now x k room none keeps made runs = record {
+  none = λ t. room_refuses c v path file new lookup (x t) no_dir dir (now t) content k room ∙ none t;
+  is_done = refl;
+  tree = λ t. changed c v path file new lookup (x t) no_dir dir (now t) content k;
+  grounds = λ t. grounds c v path file new lookup (x t) dir (now t) room;
+  made = made;
+  keeps = λ t. subst (λ n. KeepsRoom n v.world mk.world) (sym (need_is c v path file new lookup (x t) no_dir dir (now t) content k)) (keeps t);
+  runs = runs;
+}

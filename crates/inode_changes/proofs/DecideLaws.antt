@@ -1,51 +1,14 @@
 -- What was made is entered in its directory, in a new entry or in the place of an old one.
 use Rattle.std.proofs.Common.{◌≡◌, ℕ, suc, ◌+◌, ◌^◌, ◌<◌, ◌≤◌, Bool, true, false, not, cond, ◌&&◌, ◌||◌, ◌==◌, nat_lt, List, [], ◌∷◌, ◌++◌, length, refl, sym, ◌∙◌, ap, subst, arith, inl, inr, ◌⊎◌, Some, None}
-use Rattle.std.proofs.lemmas.Bool.{and_parts, and_from, or_cases, or_left, or_right, eq-eqb, eqb-true, not-true, false_from_ne_true}
-use Rattle.std.specs.Prelude.{is_some, map}
-use Rattle.std.specs.List.{list_all}
-use Rattle.std.specs.Option.{option_and_then}
-use Rattle.tsd_model.specs.Geometry.{block_len}
-use Rattle.tsd_model.specs.World.{World, contents, is_live, is_free, has_number, are_apart}
-use Rattle.tsd_model.specs.Pairs.{holds, is_pair}
-use Rattle.tsd_model.specs.Valid.{IsValid}
-use Rattle.tsd_model.specs.Step.{filled, written}
-use Rattle.disk_laws.proofs.ChangeLaws.{contents-same}
-use Rattle.fs_trees.specs.Names.{Name, Path, path_max, is_name}
-use Rattle.fs_trees.specs.Tree.{nothing, a_file, a_dir, entry, at, is_there, with_entry, with_child, with_at}
-use Rattle.fs_trees.specs.Fields.{Entry}
-use Rattle.fs_trees.specs.Inode.{Inode, directory, regular, entries_room, block_named, inode_in, inode_bytes, with_listed}
-use Rattle.fs_trees.specs.InodeTree.{InodeNode, InodeEntries, tree_of, inode_at, entries_by, node_by, as_dir, node_at, inode_blocks, data_blocks, named_pairs, inode_tree}
-use Rattle.fs_trees.specs.Layouts.{named_at, IsTidy}
-use Rattle.fs_trees.specs.Outside.{is_under, OthersStay}
+use Rattle.inode_changes.proofs.Common.{and_parts, and_from, or_cases, or_left, or_right, eq-eqb, eqb-true, not-true, false_from_ne_true, is_some, map, list_all, option_and_then, block_len, World, contents, is_live, is_free, has_number, are_apart, holds, is_pair, IsValid, filled, written, contents-same, Name, Path, path_max, is_name, nothing, a_file, a_dir, entry, at, is_there, with_entry, with_child, with_at, Entry, Inode, directory, regular, entries_room, block_named, inode_in, inode_bytes, with_listed, InodeNode, InodeEntries, tree_of, inode_at, entries_by, node_by, as_dir, node_at, inode_blocks, data_blocks, named_pairs, inode_tree, named_at, IsTidy, is_under, OthersStay, is_inside, Keeps, SameTree, read_from_named, outside_twice, number_left, number_right, in_append, node_blocks, node_same, HasRoot, found, under_is, inodes_under_root, read_named, entry_is_read, entry_is_put, node_away, with_last, block_at, nowhere, entry_blocks_in, times, times_none, apart_times, times-with_at, node_data, node_pairs, each_under, root_under, target_under, Client, write_by, unlink_by, Leads, dropped, clash_free_live, block_is, node_block, named_is_there, entry_pair, dir_node, fewer_pairs, fewer_live, other_pair, written_elsewhere, blocks_said, entries_said, node_of, new_pairs, Making}
 use Rattle.fs_trees.specs.declared.ask.ShellKind.TheVariants as kind
-use Rattle.fs_laws.specs.Outside.{is_inside}
-use Rattle.fs_laws.specs.Stays.{Keeps}
-use Rattle.fs_laws.specs.Reading.{SameTree}
-use Rattle.fs_laws.proofs.TreeLaws.{read_from_named}
-use Rattle.fs_laws.proofs.OutsideLaws.{outside_twice}
-use Rattle.fs_laws.proofs.ListLaws.{number_left, number_right, in_append}
-use Rattle.fs_laws.proofs.InodeLaws.{node_blocks, node_same, HasRoot, found, under_is, inodes_under_root}
-use Rattle.fs_laws.proofs.DirectoryLaws.{read_named, entry_is_read, entry_is_put, node_away, with_last, block_at, nowhere, entry_blocks_in}
-use Rattle.fs_laws.proofs.CountLaws.{times, times_none, apart_times, times-with_at}
-use Rattle.fs_laws.proofs.SumLaws.{node_data, node_pairs}
 use Rattle.fs_laws.proofs.EntryLaws.{FitsIn}
 use Rattle.fs_laws.proofs.EntryLaws as deciding
-use Rattle.fs_laws.proofs.UnderLaws.{each_under, root_under, target_under}
-use Rattle.fs_client.specs.declared.client.Client.{Client}
-use Rattle.fs_client.specs.Client.{write_by, unlink_by}
-use Rattle.fs_client.specs.Steps.{Leads, dropped}
-use Rattle.fs_client.proofs.RunLaws.{clash_free_live}
-use Rattle.inode_walks.proofs.WalkLaws.{block_is, node_block, named_is_there, entry_pair, dir_node}
-use Rattle.fs_client.proofs.DropLaws.{fewer_pairs, fewer_live, other_pair}
-use Rattle.fs_client.proofs.WriteLaws.{written_elsewhere}
 use Rattle.inode_changes.proofs.ExchangeLaws.{Exchange, block_is_at, dir_stays_with, spared, still_named, named_before, named_target, all_off, some_times}
 use Rattle.inode_changes.proofs.TidyLaws.{named_of, named_under, tidy_by_pairs}
 use Rattle.inode_changes.proofs.ListingLaws.{ascending_with, named_with, small_with}
 use Rattle.inode_changes.proofs.SpotLaws.{Spot, live, within, order, small, small_block, reads_as, child_held}
 use Rattle.inode_changes.proofs.RemovalLaws.{there_with, own_pair, own_inode}
-use Rattle.inode_layout.specs.Said.{blocks_said, entries_said}
-use Rattle.inode_changes.specs.Entering.{node_of}
-use Rattle.inode_changes.specs.Making.{new_pairs, Making}
 use Rattle.inode_changes.proofs.MakingLaws.{fan_has, tree_same, new_unnamed, primary_now, dir_now}
 
 clash : (t : Bool) → t ≡ true → t ≡ false → ⊥

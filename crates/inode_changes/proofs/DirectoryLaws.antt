@@ -1,24 +1,6 @@
 -- The inode of a new directory is written, which no directory names yet.
-use Rattle.std.proofs.Common.{◌≡◌, ℕ, ◌-◌, ◌≤◌, true, ◌==◌, [], ◌∷◌, length, refl, sym, ◌∙◌, ap, subst, arith, ◌⊎◌, Some}
-use Rattle.std.proofs.lemmas.Bool.{or_left, eq-eqb}
-use Rattle.std.specs.Prelude.{replicate}
-use Rattle.std.specs.Option.{option_and_then}
-use Rattle.tsd_model.specs.Geometry.{block_len}
-use Rattle.tsd_model.specs.World.{World, has_number}
-use Rattle.tsd_model.specs.Valid.{IsValid}
-use Rattle.fs_trees.specs.Step.{empty_tree}
-use Rattle.fs_trees.specs.Inode.{directory, inode_in, inode_bytes}
-use Rattle.fs_trees.specs.InodeTree.{inode_at}
-use Rattle.fs_port.specs.View.{DiskView}
-use Rattle.fs_client.specs.declared.client.Client.{Client}
-use Rattle.fs_client.specs.Client.{write_by}
-use Rattle.tsd_model.specs.Step.{written}
-use Rattle.fs_client.specs.Steps.{Leads, Went}
-use Rattle.fs_client.proofs.WriteLaws.{block_long, written_here}
-use Rattle.inode_layout.proofs.BackLaws.{reads_back}
-use Rattle.inode_changes.specs.Beginning.{HasNewInode}
-use Rattle.inode_changes.specs.Filling.{Stage, IsAside}
-use Rattle.inode_changes.specs.Entering.{IsMadeInode}
+use Rattle.std.proofs.Common.{◌≡◌, ℕ, ◌-◌, ◌≤◌, true, ◌==◌, [], ◌∷◌, length, refl, sym, ◌∙◌, ap, subst, arith, ◌⊎◌, Some, Result, Ok}
+use Rattle.inode_changes.proofs.Common.{or_left, eq-eqb, replicate, option_and_then, block_len, World, has_number, IsValid, empty_tree, directory, inode_in, inode_bytes, inode_at, FsRefusal, DiskView, Runs, Client, write_by, written, Steps, Leads, Went, runs_step, then_runs, block_long, written_here, reads_back, HasNewInode, Stage, IsAside, IsMadeInode}
 use Rattle.inode_changes.proofs.FillLaws.{made_by_one, stop_at_one}
 
 module _ (c : Client) (old mid : DiskView) (d i : ℕ) (at : Stage c.root old.world d) (b : HasNewInode c old mid d i) where
@@ -28,7 +10,7 @@ module _ (c : Client) (old mid : DiskView) (d i : ℕ) (at : Stage c.root old.wo
   pub empty_fits : IsValid mid.world → length (inode_bytes (directory [])) ≤ block_len mid.world.geometry
   empty_fits valid = let room = block_long mid.world valid in omega (arith, room)
 
-  pub stop_at_inode : (w : World) → (w ≡ mid.world) ⊎ ((w ≡ written mid.world i (inode_bytes (directory []))) × Leads mid.world (write_by c i (inode_bytes (directory []))) (written mid.world i (inode_bytes (directory [])))) → IsAside c.root old.world w
+  stop_at_inode : (w : World) → (w ≡ mid.world) ⊎ ((w ≡ written mid.world i (inode_bytes (directory []))) × Leads mid.world (write_by c i (inode_bytes (directory []))) (written mid.world i (inode_bytes (directory [])))) → IsAside c.root old.world w
   stop_at_inode w h = stop_at_one c (i ∷ []) i among mid.world (inode_bytes (directory [])) w h old.world d i [] [] at b.making (λ k m. m)
 
   says : inode_at (written mid.world i (inode_bytes (directory []))) i ≡ Some (directory [])
@@ -49,3 +31,9 @@ module _ (c : Client) (old mid : DiskView) (d i : ℕ) (at : Stage c.root old.wo
     is = refl;
     of_files = λ k h. absurd (cc);
   })
+
+-- after the inode was written, or where that stopped
+pub inode_runs : {told : Type 0} {c : Client} {old mid new : DiskView} {d i : ℕ} {result : Result (Unit {0}) FsRefusal} → (told → Stage c.root old.world d) → (told → HasNewInode c old mid d i) → Runs {X = ℕ} told old mid (IsAside c.root old.world) (Ok i)
+    → Steps told c mid new (write_by c i (inode_bytes (directory []))) i (written mid.world i (inode_bytes (directory []))) result → Runs told old new (IsAside c.root old.world) result
+inode_runs {told = told} {c = c} {old = old} {mid = mid} {new = new} {d = d} {i = i} {result = result} at began runs wrote = then_runs told old mid new (IsAside c.root old.world) i result runs
+    (runs_step told c mid new (write_by c i (inode_bytes (directory []))) i (written mid.world i (inode_bytes (directory []))) (IsAside c.root old.world) result (λ t. (runs.valid t).0) (λ t. stop_at_inode c old mid d i (at t) (began t)) wrote)

@@ -1,30 +1,11 @@
 -- What was made is entered, from the deciding write to the last request.
 -- The laws of the write and of the pointer that is dropped stand in DecideLaws. Here they are put together for the lookup of a path.
-use Rattle.std.proofs.Common.{◌≡◌, ℕ, ◌≤◌, true, List, [], ◌∷◌, ◌++◌, length, sym, ◌∙◌, ap, subst, arith, inl, inr, ◌⊎◌, Option, Some, None}
-use Rattle.tsd_model.specs.Geometry.{block_len}
-use Rattle.tsd_model.specs.World.{World, has_number}
-use Rattle.tsd_model.specs.Pairs.{holds}
-use Rattle.fs_trees.specs.Names.{Name, Path}
-use Rattle.fs_trees.specs.Tree.{Tree, with_at}
-use Rattle.fs_trees.specs.Fields.{Entry}
-use Rattle.fs_trees.specs.Inode.{directory, block_named, with_listed, inode_bytes}
-use Rattle.fs_trees.specs.InodeTree.{data_blocks, inode_tree}
-use Rattle.fs_trees.specs.Outside.{OthersStay}
-use Rattle.fs_trees.specs.Refusals.{directory_of}
-use Rattle.fs_trees.specs.Outside.{is_under}
-use Rattle.fs_client.specs.declared.client.Client.{Client}
-use Rattle.fs_client.specs.Client.{write_by, unlink_by}
-use Rattle.tsd_model.specs.Step.{written}
-use Rattle.fs_client.specs.Steps.{Leads, dropped}
-use Rattle.inode_layout.specs.Block.{inode_of}
-use Rattle.inode_layout.specs.Said.{entries_said}
-use Rattle.inode_walks.specs.declared.finding.Lookup.{Lookup}
-use Rattle.fs_client.proofs.WriteLaws.{block_long}
+use Rattle.std.proofs.Common.{◌≡◌, ℕ, ◌≤◌, true, List, [], ◌∷◌, ◌++◌, length, sym, ◌∙◌, ap, subst, arith, inl, inr, ◌⊎◌, Option, Some, None, Result, Ok}
+use Rattle.inode_changes.proofs.Common.{block_len, World, has_number, holds, Name, Path, Tree, with_at, Entry, directory, block_named, with_listed, inode_bytes, data_blocks, inode_tree, OthersStay, directory_of, is_under, FsRefusal, DiskView, IsValidNow, Runs, Client, write_by, unlink_by, written, Steps, Leads, dropped, runs_step, then_runs, inode_of, entries_said, Lookup, block_long, Grounds, IsMadeInode, MayEnter, HasMade, HasEither, Enters, EntersOrNot}
 use Rattle.inode_changes.proofs.SpotLaws.{order}
 use Rattle.inode_changes.proofs.ListingLaws.{named_with}
 use Rattle.inode_changes.proofs.RemoveLaws.{directory_length}
 use Rattle.inode_changes.proofs.MakingLaws.{tree_same}
-use Rattle.inode_changes.specs.Entering.{Grounds, IsMadeInode, MayEnter, HasMade, HasEither, Enters, EntersOrNot}
 use Rattle.inode_changes.proofs.EntryLaws.{spot, name_is, deep, fits, of_files}
 use Rattle.inode_changes.proofs.DecideLaws as deciding
 
@@ -176,3 +157,25 @@ module _ (c : Client) (lookup : Lookup) (i : ℕ) (w : World) where
 
       pub enters_old : (v : World) → v ≡ dropped mid lookup.directory.block b → Leads mid (unlink_by c lookup.directory.block b) (dropped mid lookup.directory.block b) → Enters c.root lookup i w v
       enters_old v e gone first path made g m = subst (HasMade c.root first path made) (sym (e ∙ to_last)) (old_made c first path lookup i made g w m leads b some (on_next gone))
+
+-- ---- the call, stage by stage
+
+-- the directory's bytes with the entry
+abbrev pub listing : Lookup → ℕ → List ℕ
+listing lookup i = inode_bytes (directory (with_listed (record { name = lookup.name.now; block = i }) (entries_said (inode_of lookup.directory.inode))))
+
+module _ {told : Type 0} {c : Client} {old mid : DiskView} (lookup : Lookup) (i : ℕ) (now : told → IsValidNow old) where
+  -- after the write: it decides
+  pub wrote_runs : {result : Result (Unit {0}) FsRefusal} → Steps told c old mid (write_by c lookup.directory.block (listing lookup i)) lookup.directory.block (written old.world lookup.directory.block (listing lookup i)) result → Runs told old mid (EntersOrNot c.root lookup i old.world) result
+  wrote_runs {result = result} wrote =
+      let d = lookup.directory.block in
+      runs_step told c old mid (write_by c d (listing lookup i)) d (written old.world d (listing lookup i)) (EntersOrNot c.root lookup i old.world) result now (λ t. stop_at_write c lookup i old.world) wrote
+
+  -- after the pointer was dropped
+  module _ (wrote : Steps {X = Unit {0}} told c old mid (write_by c lookup.directory.block (listing lookup i)) lookup.directory.block (written old.world lookup.directory.block (listing lookup i)) (Ok tt)) {b : ℕ} (some : lookup.old ≡ Some b) where
+    pub dropped_runs : {fin : DiskView} {result : Result ℕ FsRefusal} → Steps told c mid fin (unlink_by c lookup.directory.block b) lookup.directory.block (dropped mid.world lookup.directory.block b) result → Runs told old fin (EntersOrNot c.root lookup i old.world) result
+    dropped_runs {fin = fin} {result = result} gone =
+        let d = lookup.directory.block in
+        let P = EntersOrNot c.root lookup i old.world in
+        then_runs told old mid fin P tt result (wrote_runs wrote)
+        (runs_step told c mid fin (unlink_by c d b) d (dropped mid.world d b) P result (λ t. (wrote.went t).valid) (λ t. stop_at_drop c lookup i old.world mid.world (wrote.went t).world (wrote.went t).leads b some) gone)

@@ -1,33 +1,10 @@
 -- The lookup of a path, as laws on deciding writes take it.
 use Rattle.std.proofs.Common.{◌≡◌, ℕ, zero, suc, ◌+◌, ◌<◌, ◌≤◌, true, false, nat_le, List, [], ◌∷◌, ◌++◌, length, refl, sym, ◌∙◌, ap, subst, arith, Option, Some, None, cond, length-append}
-use Rattle.std.proofs.lemmas.Bool.{and_parts}
-use Rattle.std.proofs.lemmas.Bool.Decides.{nat_tests}
-use Rattle.std.specs.List.{list_all}
-use Rattle.tsd_model.specs.Geometry.{block_len}
-use Rattle.tsd_model.specs.World.{World, has_number}
-use Rattle.fs_trees.specs.Names.{Name, Path, path_max, name_lt, is_name}
-use Rattle.fs_trees.specs.Tree.{none, file, dir, nothing, a_file, a_dir, entry, at}
-use Rattle.fs_trees.specs.Fields.{Entry}
-use Rattle.fs_trees.specs.Inode.{directory, entries_room, block_named, with_listed}
-use Rattle.fs_trees.specs.InodeTree.{FileInode, InodeNode, InodeEntries, inode_at, inodes_under, inode_blocks, data_blocks}
-use Rattle.fs_trees.specs.Refusals.{directory_of}
-use Rattle.fs_laws.proofs.ListLaws.{number_left, number_right}
-use Rattle.fs_laws.proofs.InodeLaws.{found, under_is}
-use Rattle.fs_laws.proofs.DirectoryLaws.{block_at}
-use Rattle.fs_port.specs.View.{DiskView}
-use Rattle.fs_client.specs.declared.client.Client.{Client}
+use Rattle.inode_changes.proofs.Common.{and_parts, nat_tests, list_all, block_len, World, has_number, Name, Path, path_max, name_lt, is_name, none, file, dir, nothing, a_file, a_dir, entry, at, Entry, directory, entries_room, block_named, with_listed, FileInode, InodeNode, InodeEntries, inode_at, inodes_under, inode_blocks, data_blocks, directory_of, number_left, number_right, found, under_is, block_at, DiskView, Client, inode_of, block_len_of, is_directory, entries_said, Lookup, IsLookup, dir_node, dir_said, Stage, IsEntryRead, DirectoryHasRoom, Grounds, IsOfFile}
 use Rattle.inode_layout.specs.declared.inode.Inode as layout
-use Rattle.inode_layout.specs.Block.{inode_of, block_len_of}
-use Rattle.inode_layout.specs.Said.{is_directory, entries_said}
-use Rattle.inode_walks.specs.declared.finding.Lookup.{Lookup}
-use Rattle.inode_walks.specs.Finding.{IsLookup}
-use Rattle.inode_walks.proofs.WalkLaws.{dir_node}
-use Rattle.inode_walks.proofs.FoundLaws.{dir_said}
 use Rattle.inode_changes.proofs.SpotLaws.{Spot, deeper_is, dir_fits}
 use Rattle.inode_changes.proofs.TidyLaws.{named_of, named_under}
-use Rattle.inode_changes.specs.Filling.{Stage}
 use Rattle.inode_changes.proofs.ListingLaws.{length_with}
-use Rattle.inode_changes.specs.Entering.{IsEntryRead, DirectoryHasRoom, Grounds, IsOfFile}
 
 -- ---- as it was found
 

@@ -1,40 +1,9 @@
 -- A file whose blocks were written: its inode is written, and it is read back.
-use Rattle.std.proofs.Common.{◌≡◌, ℕ, zero, suc, ◌+◌, ◌-◌, ◌*◌, ◌^◌, ◌<◌, ◌≤◌, Bool, true, false, not, ◌==◌, nat_lt, List, [], ◌∷◌, ◌++◌, length, refl, sym, ◌∙◌, ap, subst, arith, inl, inr, ◌⊎◌, length-append, Option, Some, None}
-use Rattle.std.proofs.lemmas.Bool.{and_parts, and_from, or_cases, or_left, or_right, eq-eqb, not-true, false_from_ne_true, cases_lt}
-use Rattle.std.proofs.lemmas.Bool.Decides.{nat_tests}
-use Rattle.std.proofs.lemmas.List.{length-take, length-drop, take_all, take-append-drop, take-append-le, append_assoc}
-use Rattle.std.proofs.lemmas.Grind.{div_ceil_times, flat_map-append}
-use Rattle.std.proofs.Math.Nat.{mul-le-mul_right}
-use Rattle.std.proofs.Math.Seq.{take-append_seam}
-use Rattle.std.specs.Prelude.{take, drop, flat_map, replicate, unwrap_or, is_some, IfSome}
-use Rattle.std.specs.Int.{div_ceil}
-use Rattle.std.specs.Option.{option_and_then}
-use Rattle.byteorder.specs.Endian.{little_bytes}
-use Rattle.tsd_model.specs.Geometry.{block_len}
-use Rattle.tsd_model.specs.World.{World, contents, is_live, has_number, are_apart}
-use Rattle.tsd_model.specs.Valid.{IsValid}
-use Rattle.tsd_model.specs.Step.{filled, written}
-use Rattle.disk_laws.proofs.ChangeLaws.{contents-other, live-with_contents}
-use Rattle.disk_laws.proofs.DoomLaws.{live_below}
-use Rattle.fs_trees.specs.Inode.{regular, data_room, inode_in, inode_bytes}
-use Rattle.fs_trees.specs.InodeTree.{inode_at, file_bytes}
-use Rattle.fs_laws.proofs.ListLaws.{flat_map_same, in_append}
-use Rattle.fs_port.specs.View.{DiskView}
-use Rattle.fs_port.specs.Calls.{IsValidNow, Stays}
-use Rattle.fs_client.specs.declared.client.Client.{Client}
-use Rattle.fs_client.specs.Client.{write_by}
-use Rattle.fs_client.specs.May.{MayWrite}
-use Rattle.fs_client.specs.Steps.{Leads, Went}
-use Rattle.fs_client.proofs.RunLaws.{clash_free_live}
-use Rattle.fs_client.proofs.WriteLaws.{written_here}
-use Rattle.fs_client.proofs.MayLaws.{may_after}
-use Rattle.inode_walks.specs.Reading.{bytes_at}
-use Rattle.inode_layout.specs.Said.{are_small}
-use Rattle.inode_layout.proofs.BackLaws.{reads_back}
-use Rattle.inode_changes.specs.Making.{Making}
-use Rattle.inode_changes.specs.Content.{RootReaches}
-use Rattle.inode_changes.specs.Filling.{Stage, HoldBytes, AsideWith, Wrote, AsideOf, Took, Shared, joined, IsFilledFile, Filled}
+use Rattle.std.proofs.Common.{◌≡◌, ℕ, zero, suc, ◌+◌, ◌-◌, ◌*◌, ◌^◌, ◌<◌, ◌≤◌, Bool, true, false, not, ◌==◌, nat_lt, List, [], ◌∷◌, ◌++◌, length, refl, sym, ◌∙◌, ap, subst, arith, inl, inr, ◌⊎◌, length-append, Option, Some, None, Result, Ok}
+use Rattle.inode_changes.proofs.Common.{and_parts, and_from, or_cases, or_left, or_right, eq-eqb, not-true, false_from_ne_true, cases_lt, nat_tests, length-take, length-drop, take_all, take-append-drop, take-append-le, append_assoc, div_ceil_times, flat_map-append, mul-le-mul_right, take-append_seam, take, drop, flat_map, replicate, unwrap_or, is_some, is_none, count_by, IfSome, div_ceil, option_and_then, little_bytes, block_len, World, contents, is_live, free_count, has_number, are_apart, IsValid, filled, written, contents-other, live-with_contents, live_below, regular, data_room, inode_in, inode_bytes, inode_at, file_bytes, flat_map_same, in_append, DiskView, FsRefusal, IsValidNow, Stays, Runs, Client, write_by, MayWrite, refusal_before, Steps, Leads, Went, no_room_in, clash_free_live, runs_more, runs_step, then_runs, written_here, may_after, bytes_at, are_small, reads_back, Making, Content, RootReaches, shared_of, shared_count, new_bytes, new_count, all_count, FitsInode, IsFor, Stage, HoldBytes, AsideWith, Wrote, AsideOf, AsideTaking, Took, Shared, joined, IsFilledFile, Filled}
 use Rattle.inode_changes.proofs.FillLaws.{made_by_one, stop_at_one}
+use Rattle.inode_changes.proofs.RoomLaws.{refused_then, room_then}
+use Rattle.inode_changes.proofs.PartLaws.{shares_many, small_size}
 
 clash : (t : Bool) → t ≡ true → t ≡ false → ⊥
 clash t p q = cc
@@ -157,9 +126,6 @@ module _ (c : Client) (old vs v1 v2 : DiskView) (i n : ℕ) (shared bytes blocks
   pub stop_at_inode : (y : List ℕ) (v : World) → (v ≡ v2.world) ⊎ ((v ≡ written v2.world i y) × Leads v2.world (write_by c i y) (written v2.world i y)) → AsideOf c.root i shared old.world v
   stop_at_inode y v h first d at m reached = stop_at_one c (i ∷ []) i among_inode v2.world y v h first d i shared blocks at (made_two first d at m reached) inode_only
 
-  pub stop_at_blocks : (v : World) → AsideWith c.root blocks v1.world v → AsideOf c.root i shared old.world v
-  stop_at_blocks v h first d at m reached = h first d i shared blocks at (made_one first d at m reached) (λ b j. or_right (i == b) _ j)
-
   module _ (v3 : DiskView) (size : ℕ) (now : IsValidNow v2) (may : MayWrite c v2 i) (went : Went c v2 v3 (write_by c i (inode_bytes (regular size (shared ++ blocks)))) i (written v2.world i (inode_bytes (regular size (shared ++ blocks))))) (stays : Stays v2 v3)
       (enough : length (shared ++ blocks) ≡ div_ceil size (block_len old.world.geometry)) (room : length (shared ++ blocks) ≤ data_room (block_len old.world.geometry)) (few : size < 2 ^ 32)
       (most : size ≤ block_len old.world.geometry * length shared + length bytes) (apart : are_apart shared ≡ true) where
@@ -258,3 +224,96 @@ least_block w valid = big w.geometry.sectors valid.raw.sized.lawful.sectors
   where
     big : (k : ℕ) → (k ≡ 1) ⊎ (k ≡ 2) ⊎ (k ≡ 4) ⊎ (k ≡ 8) → 512 ≤ 512 * k
     big k h = elim h [ inl one ↦ omega (arith, one) | inr more ↦ elim more [ inl two ↦ omega (arith, two) | inr most ↦ elim most [ inl four ↦ omega (arith, four) | inr eight ↦ omega (arith, eight) ] ] ]
+
+-- ---- the call, stage by stage
+
+-- after the sharing: the room for the new blocks is that of the time before it
+module _ {c : Client} {old vs : DiskView} {i : ℕ} (content : Content) (sh : Shared c old vs i (shared_of content)) (free : new_count content ≤ free_count old.world) where
+  pairs_more : length vs.world.pairs ≡ length old.world.pairs + shared_count content
+  pairs_more = sh.pairs ∙ ap (λ k. length old.world.pairs + k) (shares_many content)
+
+  pub full_taken : (e : FsRefusal) → no_room_in vs.world (new_count content) (new_count content) ≡ Some e → no_room_in old.world (new_count content) (all_count content) ≡ Some (refusal_before e (shared_count content))
+  full_taken e full = refused_then old.world vs.world (new_count content) (shared_count content) sh.geometry (ap (count_by is_none) sh.same) pairs_more free e full
+
+  pub room_taken : ◌≡◌ {A = Option FsRefusal} (no_room_in vs.world (new_count content) (new_count content)) None → ◌≡◌ {A = Option FsRefusal} (no_room_in old.world (new_count content) (all_count content)) None
+  room_taken room = room_then old.world vs.world (new_count content) (shared_count content) sh.geometry (ap (count_by is_none) sh.same) pairs_more free room
+
+-- after the new blocks were taken, or where that stopped
+pub taken_runs : {X : Type 0} {told : Type 0} {c : Client} {old vs v1 : DiskView} {i : ℕ} {shared : List ℕ} {result : Result X FsRefusal} → (told → Shared c old vs i shared) → Runs {X = Unit {0}} told old vs (AsideOf c.root i shared old.world) (Ok tt)
+    → Runs told vs v1 (AsideTaking c.root i vs.world) result → Runs told old v1 (AsideOf c.root i shared old.world) result
+taken_runs {told = told} {c = c} {old = old} {vs = vs} {v1 = v1} {i = i} {shared = shared} {result = result} sh shares takes =
+    let P = AsideOf c.root i shared old.world in
+    then_runs told old vs v1 P tt result shares
+    (runs_more told vs v1 (AsideTaking c.root i vs.world) P result (λ t w k first d at m reached. k first d shared at ((sh t).making first d at m reached)) takes)
+
+-- after the bytes were written to them, or where that stopped
+pub written_runs : {X Y : Type 0} {told : Type 0} {c : Client} {old vs v1 v2 : DiskView} {i n : ℕ} {shared blocks : List ℕ} {y : Y} {result : Result X FsRefusal} → (told → Shared c old vs i shared) → (told → Took c vs v1 i n blocks)
+    → Runs told old v1 (AsideOf c.root i shared old.world) (Ok y) → Runs told v1 v2 (AsideWith c.root blocks v1.world) result → Runs told old v2 (AsideOf c.root i shared old.world) result
+written_runs {told = told} {c = c} {old = old} {vs = vs} {v1 = v1} {v2 = v2} {i = i} {shared = shared} {blocks = blocks} {y = y} {result = result} sh took taken writes =
+    let P = AsideOf c.root i shared old.world in
+    then_runs told old v1 v2 P y result taken
+    (runs_more told v1 v2 (AsideWith c.root blocks v1.world) P result
+    (λ t w k first d at m reached. k first d i shared blocks at ((took t).making first d shared at ((sh t).making first d at m reached)) (λ b j. or_right (i == b) _ j)) writes)
+
+-- the inode shares what it is to, its new blocks hold the bytes, and it is to be written
+pub record HasParts (told : Type 0) (c : Client) (old vs v1 v2 : DiskView) (i n : ℕ) (content : Content) (blocks : List ℕ) : Type 0 where
+  pub room : FitsInode content
+  pub suits : told → IsFor c old content
+  pub shared : told → Shared c old vs i (shared_of content)
+  pub took : told → Took c vs v1 i n blocks
+  pub wrote : told → Wrote c v1 v2 blocks (new_bytes content)
+  pub each : length blocks ≡ new_count content
+  pub may : told → MayWrite c v2 i
+  pub runs : Runs {X = Unit {0}} told old v2 (AsideOf c.root i (shared_of content) old.world) (Ok tt)
+
+pub parts_so : {Y : Type 0} {told : Type 0} {c : Client} {old vs v1 v2 : DiskView} {i n : ℕ} {content : Content} {blocks : List ℕ} {y : Y} → FitsInode content → (told → IsFor c old content) → (told → MayWrite c old i)
+    → (told → Shared c old vs i (shared_of content)) → (told → Took c vs v1 i n blocks) → length blocks ≡ new_count content → (told → Wrote c v1 v2 blocks (new_bytes content))
+    → Runs told old v1 (AsideOf c.root i (shared_of content) old.world) (Ok y) → Runs {X = Unit {0}} told v1 v2 (AsideWith c.root blocks v1.world) (Ok tt) → HasParts told c old vs v1 v2 i n content blocks
+parts_so {i = i} room suits may shared took each wrote taken writes = record {
+  room = room;
+  suits = suits;
+  shared = shared;
+  took = took;
+  wrote = wrote;
+  each = each;
+  may = λ t. (wrote t).may i ((took t).may i ((shared t).may i (may t)));
+  runs = written_runs shared took taken writes;
+}
+
+module _ {told : Type 0} {c : Client} {old vs v1 v2 : DiskView} {i n : ℕ} {content : Content} {blocks : List ℕ} (x : HasParts told c old vs v1 v2 i n content blocks) where
+  abbrev all : List ℕ
+  all = shared_of content ++ blocks
+
+  abbrev head : List ℕ
+  head = inode_bytes (regular content.size (shared_of content ++ blocks))
+
+  now : told → IsValidNow v2
+  now t = (x.runs.valid t).0
+
+  count : length all ≡ all_count content
+  count = length-append (shared_of content) blocks ∙ (ap (λ k. k + length blocks) (shares_many content) ∙ ap (λ k. shared_count content + k) x.each)
+
+  enough_room : told → length all ≤ data_room (block_len old.world.geometry)
+  enough_room t = subst (λ k. length all ≤ data_room k) (x.suits t).len (subst (λ k. k ≤ data_room content.block_len) (sym count) x.room.room)
+
+  pub head_fits : told → length (inode_bytes (regular content.size (shared_of content ++ blocks))) ≤ block_len v2.world.geometry
+  head_fits t =
+      let same : v2.world.geometry ≡ old.world.geometry = (x.wrote t).here.geometry ∙ ((x.took t).geometry ∙ (x.shared t).geometry) in
+      inode_fits v2.world content.size all (now t).valid (subst (λ g. length all ≤ data_room (block_len g)) (sym same) (enough_room t))
+
+  -- after the inode was written, or where that stopped
+  pub inode_runs : {v3 : DiskView} {result : Result (Unit {0}) FsRefusal} → Steps told c v2 v3 (write_by c i (inode_bytes (regular content.size (shared_of content ++ blocks)))) i (written v2.world i (inode_bytes (regular content.size (shared_of content ++ blocks)))) result
+      → Runs told old v3 (AsideOf c.root i (shared_of content) old.world) result
+  inode_runs {v3 = v3} {result = result} steps =
+      let P = AsideOf c.root i (shared_of content) old.world in
+      then_runs told old v2 v3 P tt result x.runs
+      (runs_step told c v2 v3 (write_by c i head) i (written v2.world i head) P result now (λ t. stop_at_inode c old vs v1 v2 i n (shared_of content) (new_bytes content) blocks (x.shared t) (x.took t) (x.wrote t) head) steps)
+
+  pub has_file : {v3 : DiskView} → Steps {X = Unit {0}} told c v2 v3 (write_by c i (inode_bytes (regular content.size (shared_of content ++ blocks)))) i (written v2.world i (inode_bytes (regular content.size (shared_of content ++ blocks)))) (Ok tt)
+      → told → Filled c old v3 i content.size (shared_of content) (new_bytes content)
+  has_file {v3 = v3} steps t =
+      let suits = x.suits t in
+      filled_so c old vs v1 v2 i n (shared_of content) (new_bytes content) blocks (x.shared t) (x.took t) (x.wrote t) v3 content.size (now t) (x.may t) (steps.went t) steps.stays.0
+      (count ∙ (suits.count ∙ ap (div_ceil content.size) suits.len)) (enough_room t) (small_size content content.size x.room suits.size)
+      (subst (λ k. content.size ≤ k * length (shared_of content) + length (new_bytes content)) suits.len (subst (λ k. content.size ≤ content.block_len * k + length (new_bytes content)) (sym (shares_many content)) suits.size))
+      suits.apart

@@ -1,32 +1,7 @@
 -- The functions that make a file, a request at a time.
 use Rattle.std.proofs.Common.{◌≡◌, ℕ, zero, suc, ◌+◌, ◌-◌, ◌*◌, arith, ◌<◌, ◌≤◌, Bool, true, false, not, ◌||◌, ◌==◌, List, [], ◌∷◌, length, refl, sym, ◌∙◌, ap, subst, inl, inr, ◌⊎◌, Some, Result, Ok}
-use Rattle.std.proofs.lemmas.Bool.{and_parts, or_left, or_right, eq-eqb, not-true}
-use Rattle.std.specs.Prelude.{take, drop, slice_index_or}
-use Rattle.std.proofs.lemmas.List.{length-drop}
-use Rattle.tsd_model.specs.Geometry.{block_len}
-use Rattle.tsd_model.specs.World.{World, contents, is_live, has_number, are_apart}
-use Rattle.tsd_model.specs.Pairs.{holds}
-use Rattle.tsd_model.specs.Placing.{chosen}
-use Rattle.tsd_model.specs.Step.{filled, written}
-use Rattle.tsd_model.specs.declared.requests.Hint.TheVariants.{At}
-use Rattle.disk_laws.proofs.ChangeLaws.{contents-other, live-with_contents, free_may}
-use Rattle.disk_laws.proofs.StayLaws.{live-new_blocks, holds-new_blocks}
-use Rattle.fs_trees.specs.declared.refusal.FsRefusal.{FsRefusal}
+use Rattle.inode_changes.proofs.Common.{and_parts, or_left, or_right, eq-eqb, not-true, take, drop, slice_index_or, length-drop, block_len, World, contents, is_live, has_number, are_apart, holds, chosen, filled, written, At, contents-other, live-with_contents, free_may, live-new_blocks, holds-new_blocks, FsRefusal, DiskView, IsDiskSound, state_of, IsValidNow, Stays, Client, shown_at, write_by, alloc_by, MayWrite, no_look, Leads, Went, Steps, taken, Runs, runs_look, runs_step, then_runs, chosen_apart, chosen_free, lives_new, holds_new, version_new, records_new, may_after, written_here, Making, Stage, IsAside, HoldBytes, AsideWith, MadeWith, WroteIn, Wrote, AsideTaking, Took}
 use Rattle.fs_laws.proofs.WayLaws.{ways_lead_on}
-use Rattle.fs_port.specs.View.{DiskView, IsDiskSound, state_of}
-use Rattle.fs_port.specs.Calls.{IsValidNow, Stays}
-use Rattle.fs_client.specs.declared.client.Client.{Client}
-use Rattle.fs_client.specs.Client.{shown_at, write_by, alloc_by}
-use Rattle.fs_client.specs.May.{MayWrite}
-use Rattle.fs_client.proofs.LookLaws.{no_look}
-use Rattle.fs_client.specs.Steps.{Leads, Went, Steps, taken}
-use Rattle.fs_port.specs.Runs.{Runs}
-use Rattle.fs_client.proofs.RunLaws.{runs_look, runs_step, then_runs}
-use Rattle.fs_client.proofs.NewLaws.{chosen_apart, chosen_free, lives_new, holds_new, version_new, records_new}
-use Rattle.fs_client.proofs.MayLaws.{may_after}
-use Rattle.fs_client.proofs.WriteLaws.{written_here}
-use Rattle.inode_changes.specs.Making.{Making}
-use Rattle.inode_changes.specs.Filling.{Stage, IsAside, HoldBytes, AsideWith, MadeWith, WroteIn, Wrote, AsideTaking, Took}
 use Rattle.inode_changes.proofs.MakingLaws.{fan_has, tree_same, making_written, making_taken}
 
 clash : (t : Bool) → t ≡ true → t ≡ false → ⊥

@@ -1,51 +1,16 @@
 -- A file that bytes are added to, as it was read: what refuses that, and what the new file is made of.
-use Rattle.std.proofs.Common.{◌≡◌, ℕ, ◌+◌, ◌-◌, ◌*◌, ◌/◌, ◌%◌, ◌<◌, ◌≤◌, true, false, nat_lt, List, [], ◌∷◌, ◌++◌, length, refl, sym, ◌∙◌, ap, subst, arith, Option, Some, None, length-append}
-use Rattle.std.proofs.lemmas.Bool.Decides.{nat_tests}
-use Rattle.std.proofs.lemmas.List.{length-take-le, length-drop}
-use Rattle.std.proofs.lemmas.Grind.{div_ceil_times}
-use Rattle.std.proofs.Math.Nat.{div-add-mod, mod-lt, mul-div_cancel_left, mul-le-mul_right}
-use Rattle.std.specs.Prelude.{take, flat_map}
-use Rattle.std.specs.Int.{div_ceil}
-use Rattle.tsd_model.specs.Geometry.{block_len}
-use Rattle.tsd_model.specs.World.{World, free_count, has_number, are_apart}
-use Rattle.fs_trees.specs.Names.{Path}
-use Rattle.fs_trees.specs.Tree.{at, is_there, is_file, is_dir, bytes_in}
-use Rattle.fs_trees.specs.Fields.{numbers}
+use Rattle.std.proofs.Common.{◌≡◌, ℕ, ◌+◌, ◌-◌, ◌*◌, ◌/◌, ◌%◌, ◌<◌, ◌≤◌, true, false, nat_lt, List, [], ◌∷◌, ◌++◌, length, refl, sym, ◌∙◌, ap, subst, arith, Option, Some, None, length-append, Ok}
+use Rattle.inode_changes.proofs.Common.{nat_tests, length-take-le, length-drop, div_ceil_times, div-add-mod, mod-lt, mul-div_cancel_left, mul-le-mul_right, take, flat_map, div_ceil, block_len, World, free_count, has_number, are_apart, Path, a_file, at, is_there, is_file, is_dir, bytes_in, numbers, data_room, inode_at, inodes_under, inode_tree, need, inode_need, need_of, when, first_of, no_room, FsRefusal, found, under_is, DiskView, IsValidNow, KeepsRoom, Runs, Client, no_room_in, refused_on, InodeKind, Directory, Regular, item_bytes, items_for, said, inode_of, block_len_of, body_of, is_directory, amount_said, blocks_said, Found, Lookup, tree_under, mounted_by, part, bytes_at, bytes_said, file_said, file_count, named_held, named_full, may_look, said_is_row, row_is_long, found_long, node_is, a_file_there, Content, shared_count, shared_of, new_bytes, new_count, all_count, FitsInode, IsFor, IsAside, joined, IsOfFile, IsMadeInode, bytes_made, Grows, IsGrownFile}
 use Rattle.fs_trees.specs.Inode as tree
-use Rattle.fs_trees.specs.Inode.{data_room}
 use Rattle.fs_trees.specs.InodeTree as inodes
-use Rattle.fs_trees.specs.InodeTree.{inode_at, inodes_under, inode_tree}
-use Rattle.fs_trees.specs.Needs.{need, inode_need, need_of}
-use Rattle.fs_trees.specs.Refusals.{when, first_of, no_room}
 use Rattle.fs_trees.specs.declared.ask.ShellAsk.TheVariants as ask
 use Rattle.fs_trees.specs.declared.ask.ShellKind.TheVariants as kind
-use Rattle.fs_trees.specs.declared.refusal.FsRefusal.{FsRefusal}
 use Rattle.fs_trees.specs.declared.refusal.FsRefusal.TheVariants as no
-use Rattle.fs_laws.proofs.InodeLaws.{found, under_is}
-use Rattle.fs_port.specs.View.{DiskView}
-use Rattle.fs_port.specs.Calls.{IsValidNow}
-use Rattle.fs_client.specs.declared.client.Client.{Client}
-use Rattle.fs_client.specs.Steps.{no_room_in}
-use Rattle.fs_client.specs.Changing.{refused_on}
 use Rattle.inode_layout.specs.declared.inode.Inode as layout
-use Rattle.inode_layout.specs.declared.kind.InodeKind.{InodeKind}
-use Rattle.inode_layout.specs.declared.kind.InodeKind.TheVariants.{Directory, Regular}
-use Rattle.inode_layout.specs.Kinds.{item_bytes, items_for}
-use Rattle.inode_layout.specs.Block.{said, inode_of, bytes_of, block_len_of, body_of}
-use Rattle.inode_layout.specs.Said.{is_directory, amount_said, blocks_said}
-use Rattle.inode_walks.specs.declared.finding.Found.{Found}
-use Rattle.inode_walks.specs.declared.finding.Lookup.{Lookup}
-use Rattle.inode_walks.specs.Asking.{tree_under, mounted_by}
-use Rattle.inode_walks.specs.Reading.{part, bytes_at, bytes_said}
-use Rattle.inode_walks.proofs.FileLaws.{file_said, file_count, named_held, named_full, may_look, said_is_row, row_is_long, found_long, node_is}
-use Rattle.inode_walks.proofs.FoundLaws.{a_file_there}
+use Rattle.inode_layout.specs.Block.{bytes_of}
 use Rattle.inode_walks.proofs.TellLaws.{bytes_are}
 use Rattle.inode_changes.proofs.SpotLaws.{said_in_order}
-use Rattle.inode_changes.specs.declared.content.Content.{Content}
-use Rattle.inode_changes.specs.Content.{shared_count, shared_of, new_bytes, new_count, all_count, FitsInode, IsFor}
-use Rattle.inode_changes.specs.Filling.{joined}
-use Rattle.inode_changes.specs.Entering.{IsOfFile}
-use Rattle.inode_changes.specs.Growing.{Grows, IsGrownFile}
+use Rattle.inode_changes.proofs.EndLaws.{ToEnter}
 use Rattle.inode_changes.proofs.AppendLaws.{append_big, append_room}
 use Rattle.inode_changes.proofs.NeedLaws.{append_need, full_blocks, full_among, ceil_more}
 use Rattle.inode_changes.proofs.GrownLaws.{in_take, grown, behind_length}
@@ -311,3 +276,20 @@ module _ (c : Client) (v : DiskView) (path : Path) (lookup : Lookup) (file : Fou
     pub room_is : 1 ≤ length y → nat_lt (data_room (block_len_of file.inode)) (div_ceil (amount_said (inode_of file.inode) + length y) (block_len_of file.inode)) ≡ false
         → refused_on (mounted_by c) v (ask.Append path y) ≡ no_room_in v.world (1 + new_count content) (1 + all_count content)
     room_is least fits = room_refuses y least fits ∙ (ap (λ n. no_room_in v.world (1 + n) (1 + (full + div_ceil (size % len + length y) len))) (sym new_is) ∙ ap (λ n. no_room_in v.world (1 + new_count content) (1 + n)) (sym all_is))
+
+-- after the make: the file is to be entered
+pub to_enter : {told : Type 0} {c : Client} {v mk : DiskView} {path : Path} {lookup : Lookup} {file : Found} {front y : List ℕ} {content : Content} {i : ℕ} → is_directory (inode_of file.inode) ≡ false → (told → IsValidNow v) → (told → Grows c v path lookup file)
+    → IsGrownFile file.inode front y content → (told → front ≡ part (bytes_said v.world (inode_of file.inode)) (block_len_of file.inode * (amount_said (inode_of file.inode) / block_len_of file.inode)) (amount_said (inode_of file.inode)))
+    → 1 ≤ length y → nat_lt (data_room (block_len_of file.inode)) (div_ceil (amount_said (inode_of file.inode) + length y) (block_len_of file.inode)) ≡ false
+    → (told → ◌≡◌ {A = Option FsRefusal} (no_room_in v.world (1 + new_count content) (1 + all_count content)) None) → (told → KeepsRoom (need (1 + new_count content) (1 + all_count content)) v.world mk.world)
+    → (told → IsMadeInode c.root v.world lookup.directory.block i (a_file (bytes_made v.world content)) mk.world) → Runs {X = ℕ} told v mk (IsAside c.root v.world) (Ok i)
+    → ToEnter told c v mk (ask.Append path y) path lookup i (a_file (bytes_in (at (tree_under c v) path) ++ y))
+to_enter {c = c} {v = v} {mk = mk} {path = path} {lookup = lookup} {file = file} {front = front} {y = y} {content = content} {i = i} no_dir now x g front_is least fits none keeps made runs = record {
+  none = λ t. room_is c v path lookup file (x t) no_dir (now t) front y content g (front_is t) least fits ∙ none t;
+  is_done = refl;
+  tree = λ t. refl;
+  grounds = λ t. (x t).grounds;
+  made = λ t. subst (λ xs. IsMadeInode c.root v.world lookup.directory.block i (a_file xs) mk.world) (made_bytes c v path lookup file (x t) no_dir (now t) front y content g (front_is t)) (made t);
+  keeps = λ t. subst (λ n. KeepsRoom n v.world mk.world) (sym (need_is c v path lookup file (x t) no_dir (now t) front y content g (front_is t) least)) (keeps t);
+  runs = runs;
+}

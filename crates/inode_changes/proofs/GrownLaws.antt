@@ -1,13 +1,6 @@
 -- The bytes of a file whose first blocks are another's.
 use Rattle.std.proofs.Common.{◌≡◌, ℕ, ◌+◌, ◌-◌, ◌*◌, ◌≤◌, true, List, [], ◌∷◌, ◌++◌, length, refl, sym, ◌∙◌, ap, arith, length-append}
-use Rattle.std.proofs.lemmas.Grind.{flat_map-append}
-use Rattle.std.proofs.lemmas.List.{length-take-le, length-drop, append_assoc, take-append-drop, take_all}
-use Rattle.std.proofs.Math.Seq.{take-append-add, drop-append-add}
-use Rattle.std.specs.Prelude.{take, drop, flat_map}
-use Rattle.tsd_model.specs.World.{has_number}
-use Rattle.fs_laws.proofs.ListLaws.{number_left}
-use Rattle.inode_walks.specs.Reading.{part}
-use Rattle.inode_walks.proofs.PartLaws.{row_length}
+use Rattle.inode_changes.proofs.Common.{flat_map-append, length-take-le, length-drop, append_assoc, take-append-drop, take_all, take-append-add, drop-append-add, take, drop, flat_map, has_number, number_left, part, row_length}
 
 -- the first of a list are in it
 pub in_take : (n : ℕ) (bs : List ℕ) (b : ℕ) → has_number (take n bs) b ≡ true → has_number bs b ≡ true

@@ -1,19 +1,7 @@
 -- The last block of a file, where that isn't full.
 use Rattle.std.proofs.Common.{◌≡◌, ℕ, ◌+◌, ◌-◌, ◌*◌, ◌/◌, ◌%◌, ◌<◌, ◌≤◌, false, List, [], length, sym, ◌∙◌, ap, subst, arith, Some}
-use Rattle.std.proofs.Math.Nat.{div-add-mod, mod-lt, mul-div_cancel_left, mul-mod_right}
-use Rattle.std.specs.Prelude.{slice_index}
-use Rattle.tsd_model.specs.World.{contents}
-use Rattle.fs_port.specs.View.{DiskView}
-use Rattle.fs_port.specs.Calls.{IsValidNow}
-use Rattle.fs_client.specs.declared.client.Client.{Client}
+use Rattle.inode_changes.proofs.Common.{div-add-mod, mod-lt, mul-div_cancel_left, mul-mod_right, slice_index, contents, DiskView, IsValidNow, Client, inode_of, block_len_of, blocks_said, is_directory, amount_said, Found, StandsAsRead, part, bytes_said, file_count, block_part, part_none}
 use Rattle.inode_layout.specs.declared.inode.Inode.{Inode}
-use Rattle.inode_layout.specs.Block.{inode_of, block_len_of}
-use Rattle.inode_layout.specs.Said.{blocks_said, is_directory, amount_said}
-use Rattle.inode_walks.specs.declared.finding.Found.{Found}
-use Rattle.inode_walks.specs.Finding.{StandsAsRead}
-use Rattle.inode_walks.specs.Reading.{part, bytes_said}
-use Rattle.inode_walks.proofs.FileLaws.{file_count, block_part}
-use Rattle.inode_walks.proofs.PartLaws.{part_none}
 use Rattle.inode_changes.proofs.NeedLaws.{last_partial}
 
 module _ (i : Inode) (is_file : is_directory (inode_of i) ≡ false) (whole : 16 ≤ block_len_of i) (some : 1 ≤ amount_said (inode_of i) % block_len_of i) where

@@ -1,8 +1,10 @@
+pub mod Common
 pub mod ExchangeLaws
 pub mod TidyLaws
 pub mod ListingLaws
 pub mod SpotLaws
 pub mod RemovalLaws
+pub mod OutcomeLaws
 pub mod PlaceLaws
 pub mod RemoveLaws
 pub mod RoomLaws
@@ -15,6 +17,7 @@ pub mod BeginLaws
 pub mod BackLaws
 pub mod DecideLaws
 pub mod EntryLaws
+pub mod EndLaws
 pub mod EnterLaws
 pub mod DirectoryLaws
 pub mod MakeLaws
@@ -28,7 +31,6 @@ pub mod SameLaws
 pub mod LastLaws
 pub mod PlacedLaws
 pub mod StillLaws
-pub mod EndLaws
 pub mod GrowLaws
 pub mod PutLaws
 pub mod CopyLaws

@@ -1,18 +1,6 @@
 -- A directory's list with an entry set or taken out is in order, and fits its block.
 use Rattle.std.proofs.Common.{◌≡◌, ℕ, suc, ◌+◌, ◌^◌, ◌≤◌, true, false, cond, ◌&&◌, ◌==◌, nat_lt, List, [], ◌∷◌, length, refl, sym, ◌∙◌, ap, arith, inl, inr, Option, Some, None}
-use Rattle.std.proofs.lemmas.Bool.{and_parts, and_from, or_cases, or_left, or_right, eq-eqb, eqb-true}
-use Rattle.std.proofs.lemmas.Bool.Decides.{nat_tests}
-use Rattle.std.specs.Prelude.{map}
-use Rattle.tsd_model.specs.Pairs.{holds, is_pair}
-use Rattle.fs_trees.specs.Names.{Name, name_lt, is_name, is_below_first_name, are_ascending}
-use Rattle.fs_trees.specs.Tree.{file, dir, nothing, a_file, a_dir, is_there}
-use Rattle.fs_trees.specs.Fields.{Entry, entry_names, all_named}
-use Rattle.fs_trees.specs.Inode.{with_listed, without_listed}
-use Rattle.fs_trees.specs.InodeTree.{InodeNode, InodeEntries, with_first, entries_by, named_pairs}
-use Rattle.fs_laws.proofs.ListLaws.{held_right}
-use Rattle.fs_laws.proofs.DirectoryLaws.{names_meet}
-use Rattle.inode_layout.specs.Said.{are_small}
-use Rattle.inode_walks.proofs.WalkLaws.{block_is}
+use Rattle.inode_changes.proofs.Common.{and_parts, and_from, or_cases, or_left, or_right, eq-eqb, eqb-true, nat_tests, map, holds, is_pair, Name, name_lt, is_name, is_below_first_name, are_ascending, file, dir, nothing, a_file, a_dir, is_there, Entry, entry_names, all_named, with_listed, without_listed, InodeNode, InodeEntries, with_first, entries_by, named_pairs, held_right, names_meet, are_small, block_is}
 
 -- ---- names in order
 

@@ -1,36 +1,10 @@
 -- What an ask for a new directory answers, by the refusal that applies first.
-use Rattle.std.proofs.Common.{◌≡◌, ℕ, suc, ◌<◌, true, false, not, ◌&&◌, nat_le, List, [], ◌∷◌, length, refl, sym, ◌∙◌, ap, subst, arith, Option, Some, None}
-use Rattle.std.proofs.lemmas.Bool.Decides.{nat_tests}
-use Rattle.std.specs.Prelude.{map}
-use Rattle.tsd_model.specs.Geometry.{block_len}
-use Rattle.tsd_model.specs.World.{free_count}
-use Rattle.tsd_model.specs.declared.geometry.Geometry.{Geometry}
-use Rattle.fs_trees.specs.Names.{Path, is_path}
-use Rattle.fs_trees.specs.Tree.{Tree, at, is_there, names_in}
-use Rattle.fs_trees.specs.Fields.{Entry, entry_names}
-use Rattle.fs_trees.specs.Inode.{entries_room}
-use Rattle.fs_trees.specs.InodeTree.{inode_tree}
-use Rattle.fs_trees.specs.Needs.{need}
-use Rattle.fs_trees.specs.Refusals.{RoomNeed, when, first_of, directory_of, lost_on_the_way, name_taken, dir_full, no_room, refusal}
+use Rattle.std.proofs.Common.{◌≡◌, ℕ, suc, ◌<◌, true, false, not, ◌&&◌, nat_le, List, [], ◌∷◌, length, refl, sym, ◌∙◌, ap, subst, arith, Option, Some, None, Ok}
+use Rattle.inode_changes.proofs.Common.{nat_tests, map, block_len, free_count, Geometry, Path, is_path, Tree, at, is_there, names_in, Entry, entry_names, entries_room, inode_tree, need, RoomNeed, when, first_of, directory_of, lost_on_the_way, name_taken, dir_full, no_room, refusal, empty_tree, FsRefusal, DiskView, IsDiskSound, IsValidNow, KeepsRoom, Runs, Client, OnlyLooks, no_room_in, refused_on, lookup_refusal, is_mounted, inode_of, block_len_of, is_directory, entries_said, blocks_said, Lookup, MayAsk, tree_under, mounted_by, IsLookup, names_there, dir_said, IsAside, DirectoryHasRoom, Grounds, IsMadeInode, IsVacant}
 use Rattle.fs_trees.specs.declared.ask.ShellAsk.TheVariants as ask
 use Rattle.fs_trees.specs.declared.ask.ShellKind.TheVariants as kind
-use Rattle.fs_trees.specs.declared.refusal.FsRefusal.{FsRefusal}
 use Rattle.fs_trees.specs.declared.refusal.FsRefusal.TheVariants as no
-use Rattle.fs_port.specs.View.{DiskView}
-use Rattle.fs_port.specs.Calls.{IsValidNow}
-use Rattle.fs_client.specs.declared.client.Client.{Client}
-use Rattle.fs_client.specs.May.{Looked}
-use Rattle.fs_client.specs.Steps.{no_room_in}
-use Rattle.fs_client.specs.Changing.{refused_on, lookup_refusal}
-use Rattle.fs_client.proofs.AskLaws.{is_mounted}
-use Rattle.inode_layout.specs.Block.{inode_of, block_len_of}
-use Rattle.inode_layout.specs.Said.{is_directory, entries_said, blocks_said}
-use Rattle.inode_walks.specs.declared.finding.Lookup.{Lookup}
-use Rattle.inode_walks.specs.Asking.{tree_under, mounted_by}
-use Rattle.inode_walks.specs.Finding.{IsLookup}
-use Rattle.inode_walks.proofs.FoundLaws.{names_there, dir_said}
-use Rattle.inode_changes.specs.Entering.{DirectoryHasRoom, Grounds}
-use Rattle.inode_changes.specs.Directories.{IsVacant}
+use Rattle.inode_changes.proofs.EndLaws.{ToEnter}
 use Rattle.inode_changes.proofs.EntryLaws.{entry_of}
 use Rattle.inode_changes.proofs.PlaceLaws.{none_at}
 
@@ -119,13 +93,29 @@ module _ (c : Client) (v : DiskView) (path : Path) (lookup : Lookup) (x : IsVaca
   room_refuses = roomy_asks (need 1 1)
 
 -- nothing is changed yet
-pub vacant_now : (c : Client) (first mid : DiskView) (path : Path) (lookup : Lookup) → c.root < first.world.geometry.primaries → is_there (tree_under c first) ≡ true → is_path path ≡ true
-    → ◌≡◌ {A = Option FsRefusal} (lookup_refusal (tree_under c first) path no.Exists) None → Looked first mid → IsLookup c mid path lookup → lookup.old ≡ None → IsVacant c mid path lookup
-vacant_now c first mid path lookup primary there path_is way seen found vacant = record {
-  primary = subst (λ w. c.root < w.geometry.primaries) (sym seen.world) primary;
-  there = ap (λ w. is_there (inode_tree w c.root)) seen.world ∙ there;
-  path_is = path_is;
-  found = found;
-  vacant = vacant;
-  way = ap (λ w. lookup_refusal (inode_tree w c.root) path no.Exists) seen.world ∙ way;
+pub vacant_so : {told : Type 0} {c : Client} {first mid : DiskView} {path : Path} {lookup : Lookup} → MayAsk told c first → (told → first.spent ≡ false → IsDiskSound first) → is_path path ≡ true → OnlyLooks told first mid (Ok lookup) → (told → IsLookup c mid path lookup)
+    → (told → ◌≡◌ {A = Option FsRefusal} (lookup_refusal (tree_under c first) path no.Exists) None) → lookup.old ≡ None → told → IsVacant c mid path lookup
+vacant_so {c = c} {path = path} may sound path_is looks found way vacant t =
+    let seen = (looks.looked t).0 in
+    record {
+      primary = subst (λ w. c.root < w.geometry.primaries) (sym seen.world) (subst (λ g. c.root < g.primaries) (sym (sound t may.ready.unspent).geometry) may.ready.primary);
+      there = ap (λ w. is_there (inode_tree w c.root)) seen.world ∙ may.tree t;
+      path_is = path_is;
+      found = found t;
+      vacant = vacant;
+      way = ap (λ w. lookup_refusal (inode_tree w c.root) path no.Exists) seen.world ∙ way t;
+    }
+
+-- after the make: the directory is to be entered
+pub to_enter : {told : Type 0} {c : Client} {v mk : DiskView} {path : Path} {lookup : Lookup} {i : ℕ} → is_directory (inode_of lookup.directory.inode) ≡ true → (told → IsValidNow v) → (told → IsVacant c v path lookup) → DirectoryHasRoom lookup.directory.inode lookup.name.now
+    → (told → ◌≡◌ {A = Option FsRefusal} (no_room_in v.world 1 1) None) → (told → KeepsRoom (need 1 1) v.world mk.world) → (told → IsMadeInode c.root v.world lookup.directory.block i empty_tree mk.world) → Runs {X = ℕ} told v mk (IsAside c.root v.world) (Ok i)
+    → ToEnter told c v mk (ask.MakeDir path) path lookup i empty_tree
+to_enter {c = c} {v = v} {path = path} {lookup = lookup} dir now x room none keeps made runs = record {
+  none = λ t. room_refuses c v path lookup (x t) dir room ∙ none t;
+  is_done = refl;
+  tree = λ t. refl;
+  grounds = λ t. grounds c v path lookup (x t) dir (now t) room;
+  made = made;
+  keeps = keeps;
+  runs = runs;
 }

@@ -1,35 +1,8 @@
 -- A file in the making goes on, a request at a time; where it is given up, the world is as it was.
 use Rattle.std.proofs.Common.{◌≡◌, ℕ, ◌<◌, Bool, true, false, not, ◌||◌, ◌==◌, nat_lt, List, [], ◌∷◌, ◌++◌, length, refl, sym, ◌∙◌, ap, subst, inl, inr, ◌⊎◌}
-use Rattle.std.proofs.lemmas.Bool.{and_parts, and_from, or_cases, or_left, or_right, eq-eqb, eqb-true, false_from_ne_true}
-use Rattle.std.specs.Prelude.{is_some, is_none, map}
-use Rattle.tsd_model.specs.Geometry.{block_len}
-use Rattle.tsd_model.specs.World.{World, contents, is_live, is_free, has_number, are_apart}
-use Rattle.tsd_model.specs.Pairs.{holds, is_pair}
-use Rattle.tsd_model.specs.Valid.{IsValid}
-use Rattle.tsd_model.specs.Step.{filled, with_new_blocks, written}
-use Rattle.tsd_model.proofs.PairLaws.{holds-with_pair}
-use Rattle.disk_laws.proofs.ChangeLaws.{contents-other, live-with_contents, free_may}
-use Rattle.disk_laws.proofs.StayLaws.{live-new_blocks}
-use Rattle.fs_trees.specs.Tree.{is_there}
-use Rattle.fs_trees.specs.InodeTree.{inode_tree}
-use Rattle.fs_trees.specs.Layouts.{Named, named_at}
-use Rattle.fs_trees.specs.Outside.{is_under}
+use Rattle.inode_changes.proofs.Common.{and_parts, and_from, or_cases, or_left, or_right, eq-eqb, eqb-true, false_from_ne_true, is_some, is_none, map, block_len, World, contents, is_live, is_free, has_number, are_apart, holds, is_pair, IsValid, filled, with_new_blocks, written, holds-with_pair, contents-other, live-with_contents, free_may, live-new_blocks, is_there, inode_tree, Named, named_at, is_under, is_inside, IsUnder, SameTree, read_from_named, inodes_under_root, outside_twice, each_under, root_under, target_under, number_right, Client, write_by, alloc_by, link_by, Leads, pointed, clash_free_live, contents_off, lives_new, holds_new, version_new, records_new, Making}
 use Rattle.fs_trees.specs.declared.ask.ShellKind.TheVariants as kind
-use Rattle.fs_laws.specs.Outside.{is_inside}
-use Rattle.fs_laws.specs.Stays.{IsUnder}
-use Rattle.fs_laws.specs.Reading.{SameTree}
-use Rattle.fs_laws.proofs.TreeLaws.{read_from_named}
-use Rattle.fs_laws.proofs.InodeLaws.{inodes_under_root}
-use Rattle.fs_laws.proofs.OutsideLaws.{outside_twice}
-use Rattle.fs_laws.proofs.UnderLaws.{each_under, root_under, target_under}
-use Rattle.fs_laws.proofs.ListLaws.{number_right}
-use Rattle.fs_client.specs.declared.client.Client.{Client}
-use Rattle.fs_client.specs.Client.{write_by, alloc_by, link_by}
-use Rattle.fs_client.specs.Steps.{Leads, pointed}
-use Rattle.fs_client.proofs.RunLaws.{clash_free_live}
-use Rattle.fs_client.proofs.NewLaws.{contents_off, lives_new, holds_new, version_new, records_new}
 use Rattle.fs_client.proofs.TrimLaws.{named_live, keeps_both}
-use Rattle.inode_changes.specs.Making.{Making}
 
 clash : (t : Bool) → t ≡ true → t ≡ false → ⊥
 clash t p q = cc

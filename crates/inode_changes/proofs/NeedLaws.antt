@@ -1,14 +1,6 @@
 -- How many blocks and pointers a file needs that shares some of another's blocks.
 use Rattle.std.proofs.Common.{◌≡◌, ℕ, ◌+◌, ◌-◌, ◌*◌, ◌/◌, ◌%◌, ◌<◌, ◌≤◌, List, [], ◌∷◌, length, min, refl, ◌∙◌, ap, arith, inl, inr}
-use Rattle.std.proofs.Math.Nat.{div-add-mod, mul-add-div, mul-add-mod_self_left, mul-le-mul_right}
-use Rattle.std.proofs.lemmas.Bool.{cases_lt}
-use Rattle.std.proofs.lemmas.Grind.{div_ceil_times}
-use Rattle.std.specs.Int.{div_ceil}
-use Rattle.tsd_model.specs.Geometry.{block_len}
-use Rattle.tsd_model.specs.declared.geometry.Geometry.{Geometry}
-use Rattle.fs_trees.specs.Names.{Path}
-use Rattle.fs_trees.specs.Tree.{Tree, at, bytes_in}
-use Rattle.fs_trees.specs.Needs.{need, inode_need}
+use Rattle.inode_changes.proofs.Common.{div-add-mod, mul-add-div, mul-add-mod_self_left, mul-le-mul_right, cases_lt, div_ceil_times, div_ceil, block_len, Geometry, Path, Tree, at, bytes_in, need, inode_need}
 use Rattle.fs_trees.specs.declared.ask.ShellAsk.TheVariants as ask
 
 -- bytes behind full blocks take blocks of their own

@@ -1,13 +1,6 @@
 -- How many blocks a new file's bytes take, and each block's part of them.
 use Rattle.std.proofs.Common.{◌≡◌, ℕ, zero, suc, ◌+◌, ◌-◌, ◌*◌, ◌^◌, ◌<◌, ◌≤◌, List, [], ◌∷◌, ◌++◌, length, sym, ◌∙◌, ap, subst, arith, length-append}
-use Rattle.std.proofs.lemmas.Grind.{div_ceil_times}
-use Rattle.std.proofs.Math.Nat.{mul_comm, mul-le-mul_right}
-use Rattle.std.specs.Prelude.{drop}
-use Rattle.std.specs.Int.{div_ceil}
-use Rattle.inode_layout.specs.declared.kind.InodeKind.TheVariants.{Regular}
-use Rattle.inode_layout.proofs.HeadLaws.{length-blocks}
-use Rattle.inode_changes.specs.declared.content.Content.{Content}
-use Rattle.inode_changes.specs.Content.{shared_of, shared_count, new_bytes, new_count, FitsInode}
+use Rattle.inode_changes.proofs.Common.{div_ceil_times, mul_comm, mul-le-mul_right, drop, div_ceil, Regular, length-blocks, Content, shared_of, shared_count, new_bytes, new_count, FitsInode}
 
 -- what stands behind a place that isn't before the end of the first bytes
 pub drop_behind : (n : ℕ) (xs ys : List ℕ) → length xs ≤ n → drop n (xs ++ ys) ≡ drop (n - length xs) ys

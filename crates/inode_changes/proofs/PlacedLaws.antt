@@ -1,33 +1,15 @@
 -- A file that was read at the lookup of a path.
-use Rattle.std.proofs.Common.{◌≡◌, ℕ, ◌+◌, ◌<◌, true, [], ◌∷◌, ◌++◌, length, refl, sym, ◌∙◌, ap, subst, arith, Option, Some, None, length-append}
-use Rattle.tsd_model.specs.Geometry.{block_len}
-use Rattle.fs_trees.specs.Names.{Name, Path, is_path}
-use Rattle.fs_trees.specs.Tree.{child, at, is_there}
+use Rattle.std.proofs.Common.{◌≡◌, ℕ, ◌+◌, ◌<◌, true, [], List, ◌∷◌, ◌++◌, length, refl, sym, ◌∙◌, ap, subst, arith, false, Option, Some, None, Ok, length-append}
+use Rattle.inode_changes.proofs.Common.{block_len, Name, Path, is_path, free_count, child, at, is_there, is_dir, need_of, block_named, InodeNode, inode_at, inodes_under, inode_tree, RoomNeed, directory_of, FsRefusal, HoldsWrite, DiskView, IsDiskSound, state_of, IsValidNow, Stays, Client, Looked, OnlyLooks, may_again, looks_as, then_looks, inode_of, block_len_of, is_directory, entries_said, entry_said, Found, Lookup, MayAsk, tree_under, mounted_by, StandsAtPath, IsLookup, IsFurther, lookup_refusal, refused_on, further, DirectoryHasRoom, IsEntryRead, Grows}
 use Rattle.fs_trees.specs.Inode as tree
-use Rattle.fs_trees.specs.Inode.{block_named}
-use Rattle.fs_trees.specs.InodeTree.{InodeNode, inode_at, inodes_under, inode_tree}
-use Rattle.fs_trees.specs.Refusals.{directory_of}
-use Rattle.fs_trees.specs.declared.refusal.FsRefusal.{FsRefusal}
+use Rattle.fs_trees.specs.declared.ask.ShellAsk.TheVariants as ask
+use Rattle.fs_trees.specs.declared.ask.ShellKind.TheVariants as kind
 use Rattle.fs_trees.specs.declared.refusal.FsRefusal.TheVariants as no
-use Rattle.fs_laws.specs.Ways.{HoldsWrite}
-use Rattle.fs_port.specs.View.{DiskView, state_of}
-use Rattle.fs_port.specs.Calls.{IsValidNow, Stays}
-use Rattle.fs_client.specs.declared.client.Client.{Client}
-use Rattle.fs_client.specs.May.{Looked}
-use Rattle.fs_client.proofs.LookLaws.{may_again}
-use Rattle.inode_changes.proofs.PlaceLaws.{said_place}
+use Rattle.inode_changes.proofs.PlaceLaws.{said_place, may_read_old}
 use Rattle.inode_layout.specs.declared.inode.Inode as layout
-use Rattle.inode_layout.specs.Block.{inode_of, block_len_of}
-use Rattle.inode_layout.specs.Said.{is_directory, entries_said, entry_said}
-use Rattle.inode_walks.specs.declared.finding.Found.{Found}
-use Rattle.inode_walks.specs.declared.finding.Lookup.{Lookup}
-use Rattle.inode_walks.specs.Asking.{tree_under}
-use Rattle.inode_walks.specs.Finding.{StandsAtPath, IsLookup, IsFurther}
-use Rattle.fs_client.specs.Changing.{lookup_refusal}
-use Rattle.inode_walks.proofs.FurtherLaws.{may_read, further}
-use Rattle.inode_changes.specs.Entering.{DirectoryHasRoom, IsEntryRead}
 use Rattle.inode_changes.proofs.EntryLaws.{entry_of}
-use Rattle.inode_changes.specs.Growing.{Grows}
+use Rattle.inode_changes.proofs.AppendLaws.{append_lost, append_missing, append_dir}
+use Rattle.inode_changes.proofs.GrowLaws.{root_is_dir}
 
 entry_is : (n : Name) (i : tree.Inode) → is_directory i ≡ true → entry_said n i ≡ block_named n (entries_said i)
 entry_is n (tree.directory es) h = refl
@@ -55,9 +37,9 @@ module _ (c : Client) (mid : DiskView) (path : Path) (lookup : Lookup) (is_dir :
     here =
         let said = said_place c mid path lookup is_dir i b some in
         further c mid i.above.more lookup.directory i.above.stands lookup.name.now b said rd file seen block says whole held
-        (may_again c mid rd b seen stays now (may_read c mid i.above.more lookup.directory i.above.stands lookup.name.now b said now (record { number = i.above.stands.may.number; begun = i.above.stands.may.begun })))
+        (may_again c mid rd b seen stays now (may_read_old c mid path lookup is_dir i b some now))
 
-    pub file_at : StandsAtPath c rd path file
+    file_at : StandsAtPath c rd path file
     file_at = record {
       more = here.less;
       levels =
@@ -71,9 +53,9 @@ module _ (c : Client) (mid : DiskView) (path : Path) (lookup : Lookup) (is_dir :
     }
 
     -- what is known where bytes are to be added
-    pub grows_so : (first : DiskView) → Looked first mid → c.root < first.world.geometry.primaries → is_there (tree_under c first) ≡ true → is_path path ≡ true → ◌≡◌ {A = Option FsRefusal} (lookup_refusal (tree_under c first) path no.IsDir) None
+    grows_here : (first : DiskView) → Looked first mid → c.root < first.world.geometry.primaries → is_there (tree_under c first) ≡ true → is_path path ≡ true → ◌≡◌ {A = Option FsRefusal} (lookup_refusal (tree_under c first) path no.IsDir) None
         → DirectoryHasRoom lookup.directory.inode lookup.name.now → Grows c rd path lookup file
-    grows_so first looked primary there named way room =
+    grows_here first looked primary there named way room =
         let same : rd.world ≡ first.world = seen.world ∙ looked.world in
         record {
           grounds = record {
@@ -89,3 +71,33 @@ module _ (c : Client) (mid : DiskView) (path : Path) (lookup : Lookup) (is_dir :
           old = some ∙ ap (λ k. Some k) (sym block);
           way = subst (λ w. ◌≡◌ {A = Option FsRefusal} (lookup_refusal (inode_tree w c.root) path no.IsDir) None) (sym same) way;
         }
+
+-- after the looks: the entry and its file were read
+pub record HasReadFile (told : Type 0) (c : Client) (first rd : DiskView) (path : Path) (lookup : Lookup) (file : Found) : Type 0 where
+  pub looks : OnlyLooks {X = Unit {0}} told first rd (Ok tt)
+  pub grows : told → Grows c rd path lookup file
+
+pub read_so : {told : Type 0} {c : Client} {first mid rd : DiskView} {path : Path} {lookup : Lookup} {b : ℕ} {file : Found} → MayAsk told c first → (told → first.spent ≡ false → IsDiskSound first) → is_path path ≡ true
+    → OnlyLooks told first mid (Ok lookup) → is_directory (inode_of lookup.directory.inode) ≡ true → (told → IsLookup c mid path lookup) → (told → ◌≡◌ {A = Option FsRefusal} (lookup_refusal (tree_under c first) path no.IsDir) None)
+    → entry_said lookup.name.now (inode_of lookup.directory.inode) ≡ Some b → OnlyLooks told mid rd (Ok file) → file.block ≡ b → (told → inode_at mid.world b ≡ Some (inode_of file.inode)) → (told → block_len_of file.inode ≡ block_len mid.world.geometry)
+    → (told → HoldsWrite (state_of rd) c.session b) → HasReadFile told c first rd path lookup file
+read_so {told = told} {c = c} {first = first} {mid = mid} {rd = rd} {path = path} {lookup = lookup} {b = b} {file = file} may sound named one dir found way some two block says whole held = record {
+  looks = then_looks told first mid rd lookup (Ok tt) one (looks_as told mid rd file tt two);
+  grows = λ t. grows_here c mid path lookup dir (found t) b (old_is c mid path lookup dir (found t) (Some b) some) rd file (two.looked t).0 two.stays.0 (one.looked t).0.valid block (says t) (whole t) (held t)
+      first (one.looked t).0 (subst (λ g. c.root < g.primaries) (sym (sound t may.ready.unspent).geometry) may.ready.primary) (may.tree t) named (way t) (room_for_old lookup.directory.inode lookup.name.now b dir some);
+}
+
+-- the way or the entry is missing
+module _ (c : Client) (v : DiskView) (path : Path) (y : List ℕ) (there : is_there (tree_under c v) ≡ true) where
+  abbrev wanted : RoomNeed
+  wanted = need_of kind.Inode v.world c.root (tree_under c v) (ask.Append path y)
+
+  pub lost_refuses : (e : FsRefusal) → lookup_refusal (tree_under c v) path no.IsDir ≡ Some e → refused_on (mounted_by c) v (ask.Append path y) ≡ Some e
+  lost_refuses e h = append_lost v.world.geometry (tree_under c v) (free_count v.world) (length v.world.pairs) wanted (root_is_dir v.world c.root there) y path e h
+
+  module _ (way : ◌≡◌ {A = Option FsRefusal} (lookup_refusal (tree_under c v) path no.IsDir) None) where
+    pub missing_refuses : is_there (at (tree_under c v) path) ≡ false → refused_on (mounted_by c) v (ask.Append path y) ≡ Some no.NoEntry
+    missing_refuses none = append_missing v.world.geometry (tree_under c v) (free_count v.world) (length v.world.pairs) wanted (root_is_dir v.world c.root there) y path way none
+
+    pub dir_refuses : is_dir (at (tree_under c v) path) ≡ true → refused_on (mounted_by c) v (ask.Append path y) ≡ Some no.IsDir
+    dir_refuses dir = append_dir v.world.geometry (tree_under c v) (free_count v.world) (length v.world.pairs) wanted (root_is_dir v.world c.root there) y path way dir

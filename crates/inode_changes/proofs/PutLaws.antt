@@ -1,49 +1,14 @@
 -- What a put answers, by the refusal that applies first, and what the file is made of.
-use Rattle.std.proofs.Common.{◌≡◌, ℕ, suc, ◌+◌, ◌*◌, ◌/◌, ◌<◌, ◌≤◌, Bool, true, false, not, ◌&&◌, nat_lt, nat_le, List, [], ◌∷◌, ◌++◌, length, refl, sym, ◌∙◌, ap, subst, arith, Option, Some, None}
-use Rattle.std.proofs.lemmas.Bool.Decides.{nat_tests}
-use Rattle.std.proofs.lemmas.List.{take_all}
-use Rattle.std.specs.Prelude.{map, take}
-use Rattle.std.specs.Int.{div_ceil}
-use Rattle.tsd_model.specs.Geometry.{block_len}
-use Rattle.tsd_model.specs.World.{World, free_count, has_number, are_apart}
-use Rattle.tsd_model.specs.declared.geometry.Geometry.{Geometry}
-use Rattle.fs_trees.specs.Names.{Path, is_path}
-use Rattle.fs_trees.specs.Tree.{Tree, nothing, a_file, a_dir, at, is_there, is_dir, names_in}
-use Rattle.fs_trees.specs.Fields.{Entry, entry_names, numbers}
-use Rattle.fs_trees.specs.Inode.{Inode, directory, regular, entries_room, data_room}
+use Rattle.std.proofs.Common.{◌≡◌, ℕ, suc, ◌+◌, ◌*◌, ◌/◌, ◌<◌, ◌≤◌, Bool, true, false, not, ◌&&◌, nat_lt, nat_le, List, [], ◌∷◌, ◌++◌, length, refl, sym, ◌∙◌, ap, subst, arith, Option, Some, None, Ok}
+use Rattle.inode_changes.proofs.Common.{nat_tests, take_all, map, take, div_ceil, block_len, World, free_count, has_number, are_apart, Geometry, Path, is_path, Tree, nothing, a_file, a_dir, at, is_there, is_dir, names_in, with_at, Entry, entry_names, numbers, Inode, directory, regular, entries_room, data_room, inode_at, node_at, inodes_under, inode_tree, need, need_of, RoomNeed, when, first_of, directory_of, lost_on_the_way, no_file, dir_full, too_big, no_room, refusal, FsRefusal, DiskView, IsDiskSound, IsValidNow, Stays, KeepsRoom, need_on, Runs, Client, Looked, OnlyLooks, no_room_in, refused_on, lookup_refusal, is_mounted, inode_of, block_len_of, is_directory, entries_said, blocks_said, entry_said, Lookup, MayAsk, tree_under, mounted_by, IsLookup, dir_said, names_there, entry_by, stands_still, a_level, file_node, dir_node, Content, shared_count, shared_of, new_bytes, new_count, all_count, FitsInode, IsFor, IsAside, joined, Grounds, AreOfFiles, IsMadeInode, bytes_of, PutsFile, IsOf}
 use Rattle.fs_trees.specs.InodeTree as inodes
-use Rattle.fs_trees.specs.InodeTree.{inode_at, node_at, inodes_under, inode_tree}
-use Rattle.fs_trees.specs.Needs.{need}
-use Rattle.fs_trees.specs.Refusals.{RoomNeed, when, first_of, directory_of, lost_on_the_way, no_file, dir_full, too_big, no_room, refusal}
 use Rattle.fs_trees.specs.declared.ask.ShellAsk.TheVariants as ask
 use Rattle.fs_trees.specs.declared.ask.ShellKind.TheVariants as kind
-use Rattle.fs_trees.specs.declared.refusal.FsRefusal.{FsRefusal}
 use Rattle.fs_trees.specs.declared.refusal.FsRefusal.TheVariants as no
-use Rattle.fs_port.specs.View.{DiskView}
-use Rattle.fs_port.specs.Calls.{IsValidNow, Stays}
-use Rattle.fs_client.specs.declared.client.Client.{Client}
-use Rattle.fs_client.specs.May.{Looked}
-use Rattle.fs_client.specs.Steps.{no_room_in}
-use Rattle.fs_client.specs.Changing.{refused_on, lookup_refusal}
-use Rattle.fs_client.proofs.AskLaws.{is_mounted}
-use Rattle.inode_changes.proofs.PlaceLaws.{none_at, old_at, there_at, said_place}
-use Rattle.inode_layout.specs.Block.{inode_of, block_len_of}
-use Rattle.inode_layout.specs.Said.{is_directory, entries_said, blocks_said, entry_said}
-use Rattle.inode_walks.specs.declared.finding.Lookup.{Lookup}
-use Rattle.inode_walks.specs.Asking.{tree_under, mounted_by}
-use Rattle.inode_walks.specs.Finding.{IsLookup}
-use Rattle.inode_walks.proofs.FoundLaws.{dir_said, names_there, entry_by}
-use Rattle.inode_walks.proofs.FileLaws.{stands_still}
-use Rattle.inode_walks.proofs.FurtherLaws.{a_level, child_there}
-use Rattle.inode_walks.proofs.WalkLaws.{file_node, dir_node}
-use Rattle.inode_changes.specs.declared.content.Content.{Content}
-use Rattle.inode_changes.specs.Content.{shared_count, shared_of, new_bytes, new_count, all_count, FitsInode, IsFor}
-use Rattle.inode_changes.specs.Filling.{joined}
+use Rattle.inode_changes.proofs.PlaceLaws.{none_at, old_at, there_at, old_is_there}
 use Rattle.inode_changes.specs.Entering as entering
-use Rattle.inode_changes.specs.Entering.{Grounds, AreOfFiles}
-use Rattle.inode_changes.specs.NewFile.{bytes_of}
+use Rattle.inode_changes.proofs.EndLaws.{ToEnter}
 use Rattle.inode_changes.proofs.EntryLaws.{entry_of}
-use Rattle.inode_changes.specs.Putting.{PutsFile, IsOf}
 use Rattle.inode_changes.proofs.AppendLaws.{dir_only}
 use Rattle.inode_changes.proofs.GrowLaws.{root_is_dir}
 
@@ -57,7 +22,7 @@ module _ (g : Geometry) (t : Tree) (free held : ℕ) (n : RoomNeed) (root : is_d
   abbrev full : Path → Bool
   full p = not (is_there (at t p)) && nat_le (entries_room (block_len g)) (length (names_in (at t (directory_of p))))
 
-  pub put_lost : (p : Path) (e : FsRefusal) → lookup_refusal t p no.IsDir ≡ Some e → refusal kind.Inode g t free held n (ask.Put p x) ≡ Some e
+  put_lost : (p : Path) (e : FsRefusal) → lookup_refusal t p no.IsDir ≡ Some e → refusal kind.Inode g t free held n (ask.Put p x) ≡ Some e
   put_lost [] e h =
       is_mounted t (lost_on_the_way t [] ∷ behind []) (dir_only t root)
       ∙ (ap (λ b. first_of (when b no.IsDir ∷ dir_full kind.Inode g t [] ∷ too_big kind.Inode g (length x) ∷ no_room g free held n)) root ∙ h)
@@ -68,7 +33,7 @@ module _ (g : Geometry) (t : Tree) (free held : ℕ) (n : RoomNeed) (root : is_d
   put_way (m ∷ ms) h = is_mounted t (lost_on_the_way t (m ∷ ms) ∷ behind (m ∷ ms)) (dir_only t root) ∙ ap (λ o. first_of (o ∷ behind (m ∷ ms))) h
 
   module _ (p : Path) (h : ◌≡◌ {A = Option FsRefusal} (lookup_refusal t p no.IsDir) None) where
-    pub put_dir : is_dir (at t p) ≡ true → refusal kind.Inode g t free held n (ask.Put p x) ≡ Some no.IsDir
+    put_dir : is_dir (at t p) ≡ true → refusal kind.Inode g t free held n (ask.Put p x) ≡ Some no.IsDir
     put_dir k = put_way p h ∙ ap (λ b. first_of (when b no.IsDir ∷ dir_full kind.Inode g t p ∷ too_big kind.Inode g (length x) ∷ no_room g free held n)) k
 
     module _ (k : is_dir (at t p) ≡ false) where
@@ -87,6 +52,17 @@ module _ (g : Geometry) (t : Tree) (free held : ℕ) (n : RoomNeed) (root : is_d
 
         pub put_room : nat_lt (data_room (block_len g)) (div_ceil (length x) (block_len g)) ≡ false → refusal kind.Inode g t free held n (ask.Put p x) ≡ first_of (no_room g free held n)
         put_room fits = listed ∙ ap (λ b. first_of (when b no.TooBig ∷ no_room g free held n)) fits
+
+-- the way is missing, or a directory stands there
+module _ (c : Client) (v : DiskView) (path : Path) (x : List ℕ) (there : is_there (tree_under c v) ≡ true) where
+  abbrev wanted : RoomNeed
+  wanted = need_of kind.Inode v.world c.root (tree_under c v) (ask.Put path x)
+
+  pub lost_refuses : (e : FsRefusal) → lookup_refusal (tree_under c v) path no.IsDir ≡ Some e → refused_on (mounted_by c) v (ask.Put path x) ≡ Some e
+  lost_refuses e h = put_lost v.world.geometry (tree_under c v) (free_count v.world) (length v.world.pairs) wanted (root_is_dir v.world c.root there) x path e h
+
+  pub dir_refuses : ◌≡◌ {A = Option FsRefusal} (lookup_refusal (tree_under c v) path no.IsDir) None → is_dir (at (tree_under c v) path) ≡ true → refused_on (mounted_by c) v (ask.Put path x) ≡ Some no.IsDir
+  dir_refuses h dir = put_dir v.world.geometry (tree_under c v) (free_count v.world) (length v.world.pairs) wanted (root_is_dir v.world c.root there) x path h dir
 
 -- ---- at the place that was found
 
@@ -144,7 +120,7 @@ module _ (c : Client) (v : DiskView) (path : Path) (lookup : Lookup) (dir : is_d
               above : (k n m : ℕ) → n < k → m ≡ n → nat_le k m ≡ false
               above k n m h e = let less : m < k = omega (arith, h, e) in grind (arith, nat_tests)
       by_old (Some b) e = ap (λ r. not r && nat_le (entries_room (block_len g)) (length (names_in (at t (directory_of path)))))
-          (there_at c v path lookup dir s.found b e (child_there c v s.found.above.more lookup.directory s.found.above.stands lookup.name.now b (said_place c v path lookup dir s.found b e)))
+          (there_at c v path lookup dir s.found b e)
 
   module _ (room : entering.DirectoryHasRoom lookup.directory.inode lookup.name.now) where
     big_is : nat_lt (data_room (block_len_of lookup.directory.inode)) (div_ceil (length x) (block_len_of lookup.directory.inode)) ≡ nat_lt (data_room (block_len g)) (div_ceil (length x) (block_len g))
@@ -212,6 +188,43 @@ module _ (x : List ℕ) (len : ℕ) (content : Content) (of : IsOf x len content
       ∙ (ap (λ bs. take (length x) (joined w bs (new_bytes content))) shared_none
       ∙ (ap (take (length x)) bytes_new ∙ take_all (length x) x (omega arith)))
 
+-- ---- where there is room for it
+
+module _ {c : Client} {v : DiskView} {path : Path} {lookup : Lookup} {x : List ℕ} {content : Content} (dir : is_directory (inode_of lookup.directory.inode) ≡ true) (now : IsValidNow v) (s : PutsFile c v path lookup)
+    (of : IsOf x (block_len_of lookup.directory.inode) content) where
+  -- so many blocks its bytes take
+  abbrev k : ℕ
+  k = div_ceil (length x) (block_len_of lookup.directory.inode)
+
+  new_k : new_count content ≡ k
+  new_k = new_is x (block_len_of lookup.directory.inode) content of
+
+  all_k : all_count content ≡ k
+  all_k = all_is x (block_len_of lookup.directory.inode) content of
+
+  pub room_is : entering.DirectoryHasRoom lookup.directory.inode lookup.name.now → nat_lt (data_room (block_len_of lookup.directory.inode)) (div_ceil (length x) (block_len_of lookup.directory.inode)) ≡ false
+      → refused_on (mounted_by c) v (ask.Put path x) ≡ no_room_in v.world (1 + new_count content) (1 + all_count content)
+  room_is room fits = room_refuses c v path lookup dir now s x room fits
+      ∙ (ap (λ n. no_room_in v.world (1 + n) (1 + k)) (sym new_k) ∙ ap (λ n. no_room_in v.world (1 + new_count content) (1 + n)) (sym all_k))
+
+  need_is : need (1 + new_count content) (1 + all_count content) ≡ need_on (mounted_by c) v (ask.Put path x)
+  need_is = ap (λ n. need (1 + n) (1 + all_count content)) new_k ∙ (ap (λ n. need (1 + k) (1 + n)) all_k ∙ ap (λ n. need (1 + div_ceil (length x) n) (1 + div_ceil (length x) n)) s.found.above.stands.whole)
+
+-- after the make: the file is to be entered
+pub to_enter : {told : Type 0} {c : Client} {v mk : DiskView} {path : Path} {lookup : Lookup} {x : List ℕ} {content : Content} {i : ℕ} → is_directory (inode_of lookup.directory.inode) ≡ true → (told → IsValidNow v) → (told → PutsFile c v path lookup)
+    → IsOf x (block_len_of lookup.directory.inode) content → entering.DirectoryHasRoom lookup.directory.inode lookup.name.now → nat_lt (data_room (block_len_of lookup.directory.inode)) (div_ceil (length x) (block_len_of lookup.directory.inode)) ≡ false
+    → (told → ◌≡◌ {A = Option FsRefusal} (no_room_in v.world (1 + new_count content) (1 + all_count content)) None) → (told → KeepsRoom (need (1 + new_count content) (1 + all_count content)) v.world mk.world)
+    → (told → IsMadeInode c.root v.world lookup.directory.block i (a_file (bytes_of v.world content)) mk.world) → Runs {X = ℕ} told v mk (IsAside c.root v.world) (Ok i) → ToEnter told c v mk (ask.Put path x) path lookup i (a_file (bytes_of v.world content))
+to_enter {c = c} {v = v} {mk = mk} {path = path} {lookup = lookup} {x = x} {content = content} dir now s of room fits none keeps made runs = record {
+  none = λ t. room_is dir (now t) (s t) of room fits ∙ none t;
+  is_done = refl;
+  tree = λ t. ap (λ y. with_at path (a_file y) (tree_under c v)) (sym (made_bytes x (block_len_of lookup.directory.inode) content of v.world));
+  grounds = λ t. grounds c v path lookup dir (now t) (s t) x room;
+  made = made;
+  keeps = λ t. subst (λ n. KeepsRoom n v.world mk.world) (need_is dir (now t) (s t) of) (keeps t);
+  runs = runs;
+}
+
 -- ---- what stands there already
 
 pub nothing_no_dir : (x : Tree) → is_there x ≡ false → is_dir x ≡ false
@@ -220,23 +233,23 @@ nothing_no_dir (a_file x) h = refl
 nothing_no_dir (a_dir d es) h = absurd (cc)
 
 module _ (c : Client) (v : DiskView) (path : Path) (lookup : Lookup) (dir : is_directory (inode_of lookup.directory.inode) ≡ true) (i : IsLookup c v path lookup) (b : ℕ) (some : lookup.old ≡ Some b) where
-  old_is_there : is_there (node_at v.world i.above.more b) ≡ true
-  old_is_there = child_there c v i.above.more lookup.directory i.above.stands lookup.name.now b (said_place c v path lookup dir i b some)
+  abbrev there : is_there (node_at v.world i.above.more b) ≡ true
+  there = old_is_there c v path lookup dir i b some
 
   -- its inode tells whether it is a directory
   pub kind_at : (k : Inode) → inode_at v.world b ≡ Some k → is_dir (at (tree_under c v) path) ≡ is_directory k
   kind_at k is =
-      let level = a_level v.world i.above.more b old_is_there in
+      let level = a_level v.world i.above.more b there in
       ap is_dir (old_at c v path lookup dir i b some ∙ ap (λ m. inodes.tree_of v.world (node_at v.world m b)) level.1)
-      ∙ by_kind k (ap (λ m. is_there (node_at v.world m b)) (sym level.1) ∙ old_is_there) is
+      ∙ by_kind k (ap (λ m. is_there (node_at v.world m b)) (sym level.1) ∙ there) is
     where
-      by_kind : (k : Inode) → is_there (node_at v.world (suc (a_level v.world i.above.more b old_is_there).0) b) ≡ true → inode_at v.world b ≡ Some k
-          → is_dir (inodes.tree_of v.world (node_at v.world (suc (a_level v.world i.above.more b old_is_there).0) b)) ≡ is_directory k
-      by_kind (directory fs) h e = ap (λ x. is_dir (inodes.tree_of v.world x)) (dir_node v.world (a_level v.world i.above.more b old_is_there).0 b h fs e).2
-      by_kind (regular size blocks) h e = ap (λ x. is_dir (inodes.tree_of v.world x)) (file_node v.world (a_level v.world i.above.more b old_is_there).0 b h size blocks e)
+      by_kind : (k : Inode) → is_there (node_at v.world (suc (a_level v.world i.above.more b there).0) b) ≡ true → inode_at v.world b ≡ Some k
+          → is_dir (inodes.tree_of v.world (node_at v.world (suc (a_level v.world i.above.more b there).0) b)) ≡ is_directory k
+      by_kind (directory fs) h e = ap (λ x. is_dir (inodes.tree_of v.world x)) (dir_node v.world (a_level v.world i.above.more b there).0 b h fs e).2
+      by_kind (regular size blocks) h e = ap (λ x. is_dir (inodes.tree_of v.world x)) (file_node v.world (a_level v.world i.above.more b there).0 b h size blocks e)
 
 -- what was found stands there after a look
-pub place_still : (c : Client) (old new : DiskView) (path : Path) (lookup : Lookup) → Looked old new → Stays old new → IsValidNow old → IsLookup c old path lookup → IsLookup c new path lookup
+place_still : (c : Client) (old new : DiskView) (path : Path) (lookup : Lookup) → Looked old new → Stays old new → IsValidNow old → IsLookup c old path lookup → IsLookup c new path lookup
 place_still c old new path lookup seen stays now i = record {
   above = record {
     more = i.above.more;
@@ -249,15 +262,18 @@ place_still c old new path lookup seen stays now i = record {
 }
 
 -- nothing is changed yet, and no directory stands there
-pub puts_now : (c : Client) (first mid now : DiskView) (path : Path) (lookup : Lookup) → c.root < first.world.geometry.primaries → is_there (tree_under c first) ≡ true → is_path path ≡ true
-    → ◌≡◌ {A = Option FsRefusal} (lookup_refusal (tree_under c first) path no.IsDir) None → Looked first mid → IsLookup c mid path lookup → Looked mid now → Stays mid now → is_dir (at (tree_under c mid) path) ≡ false → PutsFile c now path lookup
-puts_now c first mid now path lookup primary there path_is way one found two stays no_dir =
+pub puts_so : {X : Type 0} {told : Type 0} {c : Client} {first mid now : DiskView} {path : Path} {lookup : Lookup} {y : X} → MayAsk told c first → (told → first.spent ≡ false → IsDiskSound first) → is_path path ≡ true
+    → OnlyLooks told first mid (Ok lookup) → (told → IsLookup c mid path lookup) → (told → ◌≡◌ {A = Option FsRefusal} (lookup_refusal (tree_under c first) path no.IsDir) None)
+    → OnlyLooks told mid now (Ok y) → (told → (p : Path) → IsLookup c mid p lookup → is_dir (at (tree_under c mid) p) ≡ false) → told → PutsFile c now path lookup
+puts_so {c = c} {first = first} {mid = mid} {now = now} {path = path} {lookup = lookup} may sound path_is one_looks found way two_looks no_dir t =
+    let one = (one_looks.looked t).0 in
+    let two = (two_looks.looked t).0 in
     let same : now.world ≡ first.world = two.world ∙ one.world in
     record {
-      primary = subst (λ w. c.root < w.geometry.primaries) (sym same) primary;
-      there = ap (λ w. is_there (inode_tree w c.root)) same ∙ there;
+      primary = subst (λ w. c.root < w.geometry.primaries) (sym same) (subst (λ g. c.root < g.primaries) (sym (sound t may.ready.unspent).geometry) may.ready.primary);
+      there = ap (λ w. is_there (inode_tree w c.root)) same ∙ may.tree t;
       path_is = path_is;
-      found = place_still c mid now path lookup two stays one.valid found;
-      way = ap (λ w. lookup_refusal (inode_tree w c.root) path no.IsDir) same ∙ way;
-      no_dir = ap (λ w. is_dir (at (inode_tree w c.root) path)) two.world ∙ no_dir;
+      found = place_still c mid now path lookup two two_looks.stays.0 one.valid (found t);
+      way = ap (λ w. lookup_refusal (inode_tree w c.root) path no.IsDir) same ∙ way t;
+      no_dir = ap (λ w. is_dir (at (inode_tree w c.root) path)) two.world ∙ no_dir t path (found t);
     }

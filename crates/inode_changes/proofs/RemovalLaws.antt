@@ -1,34 +1,8 @@
 -- A directory's entry is taken out, and what it named let go of.
 use Rattle.std.proofs.Common.{◌≡◌, ℕ, suc, ◌<◌, Bool, true, false, not, ◌&&◌, ◌==◌, List, [], ◌∷◌, ◌++◌, refl, sym, ◌∙◌, ap, subst, arith, inl, inr, ◌⊎◌, Some}
-use Rattle.std.proofs.lemmas.Bool.{and_parts, and_from, or_left, eq-eqb}
-use Rattle.std.specs.List.{list_all}
-use Rattle.std.specs.Option.{option_and_then}
-use Rattle.tsd_model.specs.Geometry.{block_len}
-use Rattle.tsd_model.specs.World.{World, contents, is_live, is_free, has_number, are_apart}
-use Rattle.tsd_model.specs.Pairs.{holds, is_pair}
-use Rattle.tsd_model.specs.Valid.{IsValid}
-use Rattle.tsd_model.specs.Step.{filled, written}
-use Rattle.fs_trees.specs.Names.{Name, Path, path_max}
-use Rattle.fs_trees.specs.Tree.{Tree, nothing, a_file, a_dir, entry, is_there, with_entry, with_child, with_at}
-use Rattle.fs_trees.specs.Fields.{Entry}
-use Rattle.fs_trees.specs.Inode.{directory, block_named, inode_in, inode_bytes, without_listed}
-use Rattle.fs_trees.specs.InodeTree.{InodeNode, InodeEntries, tree_of, inode_at, node_at, inode_blocks, data_blocks, named_pairs, inode_tree}
-use Rattle.fs_trees.specs.Layouts.{named_at, IsTidy}
-use Rattle.fs_trees.specs.Outside.{is_under}
+use Rattle.inode_changes.proofs.Common.{and_parts, and_from, or_left, eq-eqb, list_all, option_and_then, block_len, World, contents, is_live, is_free, has_number, are_apart, holds, is_pair, IsValid, filled, written, Name, Path, path_max, Tree, nothing, a_file, a_dir, entry, is_there, with_entry, with_child, with_at, Entry, directory, block_named, inode_in, inode_bytes, without_listed, InodeNode, InodeEntries, tree_of, inode_at, node_at, inode_blocks, data_blocks, named_pairs, inode_tree, named_at, IsTidy, is_under, Keeps, SameTree, read_from_named, number_left, node_blocks, HasRoot, found, under_is, read_named, entry_is_read, entry_is_dropped, with_last, block_at, apart_times, each_under, root_under, target_under, dropped, fewer_pairs, fewer_live, other_pair, written_elsewhere, written_here, written_free, block_is, node_block, named_is_there, entry_pair}
 use Rattle.fs_trees.specs.declared.ask.ShellKind.TheVariants as kind
-use Rattle.fs_laws.specs.Stays.{Keeps}
-use Rattle.fs_laws.specs.Reading.{SameTree}
-use Rattle.fs_laws.proofs.TreeLaws.{read_from_named}
-use Rattle.fs_laws.proofs.ListLaws.{number_left}
-use Rattle.fs_laws.proofs.InodeLaws.{node_blocks, HasRoot, found, under_is}
-use Rattle.fs_laws.proofs.DirectoryLaws.{read_named, entry_is_read, entry_is_dropped, with_last, block_at}
-use Rattle.fs_laws.proofs.CountLaws.{apart_times}
 use Rattle.fs_laws.proofs.EntryLaws as deciding
-use Rattle.fs_laws.proofs.UnderLaws.{each_under, root_under, target_under}
-use Rattle.fs_client.specs.Steps.{dropped}
-use Rattle.fs_client.proofs.DropLaws.{fewer_pairs, fewer_live, other_pair}
-use Rattle.fs_client.proofs.WriteLaws.{written_elsewhere, written_here, written_free}
-use Rattle.inode_walks.proofs.WalkLaws.{block_is, node_block, named_is_there, entry_pair}
 use Rattle.inode_changes.proofs.ExchangeLaws.{Exchange, block_is_at, dir_stays, spared, still_named, named_before}
 use Rattle.inode_changes.proofs.TidyLaws.{named_of, named_under, tidy_by_pairs}
 use Rattle.inode_changes.proofs.ListingLaws.{ascending_without, named_without, small_without, length_without}

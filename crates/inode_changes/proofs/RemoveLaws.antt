@@ -1,55 +1,14 @@
 -- A removal, from the entry that was found to the last request.
-use Rattle.std.proofs.Common.{◌≡◌, ℕ, ◌+◌, ◌*◌, ◌<◌, ◌≤◌, true, false, not, ◌&&◌, nat_lt, nat_le, List, [], ◌∷◌, length, refl, sym, ◌∙◌, ap, subst, arith, inl, inr, ◌⊎◌, Option, Some, None, length-append}
-use Rattle.std.proofs.lemmas.Bool.{and_from, and_parts}
-use Rattle.std.proofs.lemmas.Bool.Decides.{nat_tests}
-use Rattle.std.specs.Prelude.{flat_map}
-use Rattle.std.specs.List.{list_all}
-use Rattle.tsd_model.specs.Geometry.{block_len}
-use Rattle.tsd_model.specs.World.{World, is_live, is_free, free_count}
-use Rattle.tsd_model.specs.Pairs.{holds}
-use Rattle.tsd_model.specs.Valid.{IsValid}
-use Rattle.fs_laws.specs.Outside.{is_inside}
-use Rattle.fs_laws.specs.Stays.{Keeps}
-use Rattle.disk_laws.proofs.ChangeLaws.{live-with_contents}
-use Rattle.fs_trees.specs.Names.{Name, Path, name_max, is_name_byte, is_reserved, is_name}
-use Rattle.fs_trees.specs.Tree.{nothing, at, is_there, names_in, with_at}
-use Rattle.fs_trees.specs.Fields.{Entry, entry_bytes, all_named}
-use Rattle.fs_trees.specs.Inode.{Inode, directory, block_named, without_listed, inode_bytes}
-use Rattle.fs_trees.specs.InodeTree.{inode_at, node_at, inode_tree}
-use Rattle.fs_trees.specs.Layouts.{named_at, IsTidy}
-use Rattle.fs_trees.specs.Needs.{need_of}
-use Rattle.fs_trees.specs.Outside.{is_under, OthersStay}
-use Rattle.fs_trees.specs.Refusals.{directory_of}
+use Rattle.std.proofs.Common.{◌≡◌, ℕ, ◌+◌, ◌*◌, ◌<◌, ◌≤◌, true, false, not, ◌&&◌, nat_lt, nat_le, List, [], ◌∷◌, length, refl, sym, ◌∙◌, ap, subst, arith, inl, inr, ◌⊎◌, Option, Some, None, Result, Ok, length-append}
+use Rattle.inode_changes.proofs.Common.{and_from, and_parts, nat_tests, flat_map, list_all, block_len, World, is_live, is_free, free_count, holds, IsValid, is_inside, Keeps, live-with_contents, Name, Path, name_max, is_name_byte, is_reserved, is_name, nothing, at, is_there, names_in, with_at, Entry, entry_bytes, all_named, Inode, directory, block_named, without_listed, inode_bytes, inode_at, inode_tree, named_at, IsTidy, need, need_of, is_under, OthersStay, RoomNeed, directory_of, done, FsRefusal, inodes_under_root, outside_twice, DiskView, IsDiskSound, Stays, Answers, IsEitherTree, LeavesTidyWorld, KeepsRoom, Runs, Client, write_by, unlink_by, MayWrite, Looked, OnlyLooks, may_again, looks_as, then_looks, written, Steps, Leads, Went, dropped, inode_of, is_directory, entries_said, blocks_said, Found, Lookup, MayAsk, tree_under, mounted_by, IsLookup, lookup_refusal, refused_on, runs_look, runs_step, then_runs, as_before, same_room, no_more_room, write_takes, drop_takes, after_is, ask_done, rm_lost, rm_missing, rm_full, rm_none, may_still, held_live, block_long}
 use Rattle.fs_trees.specs.declared.ask.ShellAsk.TheVariants as ask
 use Rattle.fs_trees.specs.declared.ask.ShellKind.TheVariants as kind
-use Rattle.fs_trees.specs.declared.refusal.FsRefusal.{FsRefusal}
 use Rattle.fs_trees.specs.declared.refusal.FsRefusal.TheVariants as no
-use Rattle.fs_laws.proofs.InodeLaws.{inodes_under_root}
-use Rattle.fs_laws.proofs.OutsideLaws.{outside_twice}
-use Rattle.fs_port.specs.View.{DiskView}
-use Rattle.fs_port.specs.Calls.{Stays}
-use Rattle.fs_port.specs.Files.{IsEitherTree, LeavesTidyWorld}
-use Rattle.fs_client.specs.declared.client.Client.{Client}
-use Rattle.fs_client.specs.Client.{write_by, unlink_by}
-use Rattle.fs_client.specs.May.{MayWrite, Looked}
-use Rattle.fs_client.proofs.LookLaws.{may_again}
-use Rattle.tsd_model.specs.Step.{written}
-use Rattle.fs_client.specs.Steps.{Leads, Went, dropped}
-use Rattle.inode_layout.specs.Block.{inode_of}
-use Rattle.inode_layout.specs.Said.{is_directory, entries_said, blocks_said}
 use Rattle.inode_layout.proofs.ListedLaws.{entry_length}
-use Rattle.inode_walks.specs.declared.finding.Lookup.{Lookup}
-use Rattle.inode_walks.specs.Asking.{tree_under, mounted_by}
-use Rattle.inode_walks.specs.Finding.{IsLookup}
-use Rattle.fs_client.specs.Changing.{lookup_refusal, refused_on}
 use Rattle.inode_changes.proofs.SpotLaws.{Spot, spot_of, live, order}
 use Rattle.inode_changes.proofs.ListingLaws.{named_without, length_without}
 use Rattle.inode_changes.proofs.RemovalLaws as removal
-use Rattle.fs_client.proofs.RunLaws.{as_before}
-use Rattle.fs_client.proofs.AskLaws.{after_is, rm_none}
-use Rattle.fs_client.proofs.MayLaws.{may_still, held_live}
-use Rattle.fs_client.proofs.WriteLaws.{block_long}
-use Rattle.inode_changes.proofs.PlaceLaws.{old_there, entries_at}
+use Rattle.inode_changes.proofs.PlaceLaws.{there_at, entries_at}
 
 -- ---- how long a directory's bytes are
 
@@ -75,8 +34,19 @@ directory_length es h = let list = listed_length es h in omega (arith, list)
 
 -- ---- an entry that is to be taken out
 
+-- the way or the entry is missing
+module _ (c : Client) (first : DiskView) (path : Path) (there : is_there (tree_under c first) ≡ true) where
+  abbrev wanted : RoomNeed
+  wanted = need_of kind.Inode first.world c.root (tree_under c first) (ask.Rm path)
+
+  pub lost_refuses : (e : FsRefusal) → lookup_refusal (tree_under c first) path no.IsDir ≡ Some e → refused_on (mounted_by c) first (ask.Rm path) ≡ Some e
+  lost_refuses e h = rm_lost kind.Inode first.world.geometry (tree_under c first) (free_count first.world) (length first.world.pairs) wanted there path e h
+
+  pub missing_refuses : ◌≡◌ {A = Option FsRefusal} (lookup_refusal (tree_under c first) path no.IsDir) None → is_there (at (tree_under c first) path) ≡ false → refused_on (mounted_by c) first (ask.Rm path) ≡ Some no.NoEntry
+  missing_refuses h none = rm_missing kind.Inode first.world.geometry (tree_under c first) (free_count first.world) (length first.world.pairs) wanted there path h none
+
 -- it was found, and what it names was read
-pub record Taking (c : Client) (first mid rd : DiskView) (path : Path) (lookup : Lookup) (b : ℕ) : Type 0 where
+pub record Taking (c : Client) (first mid rd : DiskView) (path : Path) (lookup : Lookup) (b : ℕ) (k : Inode) : Type 0 where
   pub valid : IsValid first.world
   pub tree : is_there (tree_under c first) ≡ true
   pub primary : c.root < first.world.geometry.primaries
@@ -87,8 +57,9 @@ pub record Taking (c : Client) (first mid rd : DiskView) (path : Path) (lookup :
   pub found : ◌≡◌ {A = Option FsRefusal} (lookup_refusal (tree_under c first) path no.IsDir) None
   pub read : Looked mid rd
   pub stays : Stays mid rd
+  pub says : inode_at mid.world b ≡ Some k
 
-module _ (c : Client) (first mid rd : DiskView) (path : Path) (lookup : Lookup) (b : ℕ) (x : Taking c first mid rd path lookup b) where
+module _ {c : Client} {first mid rd : DiskView} {path : Path} {lookup : Lookup} {b : ℕ} {k : Inode} (x : Taking c first mid rd path lookup b k) where
   abbrev es : List Entry
   es = entries_said (inode_of lookup.directory.inode)
 
@@ -142,12 +113,22 @@ module _ (c : Client) (first mid rd : DiskView) (path : Path) (lookup : Lookup) 
   tree_next = removal.tree_next rd.world c.root p d es spot valid_rd primary_rd n
       ∙ (ap (λ q. with_at q nothing (inode_tree rd.world c.root)) (sym x.place_is.name) ∙ ap (λ w. with_at path nothing (inode_tree w c.root)) same)
 
-  module _ (there : is_there (node_at mid.world x.place_is.above.more b) ≡ true) (k : Inode) (is : inode_at mid.world b ≡ Some k) (empty : (is_directory k && nat_lt 0 (length (blocks_said k))) ≡ false) where
+  there_first : is_there (at (tree_under c first) path) ≡ true
+  there_first = ap (λ w. is_there (at (inode_tree w c.root) path)) (sym x.seen.world) ∙ there_at c mid path lookup x.is_dir x.place_is b x.some
+
+  entries_first : nat_lt 0 (length (names_in (at (tree_under c first) path))) ≡ (is_directory k && nat_lt 0 (length (blocks_said k)))
+  entries_first = ap (λ w. nat_lt 0 (length (names_in (at (inode_tree w c.root) path)))) (sym x.seen.world) ∙ entries_at c mid path lookup x.is_dir x.place_is b x.some k x.says
+
+  -- where it has entries, this refuses it
+  pub full_refuses : (is_directory k && nat_lt 0 (length (blocks_said k))) ≡ true → refused_on (mounted_by c) first (ask.Rm path) ≡ Some no.NotEmpty
+  full_refuses full = rm_full kind.Inode first.world.geometry (tree_under c first) (free_count first.world) (length first.world.pairs) (need_of kind.Inode first.world c.root (tree_under c first) (ask.Rm path)) x.tree path x.found
+      there_first (entries_first ∙ full)
+
+  module _ (empty : (is_directory k && nat_lt 0 (length (blocks_said k))) ≡ false) where
     -- nothing refuses it
     pub none_refuses : ◌≡◌ {A = Option FsRefusal} (refused_on (mounted_by c) first (ask.Rm path)) None
     none_refuses = rm_none kind.Inode first.world.geometry (tree_under c first) (free_count first.world) (length first.world.pairs) (need_of kind.Inode first.world c.root (tree_under c first) (ask.Rm path)) x.tree path x.found
-        (ap (λ w. is_there (at (inode_tree w c.root) path)) (sym x.seen.world) ∙ old_there c mid path lookup x.is_dir x.place_is b x.some there k is)
-        (ap (λ w. nat_lt 0 (length (names_in (at (inode_tree w c.root) path)))) (sym x.seen.world) ∙ (entries_at c mid path lookup x.is_dir x.place_is b x.some there k is ∙ empty))
+        there_first (entries_first ∙ empty)
 
     after : (w : World) → inode_tree w c.root ≡ with_at path nothing (tree_under c first) → IsValid w → w.geometry ≡ rd.world.geometry → OthersStay c.root rd.world w → IsEitherTree (mounted_by c) first (ask.Rm path) w
     after w tree valid size others = (
@@ -164,7 +145,7 @@ module _ (c : Client) (first mid rd : DiskView) (path : Path) (lookup : Lookup) 
     stop_at_write w (inr h) = subst (IsEitherTree (mounted_by c) first (ask.Rm path)) (sym h.0)
         (after next tree_next h.1.valid h.1.geometry (h.1.others c.root primary_rd inside))
 
-    module _ (wr : DiskView) (went : Went c rd wr (write_by c d bytes) d (written rd.world d bytes)) (stays_wr : Stays rd wr) where
+    module _ {wr : DiskView} (went : Went c rd wr (write_by c d bytes) d (written rd.world d bytes)) (stays_wr : Stays rd wr) where
       live_next : (a : ℕ) → is_live rd.world a ≡ true → is_live next a ≡ true
       live_next a h = live-with_contents rd.world d a _ h
 
@@ -210,7 +191,7 @@ module _ (c : Client) (first mid rd : DiskView) (path : Path) (lookup : Lookup) 
           (after next tree_next went.leads.valid went.leads.geometry (went.leads.others c.root primary_rd inside))
       stop_at_drop w (inr h) = subst (IsEitherTree (mounted_by c) first (ask.Rm path)) (sym (h.0 ∙ to_last)) (at_last_world (on_next (dropped wr.world d b) h.1 refl))
 
-      module _ (fin : DiskView) (gone : Went c wr fin (unlink_by c d b) d (dropped wr.world d b)) (unspent : fin.spent ≡ false) where
+      module _ {fin : DiskView} (gone : Went c wr fin (unlink_by c d b) d (dropped wr.world d b)) (unspent : fin.spent ≡ false) where
         leads_last : Leads next (unlink_by c d b) last
         leads_last = on_next (dropped wr.world d b) gone.leads refl
 
@@ -229,3 +210,62 @@ module _ (c : Client) (first mid rd : DiskView) (path : Path) (lookup : Lookup) 
           taken = λ a free lives. absurd (removal.none_taken rd.world c.root p d es spot valid_rd primary_rd n went.leads.valid b listed (keeps leads_last) leads_last.valid a
               (ap (λ w. is_free w a) same ∙ free) (ap (λ w. is_live w a) (sym fin_is) ∙ lives));
         }
+
+-- ---- the call, stage by stage
+
+-- after the looks: the entry and what it names were read
+pub record HasRead (told : Type 0) (c : Client) (first mid rd : DiskView) (path : Path) (lookup : Lookup) (b : ℕ) (k : Inode) : Type 0 where
+  pub taking : told → Taking c first mid rd path lookup b k
+  pub looks : OnlyLooks {X = Unit {0}} told first rd (Ok tt)
+
+pub read_so : {told : Type 0} {c : Client} {first mid rd : DiskView} {path : Path} {lookup : Lookup} {b : ℕ} {old : Found} → MayAsk told c first → (told → first.spent ≡ false → IsDiskSound first)
+    → OnlyLooks told first mid (Ok lookup) → is_directory (inode_of lookup.directory.inode) ≡ true → (told → IsLookup c mid path lookup) → (told → ◌≡◌ {A = Option FsRefusal} (lookup_refusal (tree_under c first) path no.IsDir) None)
+    → lookup.old ≡ Some b → OnlyLooks told mid rd (Ok old) → (told → inode_at mid.world b ≡ Some (inode_of old.inode)) → HasRead told c first mid rd path lookup b (inode_of old.inode)
+read_so {told = told} {c = c} {first = first} {mid = mid} {rd = rd} {lookup = lookup} {old = old} may sound first_looks is_dir place found some looks says = record {
+  taking = λ t. record {
+    valid = (may.valid t).valid;
+    tree = may.tree t;
+    primary = subst (λ g. c.root < g.primaries) (sym (sound t may.ready.unspent).geometry) may.ready.primary;
+    seen = (first_looks.looked t).0;
+    is_dir = is_dir;
+    place_is = place t;
+    some = some;
+    found = found t;
+    read = (looks.looked t).0;
+    stays = looks.stays.0;
+    says = says t;
+  };
+  looks = then_looks told first mid rd lookup (Ok tt) first_looks (looks_as told mid rd old tt looks);
+}
+
+module _ {told : Type 0} {c : Client} {first mid rd : DiskView} {path : Path} {lookup : Lookup} {b : ℕ} {k : Inode} (r : HasRead told c first mid rd path lookup b k) (empty : (is_directory k && nat_lt 0 (length (blocks_said k))) ≡ false) where
+  abbrev listing : List ℕ
+  listing = inode_bytes (directory (without_listed lookup.name.now (entries_said (inode_of lookup.directory.inode))))
+
+  abbrev P : World → Type 0
+  P = IsEitherTree (mounted_by c) first (ask.Rm path)
+
+  -- after the write: it decides
+  pub wrote_runs : {wr : DiskView} {result : Result (Unit {0}) FsRefusal} → Steps told c rd wr (write_by c lookup.directory.block listing) lookup.directory.block (written rd.world lookup.directory.block listing) result → Runs told first wr (IsEitherTree (mounted_by c) first (ask.Rm path)) result
+  wrote_runs {wr = wr} {result = result} wrote = then_runs told first rd wr P tt result
+      (runs_look told first rd P (Ok tt) (λ t w is. as_before (mounted_by c) first (ask.Rm path) w (r.taking t).valid is) r.looks)
+      (runs_step told c rd wr (write_by c lookup.directory.block listing) lookup.directory.block (written rd.world lookup.directory.block listing) P result (λ t. (r.taking t).read.valid) (λ t. stop_at_write (r.taking t) empty) wrote)
+
+  module _ {wr : DiskView} (wrote : Steps {X = Unit {0}} told c rd wr (write_by c lookup.directory.block listing) lookup.directory.block (written rd.world lookup.directory.block listing) (Ok tt)) where
+    -- after the pointer was dropped
+    pub dropped_runs : {fin : DiskView} {result : Result ℕ FsRefusal} → Steps told c wr fin (unlink_by c lookup.directory.block b) lookup.directory.block (dropped wr.world lookup.directory.block b) result → Runs told first fin (IsEitherTree (mounted_by c) first (ask.Rm path)) result
+    dropped_runs {fin = fin} {result = result} gone = then_runs told first wr fin P tt result (wrote_runs wrote)
+        (runs_step told c wr fin (unlink_by c lookup.directory.block b) lookup.directory.block (dropped wr.world lookup.directory.block b) P result (λ t. (wrote.went t).valid) (λ t. stop_at_drop (r.taking t) empty (wrote.went t) wrote.stays.0) gone)
+
+    module _ {fin : DiskView} {count : ℕ} (gone : Steps {X = ℕ} told c wr fin (unlink_by c lookup.directory.block b) lookup.directory.block (dropped wr.world lookup.directory.block b) (Ok count)) where
+      pub keeps_room : told → KeepsRoom (need 0 0) first.world fin.world
+      keeps_room t = no_more_room (need 0 0) first.world wr.world fin.world
+          (no_more_room (need 0 0) first.world rd.world wr.world (same_room (need 0 0) first.world rd.world (r.looks.looked t).0.world)
+          (write_takes c rd wr (r.taking t).read.valid (write_by c lookup.directory.block listing) lookup.directory.block listing (may_write (r.taking t)).live (wrote.went t)))
+          (drop_takes c wr fin (wrote.went t).valid (unlink_by c lookup.directory.block b) lookup.directory.block b (gone.went t))
+
+      pub removed : told → Answers {X = Unit {0}} (mounted_by c) first fin (ask.Rm path) (Ok tt) (λ _ answer. answer ≡ done)
+      removed t = ask_done (mounted_by c) first fin (ask.Rm path) tt (none_refuses (r.taking t) empty) refl (tree_fin (r.taking t) empty (wrote.went t) wrote.stays.0 (gone.went t) gone.unspent.0)
+
+      pub left : told → LeavesTidyWorld (mounted_by c) first fin
+      left t = left_fin (r.taking t) empty (wrote.went t) wrote.stays.0 (gone.went t) gone.unspent.0

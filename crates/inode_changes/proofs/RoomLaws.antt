@@ -1,12 +1,7 @@
 -- Where there is room, and what is refused where there isn't, as of the time before an inode shared some blocks.
 use Rattle.std.proofs.Common.{◌≡◌, ℕ, ◌+◌, ◌-◌, ◌≤◌, length, sym, ◌∙◌, ap, arith, Option, Some, None}
-use Rattle.tsd_model.specs.World.{World, free_count}
-use Rattle.fs_trees.specs.declared.refusal.FsRefusal.{FsRefusal}
+use Rattle.inode_changes.proofs.Common.{World, free_count, FsRefusal, refusal_before, no_room_in, room_there, there_is_room, pairs_want, wanted_pairs}
 use Rattle.fs_trees.specs.declared.refusal.FsRefusal.TheVariants as no
-use Rattle.fs_client.specs.Leftovers.{refusal_before}
-use Rattle.fs_client.specs.Steps.{no_room_in}
-use Rattle.fs_client.proofs.RoomLaws.{room_there, there_is_room}
-use Rattle.fs_client.proofs.NeedLaws.{pairs_want, wanted_pairs}
 
 -- the inode got so many pairs, and as many blocks are free
 module _ (first w : World) (n s : ℕ) (size : w.geometry ≡ first.geometry) (free : free_count w ≡ free_count first) (pairs : length w.pairs ≡ length first.pairs + s) (enough : n ≤ free_count first) where

@@ -1,8 +1,6 @@
 -- What stands at a path already may be put there.
 use Rattle.std.proofs.Common.{◌≡◌, ℕ, true, false, cond, List, [], ◌∷◌, ◌++◌, refl, sym, ◌∙◌, ap}
-use Rattle.fs_trees.specs.Names.{Name, Path, name_lt}
-use Rattle.fs_trees.specs.Tree.{Entries, none, file, dir, Node, nothing, a_file, a_dir, Tree, entry, at, is_there, is_file, bytes_in, before, with_entry, with_at}
-use Rattle.fs_laws.proofs.DirectoryLaws.{names_meet}
+use Rattle.inode_changes.proofs.Common.{Name, Path, name_lt, Entries, none, file, dir, Node, nothing, a_file, a_dir, Tree, entry, at, is_there, is_file, bytes_in, before, with_entry, with_at, names_meet}
 use Rattle.inode_changes.proofs.GrownLaws.{append_none}
 
 entry_same : {D F : Type 0} (n : Name) (x : Node D F) (es : Entries D F) → entry n es ≡ x → is_there x ≡ true → with_entry n x es ≡ es

@@ -1,36 +1,10 @@
 -- A new inode points to the blocks that it shares, one after the other.
 use Rattle.std.proofs.Common.{◌≡◌, ℕ, zero, suc, ◌+◌, ◌-◌, ◌<◌, ◌≤◌, Bool, true, false, not, ◌&&◌, ◌||◌, ◌==◌, List, [], ◌∷◌, ◌++◌, length, refl, sym, ◌∙◌, ap, subst, arith, inl, inr, ◌⊎◌, Option, Some, None, Result, Ok, Err}
-use Rattle.std.proofs.lemmas.Bool.{and_parts, or_left, or_right, eq-eqb, eqb-true}
-use Rattle.std.specs.Prelude.{take, slice_index}
-use Rattle.tsd_model.specs.World.{World, is_live, has_number, are_apart}
-use Rattle.tsd_model.specs.Pairs.{holds, is_pair}
+use Rattle.inode_changes.proofs.Common.{and_parts, or_left, or_right, eq-eqb, eqb-true, take, slice_index, World, is_live, has_number, are_apart, holds, is_pair, Nothing, holds-with_pair, length-with_new_pair, is_under, FsRefusal, attains_write, any-append, each_under, DiskView, IsDiskSound, state_of, IsValidNow, Client, shown_at, link_by, refusal_before, MayWrite, no_look, Leads, Steps, pointed, no_room_in, Runs, runs_look, runs_step, then_runs, room_there, there_is_room, pairs_want, wanted_pairs, may_after, Making, RootReaches, Stage, IsAside, AsideOf, Shared, Stopped}
 use Rattle.tsd_model.specs.Sessions.{is_open}
-use Rattle.tsd_model.specs.declared.caps.Shown.TheVariants.{Nothing}
 use Rattle.tsd_model.specs.declared.requests.Level.TheVariants as level
-use Rattle.tsd_model.proofs.PairLaws.{holds-with_pair, length-with_new_pair}
 use Rattle.disk_laws.proofs.AttainedLaws.{attained_where}
-use Rattle.fs_trees.specs.Outside.{is_under}
-use Rattle.fs_trees.specs.declared.refusal.FsRefusal.{FsRefusal}
 use Rattle.fs_trees.specs.declared.refusal.FsRefusal.TheVariants as no
-use Rattle.fs_laws.specs.Ways.{attains_write}
-use Rattle.fs_laws.proofs.ListLaws.{any-append}
-use Rattle.fs_laws.proofs.UnderLaws.{each_under}
-use Rattle.fs_port.specs.View.{DiskView, IsDiskSound, state_of}
-use Rattle.fs_port.specs.Calls.{IsValidNow}
-use Rattle.fs_client.specs.declared.client.Client.{Client}
-use Rattle.fs_client.specs.Client.{shown_at, link_by}
-use Rattle.fs_client.specs.Leftovers.{refusal_before}
-use Rattle.fs_client.specs.May.{MayWrite}
-use Rattle.fs_client.proofs.LookLaws.{no_look}
-use Rattle.fs_client.specs.Steps.{Leads, Steps, pointed, no_room_in}
-use Rattle.fs_port.specs.Runs.{Runs}
-use Rattle.fs_client.proofs.RunLaws.{runs_look, runs_step, then_runs}
-use Rattle.fs_client.proofs.RoomLaws.{room_there, there_is_room}
-use Rattle.fs_client.proofs.NeedLaws.{pairs_want, wanted_pairs}
-use Rattle.fs_client.proofs.MayLaws.{may_after}
-use Rattle.inode_changes.specs.Making.{Making}
-use Rattle.inode_changes.specs.Content.{RootReaches}
-use Rattle.inode_changes.specs.Filling.{Stage, IsAside, AsideOf, Shared, Stopped}
 use Rattle.inode_changes.proofs.MakingLaws.{making_shared}
 use Rattle.inode_changes.proofs.FillLaws.{aside_now}
 

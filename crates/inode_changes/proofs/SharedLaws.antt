@@ -1,10 +1,6 @@
 -- The blocks that a new file shares with an old one, as they stand in the old one's block.
 use Rattle.std.proofs.Common.{◌≡◌, ℕ, zero, suc, ◌*◌, ◌≤◌, Bool, true, false, not, List, [], ◌∷◌, length, refl, ◌∙◌, ap, arith}
-use Rattle.std.proofs.lemmas.Bool.{and_parts, and_from, not-true}
-use Rattle.std.specs.Prelude.{take}
-use Rattle.byteorder.specs.Endian.{little_number}
-use Rattle.tsd_model.specs.World.{has_number, are_apart}
-use Rattle.fs_trees.specs.Fields.{numbers}
+use Rattle.inode_changes.proofs.Common.{and_parts, and_from, not-true, take, little_number, has_number, are_apart, numbers}
 use Rattle.inode_changes.proofs.GrownLaws.{in_take}
 
 clash : (t : Bool) → t ≡ true → t ≡ false → ⊥

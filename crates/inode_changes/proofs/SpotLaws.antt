@@ -1,40 +1,9 @@
 -- The entry of a path in a world: its directory, as laws on deciding writes take it.
 use Rattle.std.proofs.Common.{◌≡◌, ℕ, zero, suc, ◌+◌, ◌*◌, ◌-◌, ◌^◌, ◌<◌, ◌≤◌, Bool, true, false, nat_lt, List, [], ◌∷◌, length, refl, sym, ◌∙◌, ap, subst, arith, inl, inr, ◌⊎◌, Option, Some, None}
-use Rattle.std.proofs.lemmas.Bool.{and_parts, and_from}
-use Rattle.std.proofs.lemmas.Bool.Decides.{nat_tests}
-use Rattle.std.specs.Prelude.{is_some, map, drop, replicate}
-use Rattle.std.specs.Option.{option_and_then}
-use Rattle.std.specs.List.{list_all}
-use Rattle.tsd_model.specs.Geometry.{block_len}
-use Rattle.tsd_model.specs.World.{World, contents, is_live, are_apart}
-use Rattle.tsd_model.specs.Pairs.{holds}
-use Rattle.tsd_model.specs.Valid.{IsValid}
-use Rattle.tsd_model.specs.Step.{filled}
-use Rattle.tsd_model.proofs.PairLaws.{all_of_held}
-use Rattle.disk_laws.proofs.DoomLaws.{live_below}
-use Rattle.fs_trees.specs.Names.{Path, path_max, are_ascending}
-use Rattle.fs_trees.specs.Tree.{nothing, a_file, a_dir, entry, at, is_there}
-use Rattle.fs_trees.specs.Fields.{only_if, Entry, entries, entry_names, all_named}
-use Rattle.fs_trees.specs.Inode.{Inode, directory, entries_room, inode_in, inode_bytes}
-use Rattle.fs_trees.specs.InodeTree.{InodeNode, InodeEntries, inode_at, entries_by, node_at, inode_blocks, named_pairs}
-use Rattle.fs_trees.specs.Refusals.{directory_of}
-use Rattle.fs_laws.proofs.InodeLaws.{HasRoot, found, under_is}
-use Rattle.fs_laws.proofs.DirectoryLaws.{deeper, nowhere}
-use Rattle.fs_port.specs.View.{DiskView}
-use Rattle.fs_client.specs.declared.client.Client.{Client}
+use Rattle.inode_changes.proofs.Common.{and_parts, and_from, nat_tests, is_some, map, drop, replicate, option_and_then, list_all, block_len, World, contents, is_live, are_apart, holds, IsValid, filled, all_of_held, live_below, Path, path_max, are_ascending, nothing, a_file, a_dir, entry, at, is_there, only_if, Entry, entries, entry_names, all_named, Inode, directory, entries_room, inode_in, inode_bytes, InodeNode, InodeEntries, inode_at, entries_by, node_at, inode_blocks, named_pairs, directory_of, HasRoot, found, under_is, deeper, nowhere, DiskView, Client, InodeKind, Directory, Regular, item_bytes, said, inode_of, block_len_of, body_of, said_in, is_directory, is_in_order, in_order, are_small, entries_said, reads_back, Lookup, tree_under, IsLookup, entry_pairs, node_block, dir_node, dir_said}
 use Rattle.inode_layout.specs.declared.inode.Inode as layout
-use Rattle.inode_layout.specs.declared.kind.InodeKind.{InodeKind}
-use Rattle.inode_layout.specs.declared.kind.InodeKind.TheVariants.{Directory, Regular}
-use Rattle.inode_layout.specs.Kinds.{item_bytes}
-use Rattle.inode_layout.specs.Block.{said, inode_of, block_len_of, body_of}
-use Rattle.inode_layout.specs.Said.{said_in, is_directory, is_in_order, in_order, are_small, entries_said}
 use Rattle.inode_layout.proofs.SaidLaws.{in_two_steps}
-use Rattle.inode_layout.proofs.BackLaws.{reads_back}
-use Rattle.inode_walks.specs.declared.finding.Lookup.{Lookup}
-use Rattle.inode_walks.specs.Asking.{tree_under}
-use Rattle.inode_walks.specs.Finding.{IsLookup, node_pairs}
-use Rattle.inode_walks.proofs.WalkLaws.{entry_pairs, node_block, dir_node}
-use Rattle.inode_walks.proofs.FoundLaws.{dir_said}
+use Rattle.inode_walks.specs.Finding.{node_pairs}
 use Rattle.inode_changes.proofs.ListingLaws.{small_listed}
 
 -- The directory in block d stands at a path under the root, with this list.

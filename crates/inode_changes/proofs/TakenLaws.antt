@@ -1,22 +1,6 @@
 -- What is taken for a new inode and its blocks, counted.
-use Rattle.std.proofs.Common.{◌≡◌, ℕ, ◌+◌, true, false, ◌||◌, ◌==◌, List, [], ◌∷◌, ◌++◌, length, length-append, sym, ◌∙◌, ap, subst, arith, zero, suc, refl}
-use Rattle.std.proofs.lemmas.Bool.{or_left, or_right}
-use Rattle.std.specs.Prelude.{map, drop, is_some}
-use Rattle.std.specs.Int.{div_ceil}
-use Rattle.tsd_model.specs.Geometry.{block_len}
-use Rattle.tsd_model.specs.World.{World, is_live, has_number}
-use Rattle.tsd_model.specs.Pairs.{holds}
-use Rattle.fs_trees.specs.Fields.{numbers}
-use Rattle.fs_trees.specs.Needs.{need}
-use Rattle.fs_port.specs.View.{DiskView}
-use Rattle.fs_port.specs.Files.{KeepsRoom}
-use Rattle.fs_client.specs.declared.client.Client.{Client}
-use Rattle.fs_client.proofs.KeepLaws.{takes_these}
-use Rattle.inode_changes.specs.declared.content.Content.{Content}
-use Rattle.inode_changes.specs.Making.{Making, new_pairs}
-use Rattle.inode_changes.specs.Content.{shared_of, shared_count, new_bytes, new_count, all_count, IsFor, RootReaches}
-use Rattle.inode_changes.specs.Filling.{Stage, Filled}
-use Rattle.inode_changes.specs.Beginning.{HasNewInode}
+use Rattle.std.proofs.Common.{◌≡◌, ℕ, ◌+◌, true, false, ◌||◌, List, [], ◌∷◌, ◌++◌, length, length-append, sym, ◌∙◌, ap, subst, arith, zero, suc, refl}
+use Rattle.inode_changes.proofs.Common.{or_left, or_right, map, drop, is_some, div_ceil, block_len, World, is_live, has_number, numbers, need, DiskView, KeepsRoom, Client, takes_these, Content, Making, new_pairs, shared_of, shared_count, new_bytes, new_count, all_count, IsFor, RootReaches, Stage, Filled, HasNewInode}
 
 -- the block of a new inode, and the pair to it
 pub begun_takes : (c : Client) (old new : DiskView) (d i : ℕ) → HasNewInode c old new d i → KeepsRoom (need 1 1) old.world new.world

@@ -1,17 +1,7 @@
 -- When a world is tidy: where the pairs out of named blocks are those that are named.
 use Rattle.std.proofs.Common.{◌≡◌, ℕ, ◌<◌, true, ◌==◌, ◌∷◌, ◌++◌, sym, ◌∙◌, ap, inl, inr}
-use Rattle.std.proofs.lemmas.Bool.{or_right}
-use Rattle.tsd_model.specs.World.{World, has_number}
-use Rattle.tsd_model.specs.Pairs.{holds}
-use Rattle.tsd_model.specs.Valid.{IsValid}
-use Rattle.fs_trees.specs.Tree.{is_there}
-use Rattle.fs_trees.specs.InodeTree.{InodeEntries, inode_blocks, data_blocks, named_pairs, inode_tree}
-use Rattle.fs_trees.specs.Layouts.{by_inodes, named_at, IsTidy}
-use Rattle.fs_trees.specs.Outside.{is_under}
+use Rattle.inode_changes.proofs.Common.{or_right, World, has_number, holds, IsValid, is_there, InodeEntries, inode_blocks, data_blocks, named_pairs, inode_tree, by_inodes, named_at, IsTidy, is_under, number_left, number_right, HasRoot, under_is, inodes_under_root, named_reached, is_tidy}
 use Rattle.fs_trees.specs.declared.ask.ShellKind.TheVariants as kind
-use Rattle.fs_laws.proofs.ListLaws.{number_left, number_right}
-use Rattle.fs_laws.proofs.InodeLaws.{HasRoot, under_is, inodes_under_root}
-use Rattle.fs_client.proofs.TidyLaws.{named_reached, is_tidy}
 use Rattle.inode_changes.proofs.ExchangeLaws.{named_target}
 
 -- what is named, by the entries of the root

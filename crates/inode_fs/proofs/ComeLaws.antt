@@ -1,26 +1,6 @@
 -- A look comes to what the tree names, where all is right, and to nothing else.
 use Rattle.std.proofs.Common.{◌≡◌, ℕ, zero, suc, Bool, true, false, cond, ◌||◌, ◌==◌, List, [], ◌∷◌, ◌++◌, refl, sym, ◌∙◌, ap, subst, inl, inr, Option, Some, None}
-use Rattle.std.proofs.lemmas.Bool.{and_parts, or_cases, or_left, or_right, eq-eqb, eqb-true}
-use Rattle.std.specs.Prelude.{map}
-use Rattle.std.specs.List.{list_all}
-use Rattle.std.specs.Option.{option_and_then}
-use Rattle.tsd_model.specs.Geometry.{block_len}
-use Rattle.tsd_model.specs.World.{World, contents, has_number, are_apart}
-use Rattle.tsd_model.specs.Pairs.{holds, is_pair}
-use Rattle.fs_trees.specs.Names.{Name}
-use Rattle.fs_trees.specs.Tree.{none, file, dir, nothing, a_file, a_dir, is_there}
-use Rattle.fs_trees.specs.Fields.{Entry, only_if}
-use Rattle.fs_trees.specs.Inode.{Inode, directory, regular, inode_in}
-use Rattle.fs_trees.specs.InodeTree.{InodeNode, InodeEntries, inode_at, with_first, entries_by, as_dir, node_by, node_at, inode_blocks, data_blocks, named_pairs}
-use Rattle.inode_layout.specs.Said.{said_in, in_order, is_in_order, blocks_said}
-use Rattle.inode_layout.proofs.SaidLaws.{in_two_steps}
-use Rattle.inode_walks.specs.Finding.{node_pairs}
-use Rattle.inode_walks.proofs.WalkLaws.{block_is}
-use Rattle.fs_laws.proofs.InodeLaws.{node_blocks}
-use Rattle.fs_laws.proofs.ListLaws.{held_append}
-use Rattle.fs_client.proofs.ApartLaws.{yes_no}
-use Rattle.fs_client.specs.Held.{are_held}
-use Rattle.inode_fs.specs.Looking.{Come, is_come, with_inode, with_data, come_data, come_each, come_on, come_by, come_from, if_held, held_at}
+use Rattle.inode_fs.proofs.Common.{and_parts, or_cases, or_left, or_right, eq-eqb, eqb-true, map, list_all, option_and_then, block_len, World, contents, has_number, are_apart, holds, is_pair, Name, none, file, dir, nothing, a_file, a_dir, is_there, Entry, only_if, Inode, directory, regular, inode_in, InodeNode, InodeEntries, inode_at, with_first, entries_by, as_dir, node_by, node_at, inode_blocks, data_blocks, named_pairs, said_in, in_order, is_in_order, blocks_said, in_two_steps, node_pairs, block_is, node_blocks, held_append, yes_no, are_held, Come, is_come, with_inode, with_data, come_data, come_each, come_on, come_by, come_from, if_held, held_at}
 use Rattle.inode_fs.proofs.FitLaws.{Fits, Adds, fits_none, adds_none, fits_one, adds_one, fits_both, adds_both}
 
 abbrev pub node_data : InodeNode → List ℕ

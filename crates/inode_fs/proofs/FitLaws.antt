@@ -1,10 +1,6 @@
 -- What fits to what a look has come to, and what is then come to.
 use Rattle.std.proofs.Common.{◌≡◌, ℕ, Bool, true, false, ◌||◌, ◌==◌, List, [], ◌∷◌, ◌++◌, refl, sym, ◌∙◌, ap, inl, inr}
-use Rattle.std.proofs.lemmas.Bool.{or_cases, or_left, or_right, eq-eqb, eqb-true}
-use Rattle.tsd_model.specs.World.{has_number, are_apart}
-use Rattle.fs_laws.proofs.ListLaws.{any-append, number_left, number_right, in_append}
-use Rattle.fs_client.proofs.ApartLaws.{yes_no, is_false, or_no, no_or, apart_first, apart_with}
-use Rattle.inode_fs.specs.Looking.{Come, is_come, with_inode}
+use Rattle.inode_fs.proofs.Common.{or_cases, or_left, or_right, eq-eqb, eqb-true, has_number, are_apart, any-append, number_left, number_right, in_append, yes_no, is_false, or_no, no_or, apart_first, apart_with, Come, is_come, with_inode}
 
 -- ---- lists none of whose blocks stands twice
 

@@ -1,3 +1,4 @@
+pub mod Common
 pub mod FitLaws
 pub mod ComeLaws
 pub mod WrongLaws
@@ -8,4 +9,5 @@ pub mod SeenLaws
 pub mod LoopLaws
 pub mod RightLaws
 pub mod TidyLaws
+pub mod MountLaws
 pub mod MakeLaws

@@ -1,19 +1,6 @@
 -- What holds while blocks are looked at one after the other.
 use Rattle.std.proofs.Common.{◌≡◌, ℕ, ◌+◌, ◌<◌, ◌≤◌, Bool, true, false, cond, List, length, sym, ◌∙◌, ap, subst, Option, None, Ok}
-use Rattle.std.specs.Prelude.{drop, slice_index}
-use Rattle.std.specs.Option.{option_and_then}
-use Rattle.tsd_model.specs.World.{has_number}
-use Rattle.fs_port.specs.View.{DiskView}
-use Rattle.fs_port.specs.Calls.{IsValidNow}
-use Rattle.fs_client.specs.declared.client.Client.{Client}
-use Rattle.fs_client.specs.May.{MayWrite, Looked, OnlyLooks}
-use Rattle.fs_client.proofs.LookLaws.{may_again}
-use Rattle.fs_client.proofs.PlaceLaws.{drop_at, drop_end}
-use Rattle.inode_fs.specs.Marked.{is_inode, MarksInode}
-use Rattle.inode_fs.specs.declared.looking.Seen.{Seen}
-use Rattle.tsd_model.specs.Pairs.{holds}
-use Rattle.inode_fs.specs.declared.marks.Marks.{Marks}
-use Rattle.inode_fs.specs.Looking.{Come, with_data, come_data, come_each, come_from, IsMarkedAs, Comes, NamesData, Noted, IsInodeSeen, names_at}
+use Rattle.inode_fs.proofs.Common.{drop, slice_index, option_and_then, has_number, DiskView, IsValidNow, Client, MayWrite, Looked, OnlyLooks, may_again, drop_at, drop_end, is_inode, MarksInode, Seen, holds, Marks, Come, with_data, come_data, come_each, come_from, IsMarkedAs, Comes, NamesData, Noted, IsInodeSeen, names_at}
 use Rattle.inode_fs.proofs.SeeLaws.{comes_none, comes_some, none_of, some_of, agrees_data, noted_on, noted_inode}
 
 -- after i of these blocks: so they are looked at, where `come` tells what the others come to

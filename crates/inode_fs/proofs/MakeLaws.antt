@@ -1,18 +1,7 @@
 -- A root that is written as an empty directory.
 use Rattle.std.proofs.Common.{◌≡◌, ℕ, ◌-◌, ◌<◌, ◌≤◌, List, [], length, refl, ◌∙◌, ap, arith, Some}
-use Rattle.std.specs.Prelude.{replicate}
-use Rattle.std.specs.Option.{option_and_then}
-use Rattle.tsd_model.specs.Geometry.{block_len}
-use Rattle.tsd_model.specs.World.{World}
-use Rattle.tsd_model.specs.Valid.{IsValid}
-use Rattle.fs_trees.specs.Names.{path_max}
-use Rattle.fs_trees.specs.Tree.{none, a_dir}
-use Rattle.fs_trees.specs.Inode.{directory, inode_in, inode_bytes}
-use Rattle.fs_trees.specs.InodeTree.{inode_at, node_by, node_at, as_root, inodes_under, tree_of}
-use Rattle.fs_trees.specs.Layouts.{by_inodes}
+use Rattle.inode_fs.proofs.Common.{replicate, option_and_then, block_len, World, IsValid, path_max, none, a_dir, directory, inode_in, inode_bytes, inode_at, node_by, node_at, as_root, inodes_under, tree_of, by_inodes, written, IsEmptied}
 use Rattle.fs_trees.specs.declared.ask.ShellKind.TheVariants as kind
-use Rattle.tsd_model.specs.Step.{written}
-use Rattle.fs_client.specs.Changing.{IsEmptied}
 use Rattle.fs_client.proofs.WriteLaws.{block_long, written_here}
 use Rattle.inode_layout.proofs.BackLaws.{reads_back}
 

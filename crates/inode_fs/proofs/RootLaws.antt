@@ -1,22 +1,7 @@
 -- What a look from the root on comes to.
 use Rattle.std.proofs.Common.{◌≡◌, ℕ, suc, Bool, true, false, not, cond, ◌&&◌, ◌||◌, ◌==◌, ◌∷◌, refl, sym, ◌∙◌, ap, subst, Option, Some, None}
-use Rattle.std.proofs.lemmas.Bool.{and_parts, and_from}
-use Rattle.std.specs.List.{list_all}
-use Rattle.tsd_model.specs.World.{World, has_number, are_apart}
-use Rattle.tsd_model.specs.Pairs.{holds}
+use Rattle.inode_fs.proofs.Common.{and_parts, and_from, list_all, World, has_number, are_apart, holds, path_max, nothing, a_file, a_dir, is_there, Inode, directory, regular, InodeNode, InodeEntries, inode_at, entries_by, as_dir, node_by, node_at, inode_blocks, data_blocks, named_pairs, inodes_under, tree_of, inode_tree, by_inodes, node_pairs, node_blocks, HasRoot, found, under_is, from_inode, any-append, all_held, is_false, not_yes, yes_not, each_in, all_in, is_inode, is_data_block, Marks, Come, come_from, come_under, nothing_yet, is_dir_in, names_at, IsMarkedAs, Comes, MarksTree, TellsTree}
 use Rattle.tsd_model.proofs.PairLaws.{all_of_held}
-use Rattle.fs_trees.specs.Names.{path_max}
-use Rattle.fs_trees.specs.Tree.{nothing, a_file, a_dir, is_there}
-use Rattle.fs_trees.specs.Inode.{Inode, directory, regular}
-use Rattle.fs_trees.specs.InodeTree.{InodeNode, InodeEntries, inode_at, entries_by, as_dir, node_by, node_at, inode_blocks, data_blocks, named_pairs, inodes_under, tree_of, inode_tree}
-use Rattle.fs_trees.specs.Layouts.{by_inodes}
-use Rattle.inode_walks.specs.Finding.{node_pairs}
-use Rattle.fs_laws.proofs.InodeLaws.{node_blocks, HasRoot, found, under_is, from_inode}
-use Rattle.fs_laws.proofs.ListLaws.{any-append, all_held}
-use Rattle.fs_client.proofs.ApartLaws.{is_false, not_yes, yes_not, each_in, all_in}
-use Rattle.inode_fs.specs.Marked.{is_inode, is_data_block}
-use Rattle.inode_fs.specs.declared.marks.Marks.{Marks}
-use Rattle.inode_fs.specs.Looking.{Come, come_from, come_under, nothing_yet, is_dir_in, names_at, IsMarkedAs, Comes, MarksTree, TellsTree}
 use Rattle.inode_fs.proofs.ComeLaws.{node_data, NodeRight, node_right}
 use Rattle.inode_fs.proofs.WrongLaws.{dir_of, NodeGood, node_wrong}
 use Rattle.inode_fs.proofs.SaysLaws.{Says, node_says}

@@ -1,20 +1,6 @@
 -- The pairs that a tree names are those from its inodes to what their blocks say.
 use Rattle.std.proofs.Common.{◌≡◌, ℕ, zero, suc, true, false, ◌||◌, ◌==◌, List, [], ◌∷◌, ◌++◌, refl, sym, ◌∙◌, ap, subst, inl, inr, Option, Some, None}
-use Rattle.std.proofs.lemmas.Bool.{and_parts, or_cases, or_left, or_right, eq-eqb, eqb-true}
-use Rattle.std.specs.Prelude.{map, is_some}
-use Rattle.tsd_model.specs.World.{World, has_number}
-use Rattle.tsd_model.specs.Pairs.{holds, is_pair}
-use Rattle.fs_trees.specs.Names.{Name}
-use Rattle.fs_trees.specs.Tree.{none, file, dir, nothing, a_file, a_dir, is_there}
-use Rattle.fs_trees.specs.Fields.{Entry}
-use Rattle.fs_trees.specs.Inode.{Inode, directory, regular}
-use Rattle.fs_trees.specs.InodeTree.{InodeNode, InodeEntries, inode_at, with_first, entries_by, as_dir, node_by, node_at, inode_blocks, data_blocks, named_pairs}
-use Rattle.inode_layout.specs.Said.{blocks_said}
-use Rattle.inode_walks.specs.Finding.{node_pairs}
-use Rattle.inode_walks.proofs.WalkLaws.{block_is, node_block}
-use Rattle.fs_laws.proofs.InodeLaws.{node_blocks}
-use Rattle.fs_laws.proofs.ListLaws.{number_left, number_right, held_left, held_right, held_append, in_append}
-use Rattle.inode_fs.specs.Looking.{blocks_in, names_at}
+use Rattle.inode_fs.proofs.Common.{and_parts, or_cases, or_left, or_right, eq-eqb, eqb-true, map, is_some, World, has_number, holds, is_pair, Name, none, file, dir, nothing, a_file, a_dir, is_there, Entry, Inode, directory, regular, InodeNode, InodeEntries, inode_at, with_first, entries_by, as_dir, node_by, node_at, inode_blocks, data_blocks, named_pairs, blocks_said, node_pairs, block_is, node_block, node_blocks, number_left, number_right, held_left, held_right, held_append, in_append, blocks_in, names_at}
 use Rattle.inode_fs.proofs.ComeLaws.{node_data}
 use Rattle.inode_fs.proofs.WrongLaws.{are_listed, fan_held, dir_of}
 

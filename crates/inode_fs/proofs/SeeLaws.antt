@@ -1,27 +1,7 @@
 -- What a look at one block more comes to.
 use Rattle.std.proofs.Common.{◌≡◌, ℕ, zero, suc, ◌<◌, Bool, true, false, cond, ◌&&◌, ◌||◌, ◌==◌, List, length, refl, sym, ◌∙◌, ap, subst, arith, inl, inr, Option, Some, None}
-use Rattle.std.proofs.lemmas.Bool.{and_parts, and_from, or_cases, or_left, eq-eqb, eqb-true}
-use Rattle.std.specs.Option.{option_and_then, option_map}
-use Rattle.tsd_model.specs.World.{World, has_number, are_apart}
-use Rattle.tsd_model.specs.Pairs.{holds}
-use Rattle.fs_trees.specs.Fields.{only_if}
-use Rattle.fs_trees.specs.Inode.{Inode, directory, regular, inode_in}
-use Rattle.fs_trees.specs.InodeTree.{inode_at}
+use Rattle.inode_fs.proofs.Common.{and_parts, and_from, or_cases, or_left, eq-eqb, eqb-true, option_and_then, option_map, World, has_number, are_apart, holds, only_if, Inode, directory, regular, inode_in, inode_at, inode_of, said_in, in_order, is_in_order, blocks_said, is_directory, in_two_steps, HoldsWrite, ways_lead_on, DiskView, state_of, IsValidNow, Stays, Client, shown_at, MayWrite, Looked, yes_no, is_false, no_or, all_in, is_inode, is_data_block, has_leftovers, MarksInode, MarksData, NoMarks, Marks, held_at, names_at, Come, is_come, with_inode, with_data, come_data, come_each, come_on, come_by, come_from, come_as, is_dir_in, nothing_yet, IsMarkedAs, Comes, NamesData, Noted}
 use Rattle.inode_layout.specs.declared.inode.Inode as block
-use Rattle.inode_layout.specs.Block.{inode_of}
-use Rattle.inode_layout.specs.Said.{said_in, in_order, is_in_order, blocks_said, is_directory}
-use Rattle.inode_layout.proofs.SaidLaws.{in_two_steps}
-use Rattle.fs_laws.specs.Ways.{HoldsWrite}
-use Rattle.fs_laws.proofs.WayLaws.{ways_lead_on}
-use Rattle.fs_port.specs.View.{DiskView, state_of}
-use Rattle.fs_port.specs.Calls.{IsValidNow, Stays}
-use Rattle.fs_client.specs.declared.client.Client.{Client}
-use Rattle.fs_client.specs.Client.{shown_at}
-use Rattle.fs_client.specs.May.{MayWrite, Looked}
-use Rattle.fs_client.proofs.ApartLaws.{yes_no, is_false, no_or, all_in}
-use Rattle.inode_fs.specs.Marked.{is_inode, is_data_block, has_leftovers, MarksInode, MarksData, NoMarks}
-use Rattle.inode_fs.specs.declared.marks.Marks.{Marks}
-use Rattle.inode_fs.specs.Looking.{held_at, names_at, Come, is_come, with_inode, with_data, come_data, come_each, come_on, come_by, come_from, come_as, is_dir_in, nothing_yet, IsMarkedAs, Comes, NamesData, Noted}
 use Rattle.inode_fs.proofs.ComeLaws.{held_is}
 
 -- ---- what a block is read as

@@ -1,28 +1,9 @@
 -- An inode that is right by itself.
-use Rattle.std.proofs.Common.{◌≡◌, ◌≢◌, ℕ, zero, suc, ◌≤◌, Bool, true, false, not, cond, ◌==◌, List, [], ◌∷◌, length, refl, sym, ◌∙◌, ap, arith, ◌⊎◌, inl, inr, Option, Some, None, nat_lt}
-use Rattle.std.proofs.lemmas.Bool.{or_cases, eqb-true}
+use Rattle.std.proofs.Common.{◌≡◌, ◌≢◌, ℕ, zero, suc, ◌≤◌, Bool, true, false, not, cond, ◌==◌, List, [], ◌∷◌, length, refl, sym, ◌∙◌, ap, arith, ◌⊎◌, inl, inr, Option, Some, None, Ok, Err, nat_lt}
+use Rattle.inode_fs.proofs.Common.{or_cases, eqb-true, filter, option_and_then, block_len, World, contents, has_number, holds, IsValid, only_if, Inode, inode_in, inode_at, inode_of, blocks_said, HoldsWrite, DiskView, state_of, Client, targets_of, named_targets, other_targets, is_false, yes_no, Seen, are_held, if_held, held_at, blocks_in, IsInodeSeen, FsRefusal, OnlyLooks, looks_as, looks_refused, then_looks}
 use Rattle.std.proofs.lemmas.Bool.Decides.{nat_tests}
-use Rattle.std.specs.Prelude.{filter}
-use Rattle.std.specs.Option.{option_and_then}
-use Rattle.tsd_model.specs.Geometry.{block_len}
-use Rattle.tsd_model.specs.World.{World, contents, has_number}
-use Rattle.tsd_model.specs.Pairs.{holds}
-use Rattle.tsd_model.specs.Valid.{IsValid}
-use Rattle.fs_trees.specs.Fields.{only_if}
-use Rattle.fs_trees.specs.Inode.{Inode, inode_in}
-use Rattle.fs_trees.specs.InodeTree.{inode_at}
-use Rattle.inode_layout.specs.Block.{inode_of}
-use Rattle.inode_layout.specs.Said.{blocks_said}
 use Rattle.inode_walks.proofs.ReadLaws.{block_full, block_long}
-use Rattle.fs_laws.specs.Ways.{HoldsWrite}
-use Rattle.fs_port.specs.View.{DiskView, state_of}
-use Rattle.fs_client.specs.declared.client.Client.{Client}
-use Rattle.fs_client.specs.Leftovers.{targets_of, named_targets, other_targets}
-use Rattle.fs_client.proofs.ApartLaws.{is_false, yes_no}
 use Rattle.fs_client.proofs.CountLaws.{in_targets, counted_held, held_counted}
-use Rattle.inode_fs.specs.declared.looking.Seen.{Seen}
-use Rattle.fs_client.specs.Held.{are_held}
-use Rattle.inode_fs.specs.Looking.{if_held, held_at, blocks_in, IsInodeSeen}
 use Rattle.inode_fs.proofs.ComeLaws.{is_held}
 
 -- where no pair leads elsewhere
@@ -73,3 +54,12 @@ is_seen c old new b seen n at is held counts others = record {
   held = held;
   others = λ none d h. ap (λ o. has_number (blocks_in o) d) at ∙ no_others old.world b (blocks_said (inode_of seen.found.inode)) (sym counts ∙ none_if n (sym others ∙ none)) d h;
 }
+
+-- ---- a block was looked at, and then its pairs were counted
+
+module _ {X : Type 0} {told : Type 0} {old mid new : DiskView} {x : X} (first : OnlyLooks told old mid (Ok x)) where
+  pub then_lost : {Y Z : Type 0} {e : FsRefusal} → OnlyLooks {X = Y} told mid new (Err e) → OnlyLooks {X = Z} told old new (Err e)
+  then_lost {e = e} second = then_looks told old mid new x (Err e) first (looks_refused told mid new e second)
+
+  pub then_as : {Y Z : Type 0} {y : Y} (z : Z) → OnlyLooks told mid new (Ok y) → OnlyLooks told old new (Ok z)
+  then_as {y = y} z second = then_looks told old mid new x (Ok z) first (looks_as told mid new y z second)

@@ -1,36 +1,14 @@
 -- Marked blocks let go of what they don't name.
-use Rattle.std.proofs.Common.{◌≡◌, ◌⊎◌, ℕ, ◌+◌, ◌<◌, ◌≤◌, true, false, List, [], refl, sym, ◌∙◌, ap, subst, arith, inl, inr, Ok}
-use Rattle.std.proofs.lemmas.Bool.{and_parts, and_from, or_cases, or_left, or_right, cases_lt}
-use Rattle.std.specs.Prelude.{is_some}
-use Rattle.std.specs.Option.{option_and_then}
-use Rattle.tsd_model.specs.Geometry.{block_len}
-use Rattle.tsd_model.specs.World.{World, contents, has_number}
-use Rattle.tsd_model.specs.Pairs.{holds}
-use Rattle.tsd_model.specs.Valid.{IsValid}
+use Rattle.std.proofs.Common.{◌≡◌, ◌⊎◌, ℕ, ◌+◌, ◌<◌, ◌≤◌, true, false, List, [], refl, sym, ◌∙◌, ap, subst, arith, inl, inr, Some, Result, Ok, Err}
+use Rattle.inode_fs.proofs.Common.{and_parts, and_from, or_cases, or_left, or_right, cases_lt, is_some, option_and_then, block_len, World, contents, has_number, holds, IsValid, is_there, inode_in, inode_at, Named, named_at, ways_lead_on, DiskView, state_of, IsDiskSound, Client, shown_at, MayWrite, IsWay, MayTrim, Trimmed, Trims, IsClean, ready_still, mounted_by, is_false, yes_no, root_may, is_inode, is_data_block, has_leftovers, Marks, blocks_in, names_at, Noted, MarksTree, IfErr, OnOk, FsRefusal, OnlyLooks, MayDelete, OnlyNamed, Found, inode_of, blocks_said, no_look, on_ok, trims_by_looks, trims_refused, then_trims, delete_still}
 use Rattle.disk_laws.proofs.DoomLaws.{live_below}
-use Rattle.fs_trees.specs.Tree.{is_there}
-use Rattle.fs_trees.specs.Inode.{inode_in}
-use Rattle.fs_trees.specs.InodeTree.{inode_at}
-use Rattle.fs_trees.specs.Layouts.{Named, named_at}
 use Rattle.fs_trees.specs.declared.ask.ShellKind.TheVariants as kind
+use Rattle.fs_trees.specs.declared.refusal.FsRefusal.TheVariants as no
 use Rattle.fs_laws.specs.Reading.{SameTree}
 use Rattle.fs_laws.specs.Stays.{IsUnder, Keeps}
 use Rattle.fs_laws.proofs.NamedLaws.{each_named}
 use Rattle.fs_laws.proofs.TreeLaws.{named_is_under}
-use Rattle.fs_laws.proofs.WayLaws.{ways_lead_on}
-use Rattle.fs_port.specs.View.{DiskView, state_of, IsDiskSound}
-use Rattle.fs_client.specs.declared.client.Client.{Client}
-use Rattle.fs_client.specs.Client.{shown_at}
-use Rattle.fs_client.specs.May.{MayWrite}
-use Rattle.fs_client.specs.Trimming.{IsWay, MayTrim, Trimmed, Trims, IsClean}
-use Rattle.fs_client.proofs.RunLaws.{ready_still}
 use Rattle.fs_client.proofs.TidyLaws.{both_ways, same_tree, still_clean}
-use Rattle.inode_walks.specs.Asking.{mounted_by}
-use Rattle.fs_client.proofs.ApartLaws.{is_false, yes_no}
-use Rattle.fs_client.proofs.RootLaws.{root_may}
-use Rattle.inode_fs.specs.Marked.{is_inode, is_data_block, has_leftovers}
-use Rattle.inode_fs.specs.declared.marks.Marks.{Marks}
-use Rattle.inode_fs.specs.Looking.{blocks_in, names_at, Noted, MarksTree}
 use Rattle.inode_fs.specs.Tidying.{MayTidy}
 
 -- ---- marks stay what they are
@@ -146,6 +124,45 @@ module _ (c : Client) (n : Named) (v : DiskView) (m : Marks) (named : n ≡ name
 
 pub clean_data : (n : Named) (w : World) (a : ℕ) → ((b : ℕ) → holds w.pairs a b ≡ true → has_number [] b ≡ true) → IsClean n w a
 clean_data n w a only k b held = absurd (yes_no false (only b held) refl)
+
+-- ---- a block lets go
+
+module _ {told : Type 0} {c : Client} {n : Named} {v : DiskView} {m : Marks} (may : MayTidy told c n v m) (sound : told → v.spent ≡ false → IsDiskSound v) where
+  sound_here : told → IsDiskSound v
+  sound_here t = sound t may.ready.unspent
+
+  look_trims : {X : Type 0} {mid : DiskView} {r : Result X FsRefusal} → OnlyLooks told v mid r → (told → IfErr r (λ e. e ≡ no.Device)) → Trims told c n v mid r
+  look_trims {mid = mid} {r = r} looks only = trims_by_looks told c n v mid r may.valid (λ t. under told c n v m t may (sound_here t)) only looks
+
+  -- nothing is deleted
+  pub no_trims : Trims {X = Unit {0}} told c n v v (Ok tt)
+  no_trims = look_trims (no_look told v may.ready.unspent sound_here may.valid) (λ t. tt)
+
+  -- the read was refused
+  pub lost_trims : {X : Type 0} {mid : DiskView} {e : FsRefusal} → OnlyLooks {X = X} told v mid (Err e) → (told → e ≡ no.Device) → Trims {X = Unit {0}} told c n v mid (Err e)
+  lost_trims {mid = mid} {e = e} looks only = trims_refused told c n v mid e (look_trims looks only)
+
+  module _ (b : ℕ) (one : is_inode m b ≡ true) where
+    pub inode_may : told → MayWrite c v b
+    inode_may t = may_named told c n v m t may (sound_here t) b (inode_named_here told c n v m t may (sound_here t) b one)
+
+    -- an inode was read
+    module _ {mid : DiskView} {found : Found} (looks : OnlyLooks told v mid (Ok found)) (says : told → inode_at v.world b ≡ Some (inode_of found.inode)) where
+      pub inode_deletes : MayDelete told c n mid b (blocks_said (inode_of found.inode))
+      inode_deletes = delete_still told c n v mid b (blocks_said (inode_of found.inode)) found
+          (record { unspent = may.ready.unspent; valid = may.valid; trim = λ t. trim_inode told c n v m t may (sound_here t) b one (blocks_said (inode_of found.inode)) (ap blocks_in (says t)) })
+          (look_trims looks (λ t. tt))
+
+      module _ {new : DiskView} {r : Result (Unit {0}) FsRefusal} (after : Trims told c n mid new r) where
+        pub inode_trims : Trims told c n v new r
+        inode_trims = then_trims told c n v mid new found r (look_trims looks (λ t. tt)) after
+
+        pub inode_cleans : (told → OnOk r (OnlyNamed new.world b (blocks_said (inode_of found.inode)))) → told → OnOk r (IsClean n new.world b)
+        inode_cleans only t = on_ok (OnlyNamed new.world b (blocks_said (inode_of found.inode))) (IsClean n new.world b) r
+            (clean_inode c n v m (may.named t) (may.marked t) (may.noted t) b one (blocks_said (inode_of found.inode)) (ap blocks_in (says t)) new.world) (only t)
+
+  pub data_deletes : {b : ℕ} → is_inode m b ≡ false → is_data_block m b ≡ true → MayDelete told c n v b []
+  data_deletes {b} off two = record { unspent = may.ready.unspent; valid = may.valid; trim = λ t. trim_data told c n v m t may (sound_here t) b off two }
 
 -- ---- block after block
 

@@ -1,23 +1,6 @@
 -- Where a look comes to nothing, there is no tree.
 use Rattle.std.proofs.Common.{◌≡◌, ℕ, zero, suc, Bool, true, false, cond, ◌==◌, List, [], ◌∷◌, ◌++◌, refl, sym, ◌∙◌, ap, subst, inl, inr, Option, Some, None}
-use Rattle.std.proofs.lemmas.Bool.{and_from, or_cases, or_left, or_right, eq-eqb, eqb-true}
-use Rattle.std.specs.Prelude.{map}
-use Rattle.std.specs.Option.{option_and_then}
-use Rattle.tsd_model.specs.World.{World, has_number, are_apart}
-use Rattle.tsd_model.specs.Pairs.{holds, is_pair}
-use Rattle.fs_trees.specs.Names.{Name}
-use Rattle.fs_trees.specs.Tree.{file, dir, nothing, a_file, a_dir, is_there}
-use Rattle.fs_trees.specs.Fields.{Entry}
-use Rattle.fs_trees.specs.Inode.{Inode, directory, regular}
-use Rattle.fs_trees.specs.InodeTree.{InodeNode, InodeEntries, inode_at, with_first, entries_by, as_dir, node_by, node_at, inode_blocks, data_blocks, named_pairs}
-use Rattle.inode_layout.specs.Said.{blocks_said}
-use Rattle.inode_walks.specs.Finding.{node_pairs}
-use Rattle.inode_walks.proofs.WalkLaws.{block_is, node_block}
-use Rattle.fs_laws.proofs.InodeLaws.{node_blocks}
-use Rattle.fs_laws.proofs.ListLaws.{number_right, held_left, held_right}
-use Rattle.fs_client.proofs.ApartLaws.{yes_no, is_false, apart_first, apart_with, each_in}
-use Rattle.fs_client.specs.Held.{are_held}
-use Rattle.inode_fs.specs.Looking.{Come, is_come, with_inode, come_each, come_on, come_by, come_from, held_at}
+use Rattle.inode_fs.proofs.Common.{and_from, or_cases, or_left, or_right, eq-eqb, eqb-true, map, option_and_then, World, has_number, are_apart, holds, is_pair, Name, file, dir, nothing, a_file, a_dir, is_there, Entry, Inode, directory, regular, InodeNode, InodeEntries, inode_at, with_first, entries_by, as_dir, node_by, node_at, inode_blocks, data_blocks, named_pairs, blocks_said, node_pairs, block_is, node_block, node_blocks, number_right, held_left, held_right, yes_no, is_false, apart_first, apart_with, each_in, are_held, Come, is_come, with_inode, come_each, come_on, come_by, come_from, held_at}
 use Rattle.inode_fs.proofs.FitLaws.{apart_right, Fits, Adds, adds_one, first_fits, second_fits}
 use Rattle.inode_fs.proofs.ComeLaws.{node_data, file_apart, held_is, is_held, data_wrong, NodeRight, node_right}
 

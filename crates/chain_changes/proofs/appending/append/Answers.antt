@@ -1,21 +1,27 @@
 use Rattle.std.proofs.Common.{◌≡◌, ◌<◌, ◌≤◌, Bool, true, false, [], length, refl, sym, subst, Ok, Err}
-use Rattle.tsd_model.specs.World.{free_count}
-use Rattle.fs_trees.specs.Needs.{need_of}
-use Rattle.fs_trees.specs.Answer.{done}
+use Rattle.chain_changes.proofs.Common.{free_count, need_of, done, Answers, looks_as, looks_refused, then_looks, Changes, ask_done, looks_change, OnlyLooks, tree_under, mounted_by, IsLastOf}
 use Rattle.fs_trees.specs.declared.ask.ShellAsk.TheVariants as ask
 use Rattle.fs_trees.specs.declared.ask.ShellKind.TheVariants as kind
-use Rattle.fs_port.specs.Files.{Answers}
-use Rattle.fs_client.proofs.LookLaws.{looks_as, looks_refused, then_looks}
-use Rattle.fs_port.specs.Runs.{Changes}
-use Rattle.fs_client.proofs.AskLaws.{ask_refuses, ask_done}
-use Rattle.fs_client.proofs.RunLaws.{looks_change}
-use Rattle.fs_client.proofs.AgainLaws.{answers_again, changes_again}
-use Rattle.chain_reading.specs.Asking.{tree_under, mounted_by}
-use Rattle.chain_changes.specs.Growing.{IsLastOf}
 use Rattle.chain_changes.proofs.GrowthLaws.{append_lost}
 use Rattle.chain_changes.proofs.AppendLaws.{nothing_needed, nothing_added, some_bytes}
 use Rattle.chain_changes.proofs.AgainLaws.{may_ask_again, last_of_file}
+use Rattle.chain_changes.proofs.WritingLaws.{looks_ends, ends_again}
+use Rattle.chain_changes.proofs.appending.append.Goals.{In-Ok-last_part}
 use Rattle.chain_changes.proofs.appending.append.Goals as goal
+
+not_both : (b : Bool) → b ≡ true → b ≡ false → ⊥
+not_both b p q = cc
+
+-- the last cluster was read, and nothing has changed
+looked : (g : _) (c : In-Ok-last_part g) → OnlyLooks g.K.Blocks.told (g.K.Blocks.view c.args.disk.now) (g.K.Blocks.view c.last_part.new.disk) (Ok c.in-Ok-last_part.last)
+looked g c = then_looks g.K.Blocks.told (g.K.Blocks.view c.args.disk.now) (g.K.Blocks.view c.find_file.new.disk) (g.K.Blocks.view c.last_part.new.disk) c.in-Ok.first (Ok c.in-Ok-last_part.last) c.in-Ok.ensures.looks c.in-Ok-last_part.ensures.looks
+
+-- it is that of the file
+is_last : (g : _) (c : In-Ok-last_part g) → g.K.Blocks.told → IsLastOf c.args.client.now (g.K.Blocks.view c.last_part.new.disk) c.args.path.now c.in-Ok-last_part.last
+is_last g c t =
+    let f = c.in-Ok.ensures.found t in
+    let h = c.in-Ok-last_part.ensures in
+    last_of_file c.args.client.now (g.K.Blocks.view c.find_file.new.disk) (g.K.Blocks.view c.last_part.new.disk) c.args.path.now c.in-Ok.first c.in-Ok-last_part.last f (h.looks.looked t).0.world (h.last t f.file.chain f.ahead)
 
 pub find_file-requires : goal.find_file-requires
 find_file-requires g c = record { may = c.requires.may }
@@ -30,15 +36,11 @@ returns-in-Err g c =
     let x = c.args.bytes.now in
     let e = c.in-Err.ensures in
     let r = c.in-Err.refusal in
-    let a = ask.Append path x in
     let t0 = tree_under me first in
-    record {
-      answer = λ t. ask_refuses (mounted_by me) first mid a (λ _ answer. answer ≡ done) r
-          (λ ne. append_lost first.world.geometry t0 (free_count first.world) (length first.world.pairs) (need_of kind.Chain first.world me.root t0 a) path x r (c.requires.may.tree t) (e.refused t ne))
-          (λ ne. ((e.looks.looked t).1 ne).world);
-      changes = looks_change told (mounted_by me) first mid a (Err r) (λ t. (c.requires.may.valid t).valid) (looks_refused told first mid r e.looks);
-      idle = λ none. (looks_refused told first mid r e.looks);
-    }
+    let looks = looks_refused told first mid r e.looks in
+    let ends = looks_ends told me first mid (ask.Append path x) (λ t. (c.requires.may.valid t).valid) r
+    (λ t ne. append_lost first.world.geometry t0 (free_count first.world) (length first.world.pairs) (need_of kind.Chain first.world me.root t0 (ask.Append path x)) path x r (c.requires.may.tree t) (e.refused t ne)) looks in
+    record { answer = ends.answer; changes = ends.changes; idle = λ none. looks }
 
 pub returns-then-is_empty : goal.returns-then-is_empty
 returns-then-is_empty g c =
@@ -77,60 +79,32 @@ returns-in-Err-last_part g c =
     let first = g.K.Blocks.view c.args.disk.now in
     let mid = g.K.Blocks.view c.find_file.new.disk in
     let rd = g.K.Blocks.view c.last_part.new.disk in
-    let me = c.args.client.now in
-    let a = ask.Append c.args.path.now c.args.bytes.now in
-    let e = c.in-Ok.ensures in
     let h = c.in-Err-last_part.ensures in
     let r = c.in-Err-last_part.refusal in
-    record {
-      answer = λ t. ask_refuses (mounted_by me) first rd a (λ _ answer. answer ≡ done) r (λ ne. absurd (ne (h.only t))) (λ ne. absurd (ne (h.only t)));
-      changes = looks_change told (mounted_by me) first rd a (Err r) (λ t. (c.requires.may.valid t).valid) (then_looks told first mid rd c.in-Ok.first (Err r) e.looks (looks_refused told mid rd r h.looks));
-      idle = λ none. (then_looks told first mid rd c.in-Ok.first (Err r) e.looks (looks_refused told mid rd r h.looks));
-    }
-
-not_both : (b : Bool) → b ≡ true → b ≡ false → ⊥
-not_both b p q = cc
+    let looks = then_looks told first mid rd c.in-Ok.first (Err r) c.in-Ok.ensures.looks (looks_refused told mid rd r h.looks) in
+    let ends = looks_ends told c.args.client.now first rd (ask.Append c.args.path.now c.args.bytes.now) (λ t. (c.requires.may.valid t).valid) r (λ t ne. absurd (ne (h.only t))) looks in
+    record { answer = ends.answer; changes = ends.changes; idle = λ none. looks }
 
 pub grow-requires : goal.grow-requires
 grow-requires g c =
-    let told = g.K.Blocks.told in
-    let first = g.K.Blocks.view c.args.disk.now in
-    let mid = g.K.Blocks.view c.find_file.new.disk in
-    let rd = g.K.Blocks.view c.last_part.new.disk in
-    let me = c.args.client.now in
-    let path = c.args.path.now in
+    let at = (goal.at.grow-requires g c).In-Ok-last_part in
     let x = c.args.bytes.now in
-    let part = c.in-Ok-last_part.last in
-    let e = c.in-Ok.ensures in
-    let h = c.in-Ok-last_part.ensures in
-    let looks = then_looks told first mid rd c.in-Ok.first (Ok part) e.looks h.looks in
     record {
-      may = may_ask_again told me first rd part looks c.requires.may;
-      last = λ t. let f = e.found t in (path, last_of_file me mid rd path c.in-Ok.first part f (h.looks.looked t).0.world (h.last t f.file.chain f.ahead));
+      may = may_ask_again g.K.Blocks.told c.args.client.now (g.K.Blocks.view c.args.disk.now) (g.K.Blocks.view c.last_part.new.disk) c.in-Ok-last_part.last (looked g at) c.requires.may;
+      last = λ t. (c.args.path.now, is_last g at t);
       some = subst (λ y. 0 < length y) (sym c.as_slice.ensures.value) (some_bytes x (λ none. not_both c.is_empty.result (c.is_empty.ensures.1 none) c.if-is_empty.false));
       small = subst (λ y. length y ≤ 4096) (sym c.as_slice.ensures.value) c.as_slice.ensures.fits;
     }
 
 pub returns : goal.returns
 returns g c =
-    let told = g.K.Blocks.told in
-    let first = g.K.Blocks.view c.args.disk.now in
-    let mid = g.K.Blocks.view c.find_file.new.disk in
+    let at = (goal.at.returns g c).In-Ok-last_part in
+    let f = mounted_by c.args.client.now in
     let rd = g.K.Blocks.view c.last_part.new.disk in
     let fin = g.K.Blocks.view c.grow.new.disk in
-    let me = c.args.client.now in
     let path = c.args.path.now in
-    let x = c.args.bytes.now in
-    let a = ask.Append path x in
-    let part = c.in-Ok-last_part.last in
-    let e = c.in-Ok.ensures in
-    let h = c.in-Ok-last_part.ensures in
-    let looks = then_looks told first mid rd c.in-Ok.first (Ok part) e.looks h.looks in
-    let last : told → IsLastOf me rd path part = λ t. let f = e.found t in last_of_file me mid rd path c.in-Ok.first part f (h.looks.looked t).0.world (h.last t f.file.chain f.ahead) in
-    record {
-      answer = λ t. answers_again (mounted_by me) first rd a (looks.looked t).0.world fin c.grow.result (λ _ answer. answer ≡ done)
-          (subst (λ y. Answers {X = Unit {0}} (mounted_by me) rd fin (ask.Append path y) c.grow.result (λ _ answer. answer ≡ done)) c.as_slice.ensures.value (c.grow.ensures.answer t path (last t)));
-      changes = changes_again told (mounted_by me) first rd fin a part c.grow.result (λ t. (c.requires.may.valid t).valid) looks
-          (subst (λ y. Changes {X = Unit {0}} told (mounted_by me) rd fin (ask.Append path y) c.grow.result) c.as_slice.ensures.value (c.grow.ensures.changes path last));
-      idle = λ none. absurd (not_both c.is_empty.result (c.is_empty.ensures.1 none) c.if-is_empty.false);
-    }
+    let r = c.grow.result in
+    let ends = ends_again (λ (t : g.K.Blocks.told). (c.requires.may.valid t).valid) (looked g at)
+    (λ t. subst (λ y. Answers {X = Unit {0}} f rd fin (ask.Append path y) r (λ _ answer. answer ≡ done)) c.as_slice.ensures.value (c.grow.ensures.answer t path (is_last g at t)))
+    (subst (λ y. Changes {X = Unit {0}} g.K.Blocks.told f rd fin (ask.Append path y) r) c.as_slice.ensures.value (c.grow.ensures.changes path (is_last g at))) in
+    record { answer = ends.answer; changes = ends.changes; idle = λ none. absurd (not_both c.is_empty.result (c.is_empty.ensures.1 none) c.if-is_empty.false) }

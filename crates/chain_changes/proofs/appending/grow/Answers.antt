@@ -1,32 +1,32 @@
-use Rattle.std.proofs.Common.{◌≡◌, ◌≢◌, ℕ, ◌-◌, ◌^◌, ◌<◌, ◌≤◌, min, ◌++◌, length, refl, sym, ◌∙◌, ap, subst, arith, Ok, Err}
-use Rattle.std.specs.Prelude.{take, drop}
-use Rattle.tsd_model.specs.Geometry.{block_len}
-use Rattle.fs_trees.specs.Cluster.{bytes_room, link_field, part_bytes}
-use Rattle.fs_trees.specs.Answer.{done}
-use Rattle.fs_trees.specs.Names.{Path}
-use Rattle.fs_trees.specs.Needs.{need}
+use Rattle.std.proofs.Common.{◌≡◌, ◌≢◌, ℕ, ◌-◌, ◌^◌, ◌<◌, ◌≤◌, min, ◌++◌, length, sym, ◌∙◌, ap, subst, arith, Err}
+use Rattle.chain_changes.proofs.Common.{take, block_len, bytes_room, link_field, part_bytes, Path, no_look, looks_but_refuses, looks_change, block_len_of, part_cluster, part_in, mounted_by, first_block, IsLastOf}
 use Rattle.fs_trees.specs.declared.ask.ShellAsk.TheVariants as ask
 use Rattle.fs_trees.specs.declared.refusal.FsRefusal.TheVariants as no
-use Rattle.fs_port.specs.Files.{IsEitherTree, KeepsRoom}
-use Rattle.fs_client.specs.Client.{write_by}
-use Rattle.fs_client.proofs.LookLaws.{no_look, looks_but_refuses}
-use Rattle.tsd_model.specs.Step.{written}
-use Rattle.fs_client.specs.Steps.{Steps, no_room_in}
-use Rattle.fs_client.proofs.KeepLaws.{no_more_room, write_takes}
-use Rattle.fs_client.proofs.AskLaws.{ask_refuses}
-use Rattle.fs_client.proofs.RunLaws.{runs_step, runs_more, runs_refused, then_runs, changes_of, looks_change, leaves_same}
-use Rattle.chain_layout.specs.Block.{block_len_of}
-use Rattle.chain_layout.specs.Held.{part_cluster, part_in}
-use Rattle.chain_reading.specs.Asking.{mounted_by}
-use Rattle.chain_changes.specs.Making.{IsAside}
-use Rattle.tsd_model.specs.Placing.{first_block}
 use Rattle.chain_changes.proofs.FileLaws.{long_room}
 use Rattle.chain_changes.proofs.WriteLaws.{first_linked}
-use Rattle.chain_changes.specs.Growing.{IsLastOf, clusters_more, NewTail}
-use Rattle.chain_changes.proofs.TakenLaws.{tail_takes}
-use Rattle.chain_changes.proofs.AfterLaws.{Decided, None_loose, decided_answers, decided_leaves}
-use Rattle.chain_changes.proofs.GrowthLaws.{aside_either, stage, more_is, refused_is, grow_fits, grow_may, grow_decided, grow_stop}
+use Rattle.chain_changes.proofs.GrowthLaws.{stage, Parted, grow_refused, grow_writes}
+use Rattle.chain_changes.proofs.WritingLaws.{writing_as, write_fails, write_decides}
+use Rattle.chain_changes.proofs.appending.grow.Goals.{After-parts, After-file_part-part}
 use Rattle.chain_changes.proofs.appending.grow.Goals as goal
+
+-- what the last cluster takes, and what is left for further ones
+parted : (g : _) (c : After-parts g) (path : Path) → (g.K.Blocks.told → IsLastOf c.args.client.now (g.K.Blocks.view c.args.disk.now) path c.args.last.now)
+    → Parted g.K.Blocks.told c.args.client.now (g.K.Blocks.view c.args.disk.now) path c.args.bytes.now c.args.last.now c.block_len-len.result (min c.room_left.result (length c.args.bytes.now)) c.parts.result.1.now
+parted g c path last = record {
+  last = last;
+  valid = λ t. (c.requires.may.valid t).valid;
+  primary = λ t. subst (λ y. c.args.client.now.root < y.primaries) (sym (g.met.K.Blocks.sound c.args.disk.now t c.requires.may.ready.unspent).geometry) c.requires.may.ready.primary;
+  some = c.requires.some;
+  taken_is = ap (λ n. min n (length c.args.bytes.now)) c.room_left.ensures;
+  len_is = c.block_len-len.ensures.value ∙ ap block_len_of c.cluster.ensures;
+  rest_is = c.parts.ensures.rest;
+}
+
+-- the bytes that are written to the last cluster
+bytes_are : (g : _) (c : After-file_part-part g) → c.file_part-part.result ≡ part_bytes (first_block c.in-Ok.blocks) (part_in c.args.last.now.cluster ++ take (min c.room_left.result (length c.args.bytes.now)) c.args.bytes.now)
+bytes_are g c =
+    c.file_part-part.ensures ∙ (ap (λ n. part_bytes n (c.bytes.result.now ++ c.parts.result.0.now)) (c.first_block-next.ensures ∙ ap first_block c.as_slice.ensures.value)
+    ∙ (ap (λ y. part_bytes (first_block c.in-Ok.blocks) (y ++ c.parts.result.0.now)) c.bytes.ensures.value ∙ ap (λ y. part_bytes (first_block c.in-Ok.blocks) (part_in c.args.last.now.cluster ++ y)) c.parts.ensures.here))
 
 pub bytes_room-requires : goal.bytes_room-requires
 bytes_room-requires g c = c.block_len-len.ensures.whole
@@ -72,32 +72,10 @@ new_tail-requires g c =
 
 pub returns-in-Err : goal.returns-in-Err
 returns-in-Err g c =
-    let told = g.K.Blocks.told in
-    let me = c.args.client.now in
-    let first = g.K.Blocks.view c.args.disk.now in
-    let x = c.args.bytes.now in
-    let part = c.args.last.now in
-    let len = c.block_len-len.result in
-    let taken = min c.room_left.result (length x) in
-    let mid = g.K.Blocks.view c.new_tail.new.disk in
     let e = c.in-Err.ensures in
-    let r = c.in-Err.refusal in
-    record {
-      answer = λ t path last.
-          let whole = last.last.read.read.whole in
-          let is : taken ≡ min (bytes_room (block_len first.world.geometry) - length (part_in part.cluster)) (length x) = ap (λ n. min n (length x)) (c.room_left.ensures ∙ ap (λ n. bytes_room n - length (part_in part.cluster)) whole) in
-          let primary = subst (λ y. me.root < y.primaries) (sym (g.met.K.Blocks.sound c.args.disk.now t c.requires.may.ready.unspent).geometry) c.requires.may.ready.primary in
-          let by_len : len ≡ block_len first.world.geometry = c.block_len-len.ensures.value ∙ (ap block_len_of c.cluster.ensures ∙ whole) in
-          let more : clusters_more len c.parts.result.1.now ≡ clusters_more (block_len first.world.geometry) (drop taken x) = ap (λ n. clusters_more n c.parts.result.1.now) by_len ∙ ap (clusters_more (block_len first.world.geometry)) c.parts.ensures.rest in
-          ask_refuses (mounted_by me) first mid (ask.Append path x) (λ _ answer. answer ≡ done) r
-          (λ ne. refused_is me first path x part last (c.requires.may.valid t).valid primary taken is c.requires.some ∙ (ap (λ n. no_room_in first.world n n) (sym more) ∙ e.full t ne))
-          (λ ne. e.same t ne);
-      changes = λ path last.
-          let a = ask.Append path x in
-          let P = IsEitherTree (mounted_by me) first a in
-          changes_of told (mounted_by me) refl first mid a (Err r) (λ t. tt) (λ t. (tt, λ ne. leaves_same (mounted_by me) first mid (e.same t ne) (e.runs.unspent.1 ne)))
-          (runs_refused told first mid P r (runs_more told first mid (IsAside me.root first.world) P (Err r) (λ t w aside. aside_either me first a w aside) e.runs));
-    }
+    let ends = λ (path : Path) (last : g.K.Blocks.told → IsLastOf c.args.client.now (g.K.Blocks.view c.args.disk.now) path c.args.last.now).
+    grow_refused (parted g (goal.at.returns-in-Err g c).After-parts path last) (g.K.Blocks.view c.new_tail.new.disk) c.in-Err.refusal e.full e.same e.runs in
+    record { answer = λ t path last. (ends path (λ _. last)).answer t; changes = λ path last. (ends path last).changes }
 
 pub file_part-part-requires : goal.file_part-part-requires
 file_part-part-requires g c =
@@ -119,114 +97,28 @@ file_part-part-requires g c =
 
 pub write_block-requires : goal.write_block-requires
 write_block-requires g c =
-    let me = c.args.client.now in
-    let first = g.K.Blocks.view c.args.disk.now in
-    let x = c.args.bytes.now in
-    let part = c.args.last.now in
-    let taken = min c.room_left.result (length x) in
-    let mid = g.K.Blocks.view c.new_tail.new.disk in
     let e = c.in-Ok.ensures in
-    let blocks = c.in-Ok.blocks in
-    let next_is = c.first_block-next.ensures ∙ ap first_block c.as_slice.ensures.value in
-    let bytes_are : c.file_part-part.result ≡ part_bytes (first_block blocks) (part_in part.cluster ++ take taken x) =
-    c.file_part-part.ensures ∙ (ap (λ n. part_bytes n (c.bytes.result.now ++ c.parts.result.0.now)) next_is
-    ∙ (ap (λ y. part_bytes (first_block blocks) (y ++ c.parts.result.0.now)) c.bytes.ensures.value ∙ ap (λ y. part_bytes (first_block blocks) (part_in part.cluster ++ y)) c.parts.ensures.here)) in
-    record {
-      unspent = e.runs.unspent.0;
-      valid = λ t. (e.runs.valid t).0;
-      may = λ t.
-          let last = (c.requires.last t).1 in
-          let is : taken ≡ min (bytes_room (block_len first.world.geometry) - length (part_in part.cluster)) (length x) = ap (λ n. min n (length x)) (c.room_left.ensures ∙ ap (λ n. bytes_room n - length (part_in part.cluster)) last.last.read.read.whole) in
-          let primary = subst (λ y. me.root < y.primaries) (sym (g.met.K.Blocks.sound c.args.disk.now t c.requires.may.ready.unspent).geometry) c.requires.may.ready.primary in
-          grow_may me first (c.requires.last t).0 x part last (c.requires.may.valid t).valid primary taken is c.requires.some mid blocks e.linkable (subst (λ y. NewTail me first mid part.block y blocks) c.parts.ensures.rest (e.made t));
-      fits = λ t.
-          let last = (c.requires.last t).1 in
-          let is : taken ≡ min (bytes_room (block_len first.world.geometry) - length (part_in part.cluster)) (length x) = ap (λ n. min n (length x)) (c.room_left.ensures ∙ ap (λ n. bytes_room n - length (part_in part.cluster)) last.last.read.read.whole) in
-          let primary = subst (λ y. me.root < y.primaries) (sym (g.met.K.Blocks.sound c.args.disk.now t c.requires.may.ready.unspent).geometry) c.requires.may.ready.primary in
-          subst (λ y. length y ≤ block_len mid.world.geometry) (sym bytes_are)
-          (grow_fits me first (c.requires.last t).0 x part last (c.requires.may.valid t).valid primary taken is c.requires.some mid blocks e.linkable (subst (λ y. NewTail me first mid part.block y blocks) c.parts.ensures.rest (e.made t)));
-    }
+    let at = goal.at.write_block-requires g c in
+    let writes = λ (path : Path) (last : g.K.Blocks.told → IsLastOf c.args.client.now (g.K.Blocks.view c.args.disk.now) path c.args.last.now).
+    writing_as (bytes_are g at.After-file_part-part) (grow_writes (parted g at.After-parts path last) e.linkable e.made e.room e.runs) in
+    let w = λ (t : g.K.Blocks.told). let last = c.requires.last t in writes last.0 (λ _. last.1) in
+    record { unspent = e.runs.unspent.0; valid = λ t. (e.runs.valid t).0; may = λ t. (w t).may t; fits = λ t. (w t).fits t }
 
 pub returns-in-Ok-write_block : goal.returns-in-Ok-write_block
 returns-in-Ok-write_block g c =
-    let told = g.K.Blocks.told in
-    let me = c.args.client.now in
-    let first = g.K.Blocks.view c.args.disk.now in
-    let x = c.args.bytes.now in
-    let part = c.args.last.now in
-    let d = part.block in
-    let len = c.block_len-len.result in
-    let taken = min c.room_left.result (length x) in
-    let mid = g.K.Blocks.view c.new_tail.new.disk in
-    let fin = g.K.Blocks.view c.write_block.new.disk in
     let e = c.in-Ok.ensures in
-    let blocks = c.in-Ok.blocks in
-    let next_is = c.first_block-next.ensures ∙ ap first_block c.as_slice.ensures.value in
-    let bytes = part_bytes (first_block blocks) (part_in part.cluster ++ take taken x) in
-    let bytes_are : c.file_part-part.result ≡ part_bytes (first_block blocks) (part_in part.cluster ++ take taken x) =
-    c.file_part-part.ensures ∙ (ap (λ n. part_bytes n (c.bytes.result.now ++ c.parts.result.0.now)) next_is
-    ∙ (ap (λ y. part_bytes (first_block blocks) (y ++ c.parts.result.0.now)) c.bytes.ensures.value ∙ ap (λ y. part_bytes (first_block blocks) (part_in part.cluster ++ y)) c.parts.ensures.here)) in
-    let h = c.in-Ok-write_block.ensures in
-    let steps = subst (λ y. Steps {X = Unit {0}} told me mid fin (write_by me d y) d (written mid.world d y) (Ok tt)) bytes_are h.steps in
-    let valid = λ (t : told). (c.requires.may.valid t).valid in
-    let primary = λ (t : told). subst (λ y. me.root < y.primaries) (sym (g.met.K.Blocks.sound c.args.disk.now t c.requires.may.ready.unspent).geometry) c.requires.may.ready.primary in
-    let tail = λ (t : told). subst (λ y. NewTail me first mid part.block y blocks) c.parts.ensures.rest (e.made t) in
-    let is = λ (path : Path) (last : IsLastOf me first path part). ap (λ n. min n (length x)) (c.room_left.ensures ∙ ap (λ n. bytes_room n - length (part_in part.cluster)) last.last.read.read.whole) in
-    let more = λ (path : Path) (last : IsLastOf me first path part). ap (λ n. clusters_more n c.parts.result.1.now) (c.block_len-len.ensures.value ∙ (ap block_len_of c.cluster.ensures ∙ last.last.read.read.whole)) ∙ ap (clusters_more (block_len first.world.geometry)) c.parts.ensures.rest in
-    let roomy = λ (t : told) (path : Path) (last : IsLastOf me first path part). ap (λ n. no_room_in first.world n n) (sym (more path last)) ∙ e.room t in
-    let decided = λ (t : told) (path : Path) (last : IsLastOf me first path part). subst (λ w. Decided me first (ask.Append path x) w None_loose) (sym (steps.went t).world)
-    (grow_decided me first path x part last (valid t) (primary t) taken (is path last) c.requires.some mid blocks e.linkable (tail t) (roomy t path last) (steps.went t).leads) in
-    let most = clusters_more (block_len first.world.geometry) (drop taken x) in
-    let kept = λ (t : told) (path : Path) (last : IsLastOf me first path part).
-    subst (λ n. KeepsRoom (need n n) first.world fin.world) (sym (more_is me first path x part last (valid t) (primary t) taken (is path last) c.requires.some))
-    (no_more_room (need most most) first.world mid.world fin.world (tail_takes me first mid d (drop taken x) blocks (valid t) (tail t))
-    (write_takes me mid fin (e.runs.valid t).0 (write_by me d bytes) d bytes ((tail t).may d last.last.may).live (steps.went t))) in
-    record {
-      answer = λ t path last. decided_answers me first (ask.Append path x) fin None_loose (decided t path last);
-      changes = λ path last.
-          let a = ask.Append path x in
-          let P = IsEitherTree (mounted_by me) first a in
-          changes_of told (mounted_by me) refl first fin a (Ok tt) (λ t. kept t path (last t)) (λ t. (decided_leaves me first a fin (decided t path (last t)) steps.unspent.0, tt))
-          (then_runs told first mid fin P blocks (Ok tt) (runs_more told first mid (IsAside me.root first.world) P (Ok blocks) (λ t w aside. aside_either me first a w aside) e.runs)
-          (runs_step told me mid fin (write_by me d bytes) d (written mid.world d bytes) P (Ok tt) (λ t. (e.runs.valid t).0)
-          (λ t. grow_stop me first path x part (last t) (valid t) (primary t) taken (is path (last t)) c.requires.some mid blocks e.linkable (tail t) (roomy t path (last t))) steps));
-    }
+    let at = goal.at.returns-in-Ok-write_block g c in
+    let writes = λ (path : Path) (last : g.K.Blocks.told → IsLastOf c.args.client.now (g.K.Blocks.view c.args.disk.now) path c.args.last.now).
+    writing_as (bytes_are g at.After-file_part-part) (grow_writes (parted g at.After-parts path last) e.linkable e.made e.room e.runs) in
+    let ends = λ (path : Path) (last : g.K.Blocks.told → IsLastOf c.args.client.now (g.K.Blocks.view c.args.disk.now) path c.args.last.now). write_decides (writes path last) c.in-Ok-write_block.ensures.steps in
+    record { answer = λ t path last. (ends path (λ _. last)).answer t; changes = λ path last. (ends path last).changes }
 
 pub returns-in-Err-write_block : goal.returns-in-Err-write_block
 returns-in-Err-write_block g c =
-    let told = g.K.Blocks.told in
-    let me = c.args.client.now in
-    let first = g.K.Blocks.view c.args.disk.now in
-    let x = c.args.bytes.now in
-    let part = c.args.last.now in
-    let d = part.block in
-    let len = c.block_len-len.result in
-    let taken = min c.room_left.result (length x) in
-    let mid = g.K.Blocks.view c.new_tail.new.disk in
-    let fin = g.K.Blocks.view c.write_block.new.disk in
     let e = c.in-Ok.ensures in
-    let blocks = c.in-Ok.blocks in
-    let next_is = c.first_block-next.ensures ∙ ap first_block c.as_slice.ensures.value in
-    let bytes = part_bytes (first_block blocks) (part_in part.cluster ++ take taken x) in
-    let bytes_are : c.file_part-part.result ≡ part_bytes (first_block blocks) (part_in part.cluster ++ take taken x) =
-    c.file_part-part.ensures ∙ (ap (λ n. part_bytes n (c.bytes.result.now ++ c.parts.result.0.now)) next_is
-    ∙ (ap (λ y. part_bytes (first_block blocks) (y ++ c.parts.result.0.now)) c.bytes.ensures.value ∙ ap (λ y. part_bytes (first_block blocks) (part_in part.cluster ++ y)) c.parts.ensures.here)) in
+    let at = goal.at.returns-in-Err-write_block g c in
+    let writes = λ (path : Path) (last : g.K.Blocks.told → IsLastOf c.args.client.now (g.K.Blocks.view c.args.disk.now) path c.args.last.now).
+    writing_as (bytes_are g at.After-file_part-part) (grow_writes (parted g at.After-parts path last) e.linkable e.made e.room e.runs) in
     let h = c.in-Err-write_block.ensures in
-    let r = c.in-Err-write_block.refusal in
-    let steps = subst (λ y. Steps {X = Unit {0}} told me mid fin (write_by me d y) d (written mid.world d y) (Err r)) bytes_are h.steps in
-    let valid = λ (t : told). (c.requires.may.valid t).valid in
-    let primary = λ (t : told). subst (λ y. me.root < y.primaries) (sym (g.met.K.Blocks.sound c.args.disk.now t c.requires.may.ready.unspent).geometry) c.requires.may.ready.primary in
-    let tail = λ (t : told). subst (λ y. NewTail me first mid part.block y blocks) c.parts.ensures.rest (e.made t) in
-    let is = λ (path : Path) (last : IsLastOf me first path part). ap (λ n. min n (length x)) (c.room_left.ensures ∙ ap (λ n. bytes_room n - length (part_in part.cluster)) last.last.read.read.whole) in
-    let more = λ (path : Path) (last : IsLastOf me first path part). ap (λ n. clusters_more n c.parts.result.1.now) (c.block_len-len.ensures.value ∙ (ap block_len_of c.cluster.ensures ∙ last.last.read.read.whole)) ∙ ap (clusters_more (block_len first.world.geometry)) c.parts.ensures.rest in
-    let roomy = λ (t : told) (path : Path) (last : IsLastOf me first path part). ap (λ n. no_room_in first.world n n) (sym (more path last)) ∙ e.room t in
-    record {
-      answer = λ t path last. ask_refuses (mounted_by me) first fin (ask.Append path x) (λ _ answer. answer ≡ done) r (λ ne. absurd (ne (h.only t))) (λ ne. absurd (ne (h.only t)));
-      changes = λ path last.
-          let a = ask.Append path x in
-          let P = IsEitherTree (mounted_by me) first a in
-          changes_of told (mounted_by me) refl first fin a (Err r) (λ t. tt) (λ t. (tt, λ ne. absurd (ne (h.only t))))
-          (then_runs told first mid fin P blocks (Err r) (runs_more told first mid (IsAside me.root first.world) P (Ok blocks) (λ t w aside. aside_either me first a w aside) e.runs)
-          (runs_step told me mid fin (write_by me d bytes) d (written mid.world d bytes) P (Err r) (λ t. (e.runs.valid t).0)
-          (λ t. grow_stop me first path x part (last t) (valid t) (primary t) taken (is path (last t)) c.requires.some mid blocks e.linkable (tail t) (roomy t path (last t))) steps));
-    }
+    let ends = λ (path : Path) (last : g.K.Blocks.told → IsLastOf c.args.client.now (g.K.Blocks.view c.args.disk.now) path c.args.last.now). write_fails (writes path last) (g.K.Blocks.view c.write_block.new.disk) c.in-Err-write_block.refusal h.only h.steps in
+    record { answer = λ t path last. (ends path (λ _. last)).answer t; changes = λ path last. (ends path last).changes }

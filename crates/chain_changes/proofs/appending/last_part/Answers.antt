@@ -1,7 +1,5 @@
 use Rattle.std.proofs.Common.{sym, ◌∙◌, ap, Ok, Err}
-use Rattle.chain_layout.specs.Block.{cluster_of}
-use Rattle.chain_layout.specs.Held.{part_cluster}
-use Rattle.fs_client.proofs.LookLaws.{no_look, then_looks, looks_as, looks_refused}
+use Rattle.chain_changes.proofs.Common.{cluster_of, part_cluster, no_look, then_looks, looks_as, looks_refused}
 use Rattle.chain_changes.proofs.LastLaws.{step_starts, step_on, step_part, step_ends}
 use Rattle.chain_changes.proofs.appending.last_part.Goals as goal
 

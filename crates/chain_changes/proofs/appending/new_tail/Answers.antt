@@ -1,17 +1,15 @@
 use Rattle.std.proofs.Common.{◌≡◌, ◌*◌, ◌≤◌, length, sym, ◌∙◌, ap, subst, arith, Ok, Err}
-use Rattle.std.proofs.Math.Nat.{div-le_self}
-use Rattle.std.specs.Int.{div_ceil}
-use Rattle.tsd_model.specs.Geometry.{block_len}
-use Rattle.tsd_model.specs.World.{has_number, are_apart}
-use Rattle.fs_trees.specs.Cluster.{bytes_room}
-use Rattle.fs_client.specs.Steps.{no_room_in}
-use Rattle.fs_port.specs.Runs.{Runs}
-use Rattle.fs_client.proofs.RunLaws.{runs_as, runs_more, runs_refused, then_runs}
-use Rattle.chain_changes.specs.Making.{IsAside}
-use Rattle.chain_changes.specs.Filling.{AsideWith, Wrote}
-use Rattle.chain_changes.specs.Growing.{clusters_more}
-use Rattle.chain_changes.proofs.TailLaws.{few_more, tail_enough, tail_aside, is_tail}
+use Rattle.chain_changes.proofs.Common.{div-le_self, div_ceil, block_len, has_number, are_apart, bytes_room, no_room_in, runs_as, runs_refused, clusters_more}
+use Rattle.chain_changes.proofs.TailLaws.{few_more, tail_enough, NewClusters, tail_runs, tail_made}
+use Rattle.chain_changes.proofs.appending.new_tail.Goals.{After-div_ceil-count}
 use Rattle.chain_changes.proofs.appending.new_tail.Goals as goal
+
+-- how many blocks are wanted
+count_is : (g : _) (c : After-div_ceil-count g) → c.div_ceil-count.result ≡ clusters_more c.args.len c.args.bytes.now
+count_is g c = c.div_ceil-count.ensures ∙ ap (div_ceil (length c.args.bytes.now)) c.bytes_room.ensures
+
+count_there : (g : _) (c : After-div_ceil-count g) → g.K.Blocks.told → c.div_ceil-count.result ≡ clusters_more (block_len (g.K.Blocks.view c.args.disk.now).world.geometry) c.args.bytes.now
+count_there g c t = count_is g c ∙ ap (λ n. clusters_more n c.args.bytes.now) (c.requires.len t)
 
 pub bytes_room-requires : goal.bytes_room-requires
 bytes_room-requires g c = let head = c.requires.head in omega (arith, head)
@@ -27,11 +25,9 @@ overflow_cast-count g c =
 
 pub new_chain-requires : goal.new_chain-requires
 new_chain-requires g c =
-    let told = g.K.Blocks.told in
     let first = g.K.Blocks.view c.args.disk.now in
     let bytes = c.args.bytes.now in
-    let count = c.div_ceil-count.result in
-    let is : told → count ≡ clusters_more (block_len first.world.geometry) bytes = λ t. c.div_ceil-count.ensures ∙ (ap (div_ceil (length bytes)) c.bytes_room.ensures ∙ ap (λ n. clusters_more n bytes) (c.requires.len t)) in
+    let is = count_there g (goal.at.new_chain-requires g c).After-div_ceil-count in
     record {
       unspent = c.requires.unspent;
       valid = c.requires.valid;
@@ -43,9 +39,7 @@ new_chain-requires g c =
 pub returns-in-Err : goal.returns-in-Err
 returns-in-Err g c =
     let first = g.K.Blocks.view c.args.disk.now in
-    let bytes = c.args.bytes.now in
-    let count = c.div_ceil-count.result in
-    let is : count ≡ clusters_more c.args.len bytes = c.div_ceil-count.ensures ∙ ap (div_ceil (length bytes)) c.bytes_room.ensures in
+    let is = count_is g (goal.at.returns-in-Err g c).After-div_ceil-count in
     let e = c.in-Err.ensures in
     record {
       made = λ t. tt;
@@ -58,13 +52,12 @@ returns-in-Err g c =
 
 pub write_chain-requires : goal.write_chain-requires
 write_chain-requires g c =
-    let told = g.K.Blocks.told in
     let me = c.args.client.now in
     let first = g.K.Blocks.view c.args.disk.now in
     let bytes = c.args.bytes.now in
     let source = c.args.source in
     let count = c.div_ceil-count.result in
-    let is : told → count ≡ clusters_more (block_len first.world.geometry) bytes = λ t. c.div_ceil-count.ensures ∙ (ap (div_ceil (length bytes)) c.bytes_room.ensures ∙ ap (λ n. clusters_more n bytes) (c.requires.len t)) in
+    let is = count_there g (goal.at.write_chain-requires g c).After-div_ceil-count in
     let mid = g.K.Blocks.view c.new_chain.new.disk in
     let e = c.in-Ok.ensures in
     let blocks = c.in-Ok.blocks in
@@ -85,57 +78,31 @@ write_chain-requires g c =
 
 pub returns-in-Ok-write_chain : goal.returns-in-Ok-write_chain
 returns-in-Ok-write_chain g c =
-    let told = g.K.Blocks.told in
-    let me = c.args.client.now in
     let first = g.K.Blocks.view c.args.disk.now in
-    let bytes = c.args.bytes.now in
-    let source = c.args.source in
-    let count = c.div_ceil-count.result in
-    let by_len : count ≡ clusters_more c.args.len bytes = c.div_ceil-count.ensures ∙ ap (div_ceil (length bytes)) c.bytes_room.ensures in
-    let is : told → count ≡ clusters_more (block_len first.world.geometry) bytes = λ t. by_len ∙ ap (λ n. clusters_more n bytes) (c.requires.len t) in
-    let mid = g.K.Blocks.view c.new_chain.new.disk in
-    let P = IsAside me.root first.world in
-    let e = c.in-Ok.ensures in
-    let blocks = c.in-Ok.blocks in
-    let own = c.as_slice.ensures.value in
     let new = g.K.Blocks.view c.write_chain.new.disk in
+    let e = c.in-Ok.ensures in
     let u = c.in-Ok-write_chain.ensures in
-    let wrote : told → Wrote me mid new blocks bytes = λ t. subst (λ bs. Wrote me mid new bs bytes) own (u.wrote t) in
-    let ran : Runs {X = Unit {0}} told mid new (AsideWith me.root blocks mid.world) (Ok tt) = subst (λ bs. Runs {X = Unit {0}} told mid new (AsideWith me.root bs mid.world) (Ok tt)) own u.runs in
+    let x : NewClusters g.K.Blocks.told c.args.client.now (g.K.Blocks.view c.args.disk.now) (g.K.Blocks.view c.new_chain.new.disk) c.args.source c.div_ceil-count.result c.args.bytes.now c.in-Ok.blocks = record { stage = c.requires.stage; valid = c.requires.valid; is = count_there g (goal.at.returns-in-Ok-write_chain g c).After-div_ceil-count; made = e.made; runs = e.runs } in
     record {
-      made = λ t. is_tail me first mid new source count bytes blocks (c.requires.stage t) (c.requires.valid t).valid (is t) (e.made t) (wrote t);
+      made = tail_made x c.as_slice.ensures.value new u.wrote;
       linkable = e.linkable;
-      room = λ t. ap (λ n. no_room_in first.world n n) (sym by_len) ∙ e.room t;
+      room = λ t. ap (λ n. no_room_in first.world n n) (sym (count_is g (goal.at.returns-in-Ok-write_chain g c).After-div_ceil-count)) ∙ e.room t;
       full = λ t. tt;
       same = λ t. tt;
-      runs = runs_as told first new P tt blocks (then_runs told first mid new P blocks (Ok tt) e.runs
-          (runs_more told mid new (AsideWith me.root blocks mid.world) P (Ok tt) (λ t. tail_aside me first mid new source count bytes blocks (c.requires.stage t) (c.requires.valid t).valid (is t) (e.made t)) ran));
+      runs = runs_as _ _ _ _ tt c.in-Ok.blocks (tail_runs x c.as_slice.ensures.value new (Ok tt) u.runs);
     }
 
 pub returns-in-Err-write_chain : goal.returns-in-Err-write_chain
 returns-in-Err-write_chain g c =
-    let told = g.K.Blocks.told in
-    let me = c.args.client.now in
-    let first = g.K.Blocks.view c.args.disk.now in
-    let bytes = c.args.bytes.now in
-    let source = c.args.source in
-    let count = c.div_ceil-count.result in
-    let is : told → count ≡ clusters_more (block_len first.world.geometry) bytes = λ t. c.div_ceil-count.ensures ∙ (ap (div_ceil (length bytes)) c.bytes_room.ensures ∙ ap (λ n. clusters_more n bytes) (c.requires.len t)) in
-    let mid = g.K.Blocks.view c.new_chain.new.disk in
-    let P = IsAside me.root first.world in
     let e = c.in-Ok.ensures in
-    let blocks = c.in-Ok.blocks in
-    let own = c.as_slice.ensures.value in
-    let new = g.K.Blocks.view c.write_chain.new.disk in
     let u = c.in-Err-write_chain.ensures in
     let r = c.in-Err-write_chain.refusal in
-    let ran : Runs {X = Unit {0}} told mid new (AsideWith me.root blocks mid.world) (Err r) = subst (λ bs. Runs {X = Unit {0}} told mid new (AsideWith me.root bs mid.world) (Err r)) own u.runs in
+    let x : NewClusters g.K.Blocks.told c.args.client.now (g.K.Blocks.view c.args.disk.now) (g.K.Blocks.view c.new_chain.new.disk) c.args.source c.div_ceil-count.result c.args.bytes.now c.in-Ok.blocks = record { stage = c.requires.stage; valid = c.requires.valid; is = count_there g (goal.at.returns-in-Err-write_chain g c).After-div_ceil-count; made = e.made; runs = e.runs } in
     record {
       made = λ t. tt;
       linkable = tt;
       room = λ t. tt;
       full = λ t ne. absurd (ne (u.only t));
       same = λ t ne. absurd (ne (u.only t));
-      runs = runs_refused told first new P r (then_runs told first mid new P blocks (Err r) e.runs
-          (runs_more told mid new (AsideWith me.root blocks mid.world) P (Err r) (λ t. tail_aside me first mid new source count bytes blocks (c.requires.stage t) (c.requires.valid t).valid (is t) (e.made t)) ran));
+      runs = runs_refused _ _ _ _ r (tail_runs x c.as_slice.ensures.value (g.K.Blocks.view c.write_chain.new.disk) (Err r) u.runs);
     }

@@ -1,10 +1,5 @@
 use Rattle.std.proofs.Common.{refl, ◌∙◌, arith, Ok, Err}
-use Rattle.std.specs.Prelude.{slice_index_or}
-use Rattle.fs_client.specs.Client.{unlink_by}
-use Rattle.fs_client.proofs.LookLaws.{no_look}
-use Rattle.fs_client.specs.Steps.{dropped}
-use Rattle.fs_client.proofs.RunLaws.{runs_look, runs_step, runs_as, runs_refused}
-use Rattle.chain_changes.specs.Filling.{AsideOf}
+use Rattle.chain_changes.proofs.Common.{slice_index_or, unlink_by, no_look, dropped, runs_look, runs_step, runs_as, runs_refused, AsideOf}
 use Rattle.chain_changes.proofs.BackLaws.{is_back, first_held, none_back}
 use Rattle.chain_changes.proofs.ChainLaws.{aside_none, aside_back}
 use Rattle.chain_changes.proofs.blocks.give_up.Goals as goal

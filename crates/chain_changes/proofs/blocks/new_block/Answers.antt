@@ -1,7 +1,6 @@
 use Rattle.std.proofs.Common.{◌≡◌, ℕ, sym, ◌∙◌, arith, Option, Some, None}
 use Rattle.fs_trees.specs.declared.refusal.FsRefusal.TheVariants as no
-use Rattle.fs_client.specs.Client.{alloc_by}
-use Rattle.fs_client.specs.Steps.{taken}
+use Rattle.chain_changes.proofs.Common.{alloc_by, taken}
 use Rattle.chain_changes.proofs.ChainLaws.{as_block, as_refused, no_block, one_chosen}
 use Rattle.chain_changes.proofs.blocks.new_block.Goals as goal
 

@@ -1,12 +1,23 @@
 use Rattle.std.proofs.Common.{◌≡◌, ◌≢◌, ◌+◌, Bool, true, false, sym, ◌∙◌, ap, subst, arith, Ok, Err, Some}
-use Rattle.tsd_model.specs.World.{World}
 use Rattle.fs_trees.specs.declared.refusal.FsRefusal.TheVariants as no
-use Rattle.fs_port.specs.Runs.{Runs}
-use Rattle.fs_client.proofs.RunLaws.{runs_look, runs_refused, runs_but_refuses, then_runs, runs_as, runs_more}
-use Rattle.chain_changes.specs.Making.{Making, IsAside}
-use Rattle.chain_changes.specs.Filling.{NewChain, AsideOf, IsBackFrom}
-use Rattle.chain_changes.proofs.ChainLaws.{Chaining, chaining_begins, aside_first, above_may, runs_on, runs_refused_so, making_still, source_may, refused_before, chaining_on, room_for_all, no_fault_before}
+use Rattle.chain_changes.proofs.Common.{runs_look, runs_refused, runs_but_refuses, runs_as, IsAside, NewChain}
+use Rattle.chain_changes.proofs.ChainLaws.{Chaining, chaining_begins, aside_first, above_may, runs_on, Stopped, stopped_so, given_up, chaining_on, room_for_all, no_fault_before}
+use Rattle.chain_changes.proofs.blocks.new_chain.Goals.{After-as_slice}
 use Rattle.chain_changes.proofs.blocks.new_chain.Goals as goal
+
+not_fault : (t : Bool) → t ≡ false → t ≡ true → ⊥
+not_fault t p q = cc
+
+no_false : false ≡ true → ⊥
+no_false e = cc
+
+-- a rule refuses a further block
+stopped : (g : _) (c : After-as_slice g)
+    → Stopped g.K.Blocks.told c.args.client.now (g.K.Blocks.view c.args.disk.now) (g.K.Blocks.view c.new_block.new.disk) c.args.source c.args.count c.loop-made.made c.as_slice.result.now c.in-Err-new_block.refusal
+stopped g c =
+    let h = c.in-Err-new_block.ensures in
+    let ne : c.in-Err-new_block.refusal ≢ no.Device = λ d. not_fault c.is_fault.result c.if-is_fault.false (c.is_fault.ensures.1 d) in
+    stopped_so c.loop-made.invariant c.requires.stage c.requires.may c.loop-made-test.true ne h.steps (λ t. h.full t ne) c.as_slice.ensures.value
 
 pub check_free-requires : goal.check_free-requires
 check_free-requires g c = record { unspent = c.requires.unspent; valid = c.requires.valid }
@@ -49,26 +60,8 @@ new_block-requires g c =
       may = λ t. above_may told c.args.client.now first now now c.args.source c.args.count c.loop-made.made c.loop-made.above c.loop-made.blocks inv c.requires.stage t (c.requires.may t);
     }
 
-no_false : false ≡ true → ⊥
-no_false e = cc
-
-not_fault : (t : Bool) → t ≡ false → t ≡ true → ⊥
-not_fault t p q = cc
-
 pub returns-then-is_fault : goal.returns-then-is_fault
 returns-then-is_fault g c =
-    let told = g.K.Blocks.told in
-    let me = c.args.client.now in
-    let first = g.K.Blocks.view c.args.disk.now in
-    let now = g.K.Blocks.view c.loop-made.disk in
-    let new = g.K.Blocks.view c.new_block.new.disk in
-    let source = c.args.source in
-    let count = c.args.count in
-    let made = c.loop-made.made in
-    let above = c.loop-made.above in
-    let blocks = c.loop-made.blocks in
-    let inv = c.loop-made.invariant in
-    let few = c.loop-made-test.true in
     let h = c.in-Err-new_block.ensures in
     let e = c.in-Err-new_block.refusal in
     let fault : e ≡ no.Device = c.is_fault.ensures.0 c.if-is_fault.true in
@@ -79,92 +72,34 @@ returns-then-is_fault g c =
       room = λ t. tt;
       full = λ t ne. absurd (ne fault);
       same = λ t ne. absurd (ne fault);
-      runs = runs_refused told first new (IsAside me.root first.world) e (runs_on told me first now new source count made above blocks inv c.requires.stage few (Err e) h.steps);
+      runs = runs_refused _ _ _ _ e (runs_on _ _ _ _ (g.K.Blocks.view c.new_block.new.disk) _ _ _ _ _ c.loop-made.invariant c.requires.stage c.loop-made-test.true (Err e) h.steps);
     }
 
 pub give_up-requires : goal.give_up-requires
 give_up-requires g c =
-    let told = g.K.Blocks.told in
-    let me = c.args.client.now in
-    let first = g.K.Blocks.view c.args.disk.now in
-    let now = g.K.Blocks.view c.loop-made.disk in
-    let new = g.K.Blocks.view c.new_block.new.disk in
-    let source = c.args.source in
-    let count = c.args.count in
-    let made = c.loop-made.made in
-    let above = c.loop-made.above in
-    let blocks = c.loop-made.blocks in
-    let inv = c.loop-made.invariant in
-    let few = c.loop-made-test.true in
-    let h = c.in-Err-new_block.ensures in
-    let e = c.in-Err-new_block.refusal in
-    let ne : e ≢ no.Device = λ d. not_fault c.is_fault.result c.if-is_fault.false (c.is_fault.ensures.1 d) in
-    record {
-      unspent = h.steps.unspent.1 ne;
-      valid = λ t. ((runs_refused_so told me first now new source count made above blocks inv c.requires.stage few e ne h.steps).valid t).0;
-      may = λ t. source_may told me first now new source count made above blocks inv c.requires.stage few e ne h.steps t (c.requires.may t);
-      making = λ t. (first.world, c.requires.stage t, subst (λ bs. Making me.root first.world source bs new.world) (sym c.as_slice.ensures.value) (making_still told me first now new source count made above blocks inv c.requires.stage few e ne h.steps t));
-    }
+    let s = stopped g (goal.at.give_up-requires g c).After-as_slice in
+    record { unspent = s.so_far.unspent.0; valid = λ t. (s.so_far.valid t).0; may = s.may; making = λ t. (_, s.stage t, s.making t) }
 
 pub returns-in-Ok-give_up : goal.returns-in-Ok-give_up
 returns-in-Ok-give_up g c =
-    let told = g.K.Blocks.told in
-    let me = c.args.client.now in
-    let first = g.K.Blocks.view c.args.disk.now in
-    let now = g.K.Blocks.view c.loop-made.disk in
-    let new = g.K.Blocks.view c.new_block.new.disk in
-    let source = c.args.source in
-    let count = c.args.count in
-    let made = c.loop-made.made in
-    let above = c.loop-made.above in
-    let blocks = c.loop-made.blocks in
-    let inv = c.loop-made.invariant in
-    let few = c.loop-made-test.true in
-    let h = c.in-Err-new_block.ensures in
-    let e = c.in-Err-new_block.refusal in
-    let ne : e ≢ no.Device = λ d. not_fault c.is_fault.result c.if-is_fault.false (c.is_fault.ensures.1 d) in
-    let fin = g.K.Blocks.view c.give_up.new.disk in
-    let P = IsAside me.root first.world in
-    let before = runs_refused_so told me first now new source count made above blocks inv c.requires.stage few e ne h.steps in
-    let on : told → (w : World) → AsideOf me.root source blocks new.world w → IsAside me.root first.world w = λ t w aside. aside first.world (c.requires.stage t) (making_still told me first now new source count made above blocks inv c.requires.stage few e ne h.steps t) in
+    let s = stopped g (goal.at.returns-in-Ok-give_up g c).After-as_slice in
     let u = c.in-Ok-give_up.ensures in
-    let given = runs_more told new fin (AsideOf me.root source blocks new.world) P (Ok tt) on (subst (λ bs. Runs {X = Unit {0}} told new fin (AsideOf me.root source bs new.world) (Ok tt)) c.as_slice.ensures.value u.runs) in
-    let all : Runs {X = Unit {0}} told first fin P (Ok tt) = then_runs told first new fin P tt (Ok tt) before given in
     let is = c.held_before.ensures in
     record {
       made = λ t. tt;
       many = tt;
       linkable = tt;
       room = λ t. tt;
-      full = λ t _. refused_before told me first now new source count made above blocks inv c.requires.stage few t e (h.full t ne) ∙ ap (λ r. Some r) (sym is);
-      same = λ t _. subst (λ bs. IsBackFrom me.root source bs new.world fin.world) c.as_slice.ensures.value (u.back t) first.world (c.requires.stage t) (making_still told me first now new source count made above blocks inv c.requires.stage few e ne h.steps t);
-      runs = runs_but_refuses told first fin P tt c.held_before.result (λ d. no_fault_before e made ne (sym is ∙ d)) all;
+      full = λ t _. s.full t ∙ ap (λ r. Some r) (sym is);
+      same = λ t _. u.back t _ (s.stage t) (s.making t);
+      runs = runs_but_refuses _ _ _ _ tt c.held_before.result (λ d. no_fault_before c.in-Err-new_block.refusal c.loop-made.made s.ne (sym is ∙ d)) (given_up s (g.K.Blocks.view c.give_up.new.disk) (Ok tt) u.runs);
     }
 
 pub returns-in-Err-give_up : goal.returns-in-Err-give_up
 returns-in-Err-give_up g c =
-    let told = g.K.Blocks.told in
-    let me = c.args.client.now in
-    let first = g.K.Blocks.view c.args.disk.now in
-    let now = g.K.Blocks.view c.loop-made.disk in
-    let new = g.K.Blocks.view c.new_block.new.disk in
-    let source = c.args.source in
-    let count = c.args.count in
-    let made = c.loop-made.made in
-    let above = c.loop-made.above in
-    let blocks = c.loop-made.blocks in
-    let inv = c.loop-made.invariant in
-    let few = c.loop-made-test.true in
-    let h = c.in-Err-new_block.ensures in
-    let e = c.in-Err-new_block.refusal in
-    let ne : e ≢ no.Device = λ d. not_fault c.is_fault.result c.if-is_fault.false (c.is_fault.ensures.1 d) in
-    let fin = g.K.Blocks.view c.give_up.new.disk in
-    let P = IsAside me.root first.world in
-    let before = runs_refused_so told me first now new source count made above blocks inv c.requires.stage few e ne h.steps in
-    let on : told → (w : World) → AsideOf me.root source blocks new.world w → IsAside me.root first.world w = λ t w aside. aside first.world (c.requires.stage t) (making_still told me first now new source count made above blocks inv c.requires.stage few e ne h.steps t) in
+    let s = stopped g (goal.at.returns-in-Err-give_up g c).After-as_slice in
     let u = c.in-Err-give_up.ensures in
     let fault = c.in-Err-give_up.fault in
-    let given = runs_more told new fin (AsideOf me.root source blocks new.world) P (Err fault) on (subst (λ bs. Runs {X = Unit {0}} told new fin (AsideOf me.root source bs new.world) (Err fault)) c.as_slice.ensures.value u.runs) in
     record {
       made = λ t. tt;
       many = tt;
@@ -172,26 +107,15 @@ returns-in-Err-give_up g c =
       room = λ t. tt;
       full = λ t other. absurd (other (u.only t));
       same = λ t other. absurd (other (u.only t));
-      runs = runs_refused told first fin P fault (then_runs told first new fin P tt (Err fault) before given);
+      runs = runs_refused _ _ _ _ fault (given_up s (g.K.Blocks.view c.give_up.new.disk) (Err fault) u.runs);
     }
 
 pub returns-in-Err-push : goal.returns-in-Err-push
 returns-in-Err-push g c =
-    let told = g.K.Blocks.told in
-    let me = c.args.client.now in
-    let first = g.K.Blocks.view c.args.disk.now in
-    let now = g.K.Blocks.view c.loop-made.disk in
-    let new = g.K.Blocks.view c.new_block.new.disk in
-    let source = c.args.source in
-    let count = c.args.count in
-    let made = c.loop-made.made in
-    let above = c.loop-made.above in
-    let blocks = c.loop-made.blocks in
     let inv = c.loop-made.invariant in
     let few = c.loop-made-test.true in
-    let h = c.in-Ok-new_block.ensures in
     let b = c.in-Ok-new_block.block in
-    let never : told → ⊥ = λ t. let most = c.requires.few t in let many = inv.many in no_false (c.in-Err-push.ensures.variant.1 (omega (arith, most, many, few))) in
+    let never : g.K.Blocks.told → ⊥ = λ t. let most = c.requires.few t in let many = inv.many in no_false (c.in-Err-push.ensures.variant.1 (omega (arith, most, many, few))) in
     record {
       made = λ t. tt;
       many = tt;
@@ -199,27 +123,16 @@ returns-in-Err-push g c =
       room = λ t. tt;
       full = λ t. absurd (never t);
       same = λ t. absurd (never t);
-      runs = runs_but_refuses told first new (IsAside me.root first.world) b no.NotThisFs (λ d. cc) (runs_on told me first now new source count made above blocks inv c.requires.stage few (Ok b) h.steps);
+      runs = runs_but_refuses _ _ _ _ b no.NotThisFs (λ d. cc) (runs_on _ _ _ _ (g.K.Blocks.view c.new_block.new.disk) _ _ _ _ _ inv c.requires.stage few (Ok b) c.in-Ok-new_block.ensures.steps);
     }
 
 pub loop-made-preserved : goal.loop-made-preserved
 loop-made-preserved g c =
-    let told = g.K.Blocks.told in
-    let me = c.args.client.now in
-    let first = g.K.Blocks.view c.args.disk.now in
-    let now = g.K.Blocks.view c.loop-made.disk in
     let new = g.K.Blocks.view c.new_block.new.disk in
-    let source = c.args.source in
-    let count = c.args.count in
-    let made = c.loop-made.made in
-    let above = c.loop-made.above in
-    let blocks = c.loop-made.blocks in
-    let inv = c.loop-made.invariant in
-    let few = c.loop-made-test.true in
     let h = c.in-Ok-new_block.ensures in
     let b = c.in-Ok-new_block.block in
-    subst (Chaining told me first new source count (made + 1) b) (sym c.in-Ok-push.ensures.ok)
-    (chaining_on told me first now new source count made above blocks inv c.requires.stage few b h.steps h.block h.linkable c.requires.may)
+    subst (Chaining g.K.Blocks.told c.args.client.now (g.K.Blocks.view c.args.disk.now) new c.args.source c.args.count (c.loop-made.made + 1) b) (sym c.in-Ok-push.ensures.ok)
+    (chaining_on _ _ _ _ new _ _ _ _ _ c.loop-made.invariant c.requires.stage c.loop-made-test.true b h.steps h.block h.linkable c.requires.may)
 
 pub returns : goal.returns
 returns g c =

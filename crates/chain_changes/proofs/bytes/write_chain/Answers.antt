@@ -1,12 +1,5 @@
 use Rattle.std.proofs.Common.{◌≡◌, ◌+◌, ◌*◌, ◌^◌, ◌<◌, ◌≤◌, length, refl, sym, ◌∙◌, ap, subst, arith, Ok, Err}
-use Rattle.std.specs.Prelude.{slice_index_or, take, drop}
-use Rattle.std.proofs.lemmas.List.{length-take}
-use Rattle.tsd_model.specs.Geometry.{block_len}
-use Rattle.fs_trees.specs.Cluster.{bytes_room, link_field, part_bytes}
-use Rattle.fs_client.specs.Client.{write_by}
-use Rattle.tsd_model.specs.Step.{written}
-use Rattle.fs_client.specs.Steps.{Steps}
-use Rattle.tsd_model.specs.Placing.{first_block}
+use Rattle.chain_changes.proofs.Common.{slice_index_or, take, drop, length-take, block_len, bytes_room, link_field, part_bytes, write_by, written, Steps, first_block}
 use Rattle.chain_changes.proofs.WriteLaws.{Writing, part_length, next_linked, writing_begins, writing_ends, writing_on, runs_on, may_now}
 use Rattle.chain_changes.proofs.bytes.write_chain.Goals as goal
 

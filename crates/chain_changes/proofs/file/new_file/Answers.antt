@@ -1,21 +1,17 @@
 use Rattle.std.proofs.Common.{◌≡◌, ◌≢◌, ℕ, ◌+◌, ◌-◌, ◌*◌, ◌<◌, ◌≤◌, true, length, refl, sym, ◌∙◌, ap, subst, arith, Ok, Err}
-use Rattle.std.specs.Prelude.{drop}
-use Rattle.tsd_model.specs.Geometry.{block_len}
-use Rattle.tsd_model.specs.World.{has_number, are_apart}
-use Rattle.fs_client.specs.May.{MayWrite}
-use Rattle.fs_trees.specs.Cluster.{bytes_room}
-use Rattle.fs_trees.specs.Needs.{clusters_for}
+use Rattle.chain_changes.proofs.Common.{drop, block_len, has_number, are_apart, MayWrite, bytes_room, clusters_for, no_look, no_room_in, runs_look, runs_but_refuses, runs_as, runs_refused, IsAside}
 use Rattle.fs_trees.specs.declared.refusal.FsRefusal.TheVariants as no
-use Rattle.fs_client.proofs.LookLaws.{no_look}
-use Rattle.fs_client.specs.Steps.{no_room_in}
-use Rattle.fs_port.specs.Runs.{Runs}
-use Rattle.fs_client.proofs.RunLaws.{runs_look, runs_but_refuses, runs_as, runs_more, runs_refused, then_runs}
-use Rattle.chain_changes.specs.Making.{IsAside}
-use Rattle.chain_changes.specs.Filling.{AsideWith, Wrote}
 use Rattle.chain_changes.proofs.ChainLaws.{aside_first}
 use Rattle.chain_changes.proofs.WriteLaws.{in_drop}
-use Rattle.chain_changes.proofs.FileLaws.{clusters, some_clusters, few_clusters, long_room, behind_may, behind_apart, behind_enough, aside_so, is_file}
+use Rattle.chain_changes.proofs.FileLaws.{clusters, some_clusters, few_clusters, long_room, behind_may, behind_apart, behind_enough, NewBlocks, file_runs, file_made}
+use Rattle.chain_changes.proofs.file.new_file.Goals.{After-blocks_wanted-wanted}
 use Rattle.chain_changes.proofs.file.new_file.Goals as goal
+
+-- how many blocks are wanted
+wanted_is : (g : _) (c : After-blocks_wanted-wanted g) → g.K.Blocks.told → c.blocks_wanted-wanted.result ≡ clusters_for (g.K.Blocks.view c.args.disk.now).world.geometry (length c.args.bytes.now) + c.args.ahead
+wanted_is g c t =
+    let bytes = c.args.bytes.now in
+    c.blocks_wanted-wanted.ensures ∙ (ap (λ n. clusters n (bytes_room c.args.len) + c.args.ahead) c.len.ensures.value ∙ ap (λ n. clusters (length bytes) (bytes_room n) + c.args.ahead) (c.requires.len t))
 
 pub bytes_room-requires : goal.bytes_room-requires
 bytes_room-requires g c = c.requires.head
@@ -53,15 +49,9 @@ blocks_wanted-wanted-requires g c = record {
 
 pub new_chain-requires : goal.new_chain-requires
 new_chain-requires g c =
-    let told = g.K.Blocks.told in
-    let me = c.args.client.now in
     let first = g.K.Blocks.view c.args.disk.now in
     let bytes = c.args.bytes.now in
-    let ahead = c.args.ahead in
-    let source = c.args.source in
-    let wanted = c.blocks_wanted-wanted.result in
-    let all = clusters_for first.world.geometry (length bytes) + ahead in
-    let is : told → wanted ≡ all = λ t. c.blocks_wanted-wanted.ensures ∙ (ap (λ n. clusters n (bytes_room c.args.len) + ahead) c.len.ensures.value ∙ ap (λ n. clusters (length bytes) (bytes_room n) + ahead) (c.requires.len t)) in
+    let is = wanted_is g (goal.at.new_chain-requires g c).After-blocks_wanted-wanted in
     record {
       unspent = c.requires.unspent;
       valid = c.requires.valid;
@@ -75,17 +65,8 @@ new_chain-requires g c =
 
 pub returns-in-Err : goal.returns-in-Err
 returns-in-Err g c =
-    let told = g.K.Blocks.told in
-    let me = c.args.client.now in
     let first = g.K.Blocks.view c.args.disk.now in
-    let bytes = c.args.bytes.now in
-    let ahead = c.args.ahead in
-    let source = c.args.source in
-    let wanted = c.blocks_wanted-wanted.result in
-    let all = clusters_for first.world.geometry (length bytes) + ahead in
-    let is : told → wanted ≡ all = λ t. c.blocks_wanted-wanted.ensures ∙ (ap (λ n. clusters n (bytes_room c.args.len) + ahead) c.len.ensures.value ∙ ap (λ n. clusters (length bytes) (bytes_room n) + ahead) (c.requires.len t)) in
-    let mid = g.K.Blocks.view c.new_chain.new.disk in
-    let P = IsAside me.root first.world in
+    let is = wanted_is g (goal.at.returns-in-Err g c).After-blocks_wanted-wanted in
     let e = c.in-Err.ensures in
     record {
       made = λ t. tt;
@@ -106,17 +87,14 @@ blocks_behind-requires g c =
 
 pub write_chain-requires : goal.write_chain-requires
 write_chain-requires g c =
-    let told = g.K.Blocks.told in
     let me = c.args.client.now in
     let first = g.K.Blocks.view c.args.disk.now in
     let bytes = c.args.bytes.now in
     let ahead = c.args.ahead in
     let source = c.args.source in
     let wanted = c.blocks_wanted-wanted.result in
-    let all = clusters_for first.world.geometry (length bytes) + ahead in
-    let is : told → wanted ≡ all = λ t. c.blocks_wanted-wanted.ensures ∙ (ap (λ n. clusters n (bytes_room c.args.len) + ahead) c.len.ensures.value ∙ ap (λ n. clusters (length bytes) (bytes_room n) + ahead) (c.requires.len t)) in
+    let is = wanted_is g (goal.at.write_chain-requires g c).After-blocks_wanted-wanted in
     let mid = g.K.Blocks.view c.new_chain.new.disk in
-    let P = IsAside me.root first.world in
     let e = c.in-Ok.ensures in
     let blocks = c.in-Ok.blocks in
     let own_is = c.blocks_behind.ensures.value in
@@ -138,27 +116,14 @@ write_chain-requires g c =
 
 pub returns-in-Ok-write_chain : goal.returns-in-Ok-write_chain
 returns-in-Ok-write_chain g c =
-    let told = g.K.Blocks.told in
-    let me = c.args.client.now in
     let first = g.K.Blocks.view c.args.disk.now in
-    let bytes = c.args.bytes.now in
-    let ahead = c.args.ahead in
-    let source = c.args.source in
-    let wanted = c.blocks_wanted-wanted.result in
-    let all = clusters_for first.world.geometry (length bytes) + ahead in
-    let is : told → wanted ≡ all = λ t. c.blocks_wanted-wanted.ensures ∙ (ap (λ n. clusters n (bytes_room c.args.len) + ahead) c.len.ensures.value ∙ ap (λ n. clusters (length bytes) (bytes_room n) + ahead) (c.requires.len t)) in
-    let mid = g.K.Blocks.view c.new_chain.new.disk in
-    let P = IsAside me.root first.world in
+    let is = wanted_is g (goal.at.returns-in-Ok-write_chain g c).After-blocks_wanted-wanted in
     let e = c.in-Ok.ensures in
-    let blocks = c.in-Ok.blocks in
-    let own_is = c.blocks_behind.ensures.value in
     let new = g.K.Blocks.view c.write_chain.new.disk in
     let u = c.in-Ok-write_chain.ensures in
-    let data_is = c.as_slice.ensures.value in
-    let wrote : told → Wrote me mid new (drop ahead blocks) bytes = λ t. subst (Wrote me mid new (drop ahead blocks)) data_is (subst (λ bs. Wrote me mid new bs c.as_slice.result.now) own_is (u.wrote t)) in
-    let ran : Runs {X = Unit {0}} told mid new (AsideWith me.root (drop ahead blocks) mid.world) (Ok tt) = subst (λ bs. Runs {X = Unit {0}} told mid new (AsideWith me.root bs mid.world) (Ok tt)) own_is u.runs in
+    let x : NewBlocks g.K.Blocks.told c.args.client.now (g.K.Blocks.view c.args.disk.now) (g.K.Blocks.view c.new_chain.new.disk) c.args.source c.args.ahead c.blocks_wanted-wanted.result c.args.bytes.now c.in-Ok.blocks = record { stage = c.requires.stage; valid = c.requires.valid; is = is; made = e.made; runs = e.runs } in
     record {
-      made = λ t. is_file me first mid new source ahead wanted bytes blocks (c.requires.stage t) (c.requires.valid t).valid (is t) (e.made t) (wrote t);
+      made = file_made x c.blocks_behind.ensures.value c.as_slice.ensures.value new u.wrote;
       some =
           let many = e.many in
           let much = c.blocks_wanted-wanted.ensures in
@@ -168,30 +133,17 @@ returns-in-Ok-write_chain g c =
       room = λ t. ap (λ n. no_room_in first.world n n) (sym (is t)) ∙ e.room t;
       full = λ t. tt;
       same = λ t. tt;
-      runs = runs_as told first new P tt blocks (then_runs told first mid new P blocks (Ok tt) e.runs
-          (runs_more told mid new (AsideWith me.root (drop ahead blocks) mid.world) P (Ok tt) (λ t. aside_so me first mid new source ahead wanted bytes blocks (c.requires.stage t) (c.requires.valid t).valid (is t) (e.made t)) ran));
+      runs = runs_as _ _ _ _ tt c.in-Ok.blocks (file_runs x c.blocks_behind.ensures.value c.as_slice.ensures.value new (Ok tt) u.runs);
     }
 
 pub returns-in-Err-write_chain : goal.returns-in-Err-write_chain
 returns-in-Err-write_chain g c =
-    let told = g.K.Blocks.told in
-    let me = c.args.client.now in
-    let first = g.K.Blocks.view c.args.disk.now in
-    let bytes = c.args.bytes.now in
-    let ahead = c.args.ahead in
-    let source = c.args.source in
-    let wanted = c.blocks_wanted-wanted.result in
-    let all = clusters_for first.world.geometry (length bytes) + ahead in
-    let is : told → wanted ≡ all = λ t. c.blocks_wanted-wanted.ensures ∙ (ap (λ n. clusters n (bytes_room c.args.len) + ahead) c.len.ensures.value ∙ ap (λ n. clusters (length bytes) (bytes_room n) + ahead) (c.requires.len t)) in
-    let mid = g.K.Blocks.view c.new_chain.new.disk in
-    let P = IsAside me.root first.world in
+    let is = wanted_is g (goal.at.returns-in-Err-write_chain g c).After-blocks_wanted-wanted in
     let e = c.in-Ok.ensures in
-    let blocks = c.in-Ok.blocks in
-    let own_is = c.blocks_behind.ensures.value in
     let new = g.K.Blocks.view c.write_chain.new.disk in
     let u = c.in-Err-write_chain.ensures in
     let r = c.in-Err-write_chain.refusal in
-    let ran : Runs {X = Unit {0}} told mid new (AsideWith me.root (drop ahead blocks) mid.world) (Err r) = subst (λ bs. Runs {X = Unit {0}} told mid new (AsideWith me.root bs mid.world) (Err r)) own_is u.runs in
+    let x : NewBlocks g.K.Blocks.told c.args.client.now (g.K.Blocks.view c.args.disk.now) (g.K.Blocks.view c.new_chain.new.disk) c.args.source c.args.ahead c.blocks_wanted-wanted.result c.args.bytes.now c.in-Ok.blocks = record { stage = c.requires.stage; valid = c.requires.valid; is = is; made = e.made; runs = e.runs } in
     record {
       made = λ t. tt;
       some = tt;
@@ -199,6 +151,5 @@ returns-in-Err-write_chain g c =
       room = λ t. tt;
       full = λ t ne. absurd (ne (u.only t));
       same = λ t ne. absurd (ne (u.only t));
-      runs = runs_refused told first new P r (then_runs told first mid new P blocks (Err r) e.runs
-          (runs_more told mid new (AsideWith me.root (drop ahead blocks) mid.world) P (Err r) (λ t. aside_so me first mid new source ahead wanted bytes blocks (c.requires.stage t) (c.requires.valid t).valid (is t) (e.made t)) ran));
+      runs = runs_refused _ _ _ _ r (file_runs x c.blocks_behind.ensures.value c.as_slice.ensures.value new (Err r) u.runs);
     }

@@ -1,7 +1,5 @@
 use Rattle.std.proofs.Common.{◌≡◌, ◌∷◌, sym, ◌∙◌, ap, Some}
-use Rattle.fs_client.specs.Changing.{lookup_refusal}
-use Rattle.chain_reading.specs.Asking.{tree_under}
-use Rattle.chain_reading.proofs.KnownLaws.{is_known, has_directory, path_of_two}
+use Rattle.chain_changes.proofs.Common.{lookup_refusal, tree_under, is_known, has_directory, path_of_two}
 use Rattle.chain_changes.proofs.PlaceLaws.{is_at, lost}
 use Rattle.chain_changes.proofs.finding.look_up.Goals as goal
 

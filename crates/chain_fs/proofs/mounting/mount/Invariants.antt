@@ -1,4 +1,4 @@
-use Rattle.chain_fs.specs.Tidying.{chains_of}
+use Rattle.chain_fs.proofs.Common.{chains_of}
 use Rattle.chain_fs.proofs.mounting.mount.Given as goal
 
 -- the chains that are there

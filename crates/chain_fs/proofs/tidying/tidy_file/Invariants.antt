@@ -1,4 +1,4 @@
-use Rattle.chain_fs.specs.Tidying.{named_of}
+use Rattle.chain_fs.proofs.Common.{named_of}
 use Rattle.chain_fs.proofs.TidyLaws.{FileGoing}
 use Rattle.chain_fs.proofs.tidying.tidy_file.Given as goal
 

@@ -1,7 +1,5 @@
 use Rattle.std.proofs.Common.{◌<◌, ◌≤◌, sym, subst, arith, Ok, Err}
-use Rattle.fs_client.proofs.LookLaws.{no_look}
-use Rattle.fs_client.proofs.TrimLaws.{trims_by_looks, then_trims}
-use Rattle.chain_fs.specs.Tidying.{named_of, IsFileHere}
+use Rattle.chain_fs.proofs.Common.{no_look, trims_by_looks, then_trims, named_of, IsFileHere}
 use Rattle.chain_fs.proofs.PageLaws.{file_here, page_still, files_more, files_all}
 use Rattle.chain_fs.proofs.tidying.tidy_files.Goals as goal
 

@@ -1,10 +1,5 @@
-use contract.BorrowLft.{⊑_static}
+use Rattle.chain_fs.proofs.Common.{⊑_static, MayDelete, Trimmed, on_ok, then_trims, blocks_in, named_of, AreClean}
 use Rattle.std.proofs.Common.{[], ◌∷◌}
-use Rattle.fs_client.specs.Trimming.{MayDelete, Trimmed}
-use Rattle.fs_client.proofs.RunLaws.{on_ok}
-use Rattle.fs_client.proofs.TrimLaws.{then_trims}
-use Rattle.chain_layout.specs.Held.{blocks_in}
-use Rattle.chain_fs.specs.Tidying.{named_of, AreClean}
 use Rattle.chain_fs.proofs.TidyLaws.{clean_still}
 use Rattle.chain_fs.proofs.PageLaws.{page_trim, own_clean, page_still}
 use Rattle.chain_fs.proofs.tidying.tidy_page.Goals as goal

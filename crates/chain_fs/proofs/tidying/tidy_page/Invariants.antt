@@ -1,4 +1,4 @@
-use Rattle.chain_fs.specs.Tidying.{named_of}
+use Rattle.chain_fs.proofs.Common.{named_of}
 use Rattle.chain_fs.proofs.tidying.tidy_page.Given as goal
 
 abbrev pub ghost-delete_others : goal.ghost-delete_others

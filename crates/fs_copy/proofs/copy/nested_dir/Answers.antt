@@ -1,6 +1,5 @@
 use Rattle.std.proofs.Common.{cond, sym, ◌∙◌, ap, None}
-use Rattle.fs_copy.specs.Going.{tree_under}
-use Rattle.fs_copy.specs.Nesting.{first_dir}
+use Rattle.fs_copy.proofs.Common.{tree_under, first_dir}
 use Rattle.fs_copy.proofs.NestedLaws.{looks_as, none_looks, when_none}
 use Rattle.fs_copy.proofs.copy.nested_dir.Goals as goal
 
@@ -15,7 +14,7 @@ pub returns-then-has_dirs-clause-looks : goal.returns-then-has_dirs-clause-looks
 returns-then-has_dirs-clause-looks g c =
     let told = g.K.Blocks.told in
     let old = g.K.Blocks.view c.args.disk.now in
-    looks_as told old old tt None (none_looks told old c.requires.set.ready.unspent (λ t. g.met.K.Blocks.sound c.args.disk.now t c.requires.set.ready.unspent) c.requires.set.valid)
+    looks_as (none_looks c.requires.set.ready.unspent (λ t. g.met.K.Blocks.sound c.args.disk.now t c.requires.set.ready.unspent) c.requires.set.valid)
 
 pub first_dir-requires : goal.first_dir-requires
 first_dir-requires g c =

@@ -1,5 +1,5 @@
 use Rattle.std.proofs.Common.{◌≡◌, cond, [], ◌∷◌, ◌++◌, length, sym, ◌∙◌, ap, arith, Some, None}
-use Rattle.fs_trees.specs.Names.{is_path}
+use Rattle.fs_copy.proofs.Common.{is_path}
 use Rattle.fs_copy.proofs.nested.path_of.Goals as goal
 
 pub returns-in-Err : goal.returns-in-Err

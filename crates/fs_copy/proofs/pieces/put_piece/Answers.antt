@@ -1,80 +1,24 @@
-use Rattle.std.proofs.Common.{◌≡◌, false, [], ◌∷◌, take, ap, Err}
-use Rattle.fs_trees.specs.Tree.{at, bytes_in}
+use Rattle.std.proofs.Common.{ap}
 use Rattle.fs_trees.specs.declared.ask.ShellAsk.TheVariants as ask
-use Rattle.fs_port.specs.View.{IsDiskSound}
-use Rattle.fs_port.proofs.RunLaws.{on_answer}
-use Rattle.fs_copy.specs.Going.{tree_under}
-use Rattle.fs_copy.proofs.GoingLaws.{change_goes, err_as, goes_as, looked, look_lost, now_set, then_goes}
-use Rattle.fs_copy.proofs.ReadLaws.{never_refused, part_refused, part_tells}
+use Rattle.fs_copy.proofs.GoingLaws.{after_look, look_change}
+use Rattle.fs_copy.proofs.PieceLaws.{part_lost, part_read}
 use Rattle.fs_copy.proofs.pieces.put_piece.Goals as goal
 
-pub read_part-requires-clause-ready : goal.read_part-requires-clause-ready
-read_part-requires-clause-ready g c = c.requires.set.from_ready
+pub read_part-requires : goal.read_part-requires
+read_part-requires g c =
+    let set = c.requires.set in
+    record { ready = set.from_ready; valid = set.valid; named = c.requires.named; tree = λ t _. set.from_there t }
 
-pub read_part-requires-clause-valid : goal.read_part-requires-clause-valid
-read_part-requires-clause-valid g c = c.requires.set.valid
-
-pub read_part-requires-clause-tree : goal.read_part-requires-clause-tree
-read_part-requires-clause-tree g c = λ t _. c.requires.set.from_there t
-
-pub put-requires-clause-ready : goal.put-requires-clause-ready
-put-requires-clause-ready g c =
-    let told = g.K.Blocks.told in
-    let f = g.A.Files.view c.args.from.now in
-    let to = g.B.Files.view c.args.into.now in
-    let old = g.K.Blocks.view c.args.disk.now in
-    let mid = g.K.Blocks.view c.read_part.new.disk in
-    let look = looked told f to old mid c.requires.set tt c.in-Ok.ensures.looks in
-    (now_set told f to old mid [] tt (λ t. g.met.K.Blocks.sound c.args.disk.now t c.requires.set.from_ready.unspent) c.requires.set look).into_ready
-
-pub put-requires-clause-valid : goal.put-requires-clause-valid
-put-requires-clause-valid g c =
-    let told = g.K.Blocks.told in
-    let f = g.A.Files.view c.args.from.now in
-    let to = g.B.Files.view c.args.into.now in
-    let old = g.K.Blocks.view c.args.disk.now in
-    let mid = g.K.Blocks.view c.read_part.new.disk in
-    let look = looked told f to old mid c.requires.set tt c.in-Ok.ensures.looks in
-    (now_set told f to old mid [] tt (λ t. g.met.K.Blocks.sound c.args.disk.now t c.requires.set.from_ready.unspent) c.requires.set look).valid
-
-pub put-requires-clause-tree : goal.put-requires-clause-tree
-put-requires-clause-tree g c =
-    let told = g.K.Blocks.told in
-    let f = g.A.Files.view c.args.from.now in
-    let to = g.B.Files.view c.args.into.now in
-    let old = g.K.Blocks.view c.args.disk.now in
-    let mid = g.K.Blocks.view c.read_part.new.disk in
-    let look = looked told f to old mid c.requires.set tt c.in-Ok.ensures.looks in
-    λ t _. (now_set told f to old mid [] tt (λ t. g.met.K.Blocks.sound c.args.disk.now t c.requires.set.from_ready.unspent) c.requires.set look).into_there t
+pub put-requires : goal.put-requires
+put-requires g c =
+    let look = after_look c.requires.set (g.met.K.Blocks.sound c.args.disk.now) c.in-Ok.ensures.same c.in-Ok.ensures.looks in
+    record { ready = look.set.into_ready; valid = look.set.valid; named = c.requires.named; tree = λ t _. look.set.into_there t }
 
 pub returns-in-Ok-clause-goes : goal.returns-in-Ok-clause-goes
 returns-in-Ok-clause-goes g c =
-    let told = g.K.Blocks.told in
-    let f = g.A.Files.view c.args.from.now in
-    let to = g.B.Files.view c.args.into.now in
-    let old = g.K.Blocks.view c.args.disk.now in
-    let mid = g.K.Blocks.view c.read_part.new.disk in
-    let new = g.K.Blocks.view c.put.new.disk in
-    let look = looked told f to old mid c.requires.set tt c.in-Ok.ensures.looks in
-    let set = now_set told f to old mid [] tt (λ t. g.met.K.Blocks.sound c.args.disk.now t c.requires.set.from_ready.unspent) c.requires.set look in
-    let piece = c.read_part.new.into in
-    let changes = c.put.ensures.changes in
-    let made = change_goes told to mid new c.put.result (λ t. (set.valid t).valid) (ask.Put c.args.path.now piece) tt set.into_mounted
-    (λ t. g.met.K.Blocks.sound c.read_part.new.disk t set.into_ready.unspent)
-    (λ t. on_answer (new.spent ≡ false) (IsDiskSound new) c.put.result (λ u. g.met.K.Blocks.sound c.put.new.disk t u) changes.unspent)
-    c.put.ensures.answer changes in
-    goes_as told to old new (ask.Put c.args.path.now piece ∷ []) (ask.Put c.args.path.now (take 4096 (bytes_in (at (tree_under f old) c.args.path.now))) ∷ []) c.put.result
-    (λ t. ap (λ y. ask.Put c.args.path.now y ∷ []) (part_tells f old c.requires.set.from_mounted c.args.path.now (c.requires.file t) 0 piece (c.in-Ok.ensures.answer t).ok.0))
-    (then_goes told to old mid new [] (ask.Put c.args.path.now piece ∷ []) tt c.put.result look made)
+    let look = after_look c.requires.set (g.met.K.Blocks.sound c.args.disk.now) c.in-Ok.ensures.same c.in-Ok.ensures.looks in
+    look_change look (g.met.K.Blocks.sound c.read_part.new.disk) (g.met.K.Blocks.sound c.put.new.disk) c.put.ensures.answer c.put.ensures.changes
+    (λ t. ap (ask.Put c.args.path.now) (part_read 0 c.requires.set c.requires.file c.in-Ok.ensures.answer t)) tt
 
 pub returns-in-Err-clause-goes : goal.returns-in-Err-clause-goes
-returns-in-Err-clause-goes g c =
-    let told = g.K.Blocks.told in
-    let f = g.A.Files.view c.args.from.now in
-    let to = g.B.Files.view c.args.into.now in
-    let old = g.K.Blocks.view c.args.disk.now in
-    let mid = g.K.Blocks.view c.read_part.new.disk in
-    let lost = look_lost told f to old mid c.requires.set c.in-Err.why
-    (λ t. never_refused f old mid (ask.Cat c.args.path.now) (Err c.in-Err.why) _ (part_refused f old c.requires.set.from_mounted c.args.path.now (c.requires.file t)) (c.in-Err.ensures.answer t))
-    c.in-Err.ensures.looks in
-    err_as told to old mid [] c.in-Err.why (ask.Put c.args.path.now (take 4096 (bytes_in (at (tree_under f old) c.args.path.now))) ∷ []) lost
+returns-in-Err-clause-goes g c = part_lost 0 c.requires.set c.requires.file _ c.in-Err.ensures.answer c.in-Err.ensures.looks

@@ -1,5 +1,5 @@
 use Rattle.std.proofs.Common.{ℕ, refl, sym, subst, Option}
-use Rattle.fs_copy.specs.Walk.{IsCountedOn}
+use Rattle.fs_copy.proofs.Common.{IsCountedOn}
 use Rattle.fs_copy.proofs.walk.counted.Goals as goal
 
 pub returns-in-Some : goal.returns-in-Some

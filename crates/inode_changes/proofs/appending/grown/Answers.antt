@@ -1,9 +1,5 @@
 use Rattle.std.proofs.Common.{◌≡◌, ◌+◌, ◌*◌, ◌/◌, ◌≤◌, length, sym, ◌∙◌, ap, subst, arith}
-use Rattle.std.proofs.lemmas.List.{length-take-le}
-use Rattle.std.proofs.Math.Nat.{div-le_self}
-use Rattle.std.specs.Prelude.{take}
-use Rattle.inode_layout.specs.Block.{inode_of, block_len_of}
-use Rattle.inode_layout.specs.Said.{amount_said}
+use Rattle.inode_changes.proofs.Common.{length-take-le, div-le_self, take, inode_of, block_len_of, amount_said}
 use Rattle.inode_changes.proofs.GrowLaws.{full_behind}
 use Rattle.inode_changes.proofs.appending.grown.Goals as goal
 

@@ -1,13 +1,5 @@
 use Rattle.std.proofs.Common.{◌≡◌, ℕ, ◌<◌, ◌≤◌, ◌-◌, ◌%◌, ◌/◌, length, refl, sym, ◌∙◌, ap, subst, arith, Some}
-use Rattle.std.proofs.Math.Nat.{mod-lt}
-use Rattle.std.specs.Prelude.{slice_index}
-use Rattle.tsd_model.specs.World.{contents}
-use Rattle.fs_client.specs.May.{MayWrite}
-use Rattle.fs_client.proofs.LookLaws.{looks_as, looks_refused, no_look}
-use Rattle.inode_layout.specs.Block.{inode_of, block_len_of}
-use Rattle.inode_layout.specs.Said.{amount_said, blocks_said}
-use Rattle.inode_walks.specs.Reading.{part, bytes_said}
-use Rattle.inode_walks.proofs.FileLaws.{number_at_place, may_look}
+use Rattle.inode_changes.proofs.Common.{mod-lt, slice_index, contents, MayWrite, looks_as, looks_refused, no_look, inode_of, block_len_of, amount_said, blocks_said, part, bytes_said, number_at_place, may_look}
 use Rattle.inode_walks.proofs.ReadLaws.{block_full}
 use Rattle.inode_changes.proofs.LastLaws.{last_is, last_part, none_partial}
 use Rattle.inode_changes.proofs.appending.last_bytes.Goals as goal

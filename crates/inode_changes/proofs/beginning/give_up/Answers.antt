@@ -1,9 +1,6 @@
 use Rattle.std.proofs.Common.{◌≢◌, sym, subst, Ok, Err}
 use Rattle.fs_trees.specs.declared.refusal.FsRefusal.TheVariants as no
-use Rattle.fs_client.specs.Client.{unlink_by}
-use Rattle.fs_client.specs.Steps.{dropped}
-use Rattle.fs_client.proofs.RunLaws.{runs_step, runs_refused, runs_but_refuses}
-use Rattle.inode_changes.specs.Beginning.{AsideOr}
+use Rattle.inode_changes.proofs.Common.{unlink_by, dropped, runs_step, runs_refused, runs_but_refuses, AsideOr}
 use Rattle.inode_changes.proofs.BeginLaws.{is_back, stop_at_drop, no_fault}
 use Rattle.inode_changes.proofs.beginning.give_up.Goals as goal
 

@@ -1,12 +1,7 @@
 use Rattle.std.proofs.Common.{◌≡◌, sym, ◌∙◌, arith, Some, Ok, Err}
-use Rattle.tsd_model.specs.declared.requests.Hint.TheVariants.{At}
+use Rattle.inode_changes.proofs.Common.{At, alloc_by, runs_step, runs_as, runs_refused, runs_but_refuses, there_is_room, the_block, IsAside}
 use Rattle.fs_trees.specs.declared.refusal.FsRefusal.TheVariants as no
-use Rattle.fs_client.specs.Client.{alloc_by}
 use Rattle.fs_client.specs.Steps as steps
-use Rattle.fs_client.proofs.RunLaws.{runs_step, runs_as, runs_refused, runs_but_refuses}
-use Rattle.fs_client.proofs.RoomLaws.{there_is_room}
-use Rattle.inode_changes.specs.Blocks.{the_block}
-use Rattle.inode_changes.specs.Filling.{IsAside}
 use Rattle.inode_changes.proofs.BeginLaws.{began_so, stop_at_take, only_one, one_there}
 use Rattle.inode_changes.proofs.beginning.new_inode.Goals as goal
 

@@ -1,13 +1,6 @@
 use Rattle.std.proofs.Common.{◌≡◌, ◌≢◌, ◌≤◌, ℕ, zero, suc, [], length, refl, sym, ◌∙◌, ap, subst, arith, Ok, Err}
-use Rattle.tsd_model.specs.declared.requests.Hint.TheVariants.{At}
+use Rattle.inode_changes.proofs.Common.{At, alloc_by, no_look, taken, runs_look, runs_step, runs_as, runs_but_refuses, room_there, there_is_room, chosen_enough, AsideTaking, Took}
 use Rattle.fs_trees.specs.declared.refusal.FsRefusal.TheVariants as no
-use Rattle.fs_client.specs.Client.{alloc_by}
-use Rattle.fs_client.proofs.LookLaws.{no_look}
-use Rattle.fs_client.specs.Steps.{taken}
-use Rattle.fs_client.proofs.RunLaws.{runs_look, runs_step, runs_as, runs_but_refuses}
-use Rattle.fs_client.proofs.RoomLaws.{room_there, there_is_room}
-use Rattle.fs_client.proofs.NewLaws.{chosen_enough}
-use Rattle.inode_changes.specs.Filling.{AsideTaking, Took}
 use Rattle.inode_changes.proofs.FillLaws.{aside_taking_same, took_none, stop_at_take, took_some}
 use Rattle.inode_changes.proofs.blocks.take_parts.Goals as goal
 

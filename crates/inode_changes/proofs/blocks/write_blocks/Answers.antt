@@ -1,10 +1,5 @@
 use Rattle.std.proofs.Common.{◌+◌, ◌++◌, length, refl, sym, ◌∙◌, ap, subst, arith, Ok, Err}
-use Rattle.std.specs.Prelude.{slice_index_or}
-use Rattle.std.proofs.lemmas.List.{length-take}
-use Rattle.fs_client.specs.Client.{write_by}
-use Rattle.tsd_model.specs.Step.{written}
-use Rattle.fs_client.specs.Steps.{Steps}
-use Rattle.inode_changes.specs.Content.{new_bytes}
+use Rattle.inode_changes.proofs.Common.{slice_index_or, length-take, write_by, written, Steps, new_bytes}
 use Rattle.inode_changes.proofs.FillLaws.{Writing, writing_begins, writing_ends, writes_on, goes_on, may_now, len_now}
 use Rattle.inode_changes.proofs.PartLaws.{drop_behind, enough_blocks, some_blocks}
 use Rattle.inode_changes.proofs.blocks.write_blocks.Goals as goal

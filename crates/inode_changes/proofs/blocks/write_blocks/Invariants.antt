@@ -1,5 +1,5 @@
 use Rattle.std.proofs.Common.{◌≤◌, ◌++◌, length}
-use Rattle.inode_changes.specs.Content.{new_bytes}
+use Rattle.inode_changes.proofs.Common.{new_bytes}
 use Rattle.inode_changes.proofs.FillLaws.{Writing}
 use Rattle.inode_changes.proofs.blocks.write_blocks.Given as goal
 

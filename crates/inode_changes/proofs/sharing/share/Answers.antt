@@ -1,18 +1,6 @@
 use Rattle.std.proofs.Common.{◌≡◌, ℕ, ◌≤◌, ◌<◌, false, true, length, sym, ◌∙◌, ap, subst, arith, Some, Ok, Err}
-use Rattle.std.specs.Prelude.{slice_index}
-use Rattle.tsd_model.specs.World.{is_live}
-use Rattle.tsd_model.specs.Pairs.{holds}
-use Rattle.tsd_model.specs.declared.caps.Shown.TheVariants.{Nothing}
+use Rattle.inode_changes.proofs.Common.{slice_index, is_live, holds, Nothing, attains_write, state_of, link_by, refusal_before, Steps, pointed, Runs, Content, shared_of, shared_count, MayShare, AsideOf}
 use Rattle.fs_trees.specs.declared.refusal.FsRefusal.TheVariants as no
-use Rattle.fs_laws.specs.Ways.{attains_write}
-use Rattle.fs_port.specs.View.{state_of}
-use Rattle.fs_client.specs.Client.{link_by}
-use Rattle.fs_client.specs.Leftovers.{refusal_before}
-use Rattle.fs_client.specs.Steps.{Steps, pointed}
-use Rattle.fs_port.specs.Runs.{Runs}
-use Rattle.inode_changes.specs.declared.content.Content.{Content}
-use Rattle.inode_changes.specs.Content.{shared_of, shared_count, MayShare}
-use Rattle.inode_changes.specs.Filling.{AsideOf}
 use Rattle.inode_changes.proofs.PartLaws.{shares_many}
 use Rattle.inode_changes.proofs.ShareLaws.{sharing_begins, is_among, not_yet, way_there, shares_on, shared_next, full_before, stopped_here, all_shared, room_for_shared, runs_before, before_fault}
 use Rattle.inode_changes.proofs.sharing.share.Goals as goal

@@ -1,4 +1,4 @@
-use Rattle.inode_changes.specs.Content.{shared_of}
+use Rattle.inode_changes.proofs.Common.{shared_of}
 use Rattle.inode_changes.proofs.ShareLaws.{Sharing}
 use Rattle.inode_changes.proofs.sharing.share.Given as goal
 

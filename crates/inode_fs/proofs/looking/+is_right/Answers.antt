@@ -1,14 +1,8 @@
 use Rattle.std.proofs.Common.{◌<◌, ◌≤◌, ◌-◌, true, false, refl, sym, ◌∙◌, subst, Ok, Err, arith, inl, inr}
-use Rattle.inode_layout.specs.Block.{inode_of}
-use Rattle.inode_layout.specs.Said.{blocks_said}
-use Rattle.fs_client.specs.May.{MayWrite}
-use Rattle.fs_client.proofs.LookLaws.{no_look, looks_as, looks_refused, then_looks}
-use Rattle.fs_client.proofs.PlaceLaws.{place_in}
-use Rattle.fs_client.proofs.SetLaws.{on_disk}
-use Rattle.inode_fs.specs.Looking.{Comes, IsSeenAt, with_inode, come_as, come_data, come_from}
-use Rattle.inode_fs.proofs.SeeLaws.{comes_none, no_level, come_before, none_held, no_file, come_file, come_dir, not_come, agrees_inode, noted_on, named_may}
-use Rattle.inode_fs.proofs.LoopLaws.{may_still, each_on, each_stops, each_ends, noted_seen, told_as}
-use Rattle.inode_fs.proofs.RightLaws.{seen_before, when_right}
+use Rattle.inode_fs.proofs.Common.{inode_of, blocks_said, MayWrite, no_look, looks_as, looks_refused, then_looks, place_in, IsSeenAt, come_from}
+use Rattle.inode_fs.proofs.SeeLaws.{comes_none, no_level, come_before, none_held, noted_on}
+use Rattle.inode_fs.proofs.LoopLaws.{may_still, each_on, told_as}
+use Rattle.inode_fs.proofs.RightLaws.{seen_before, at_inode, no_entry, right_file, dir_stops, dir_ends}
 use Rattle.inode_fs.proofs.looking.+is_right.Goals.{then-levels-eq0-via-then-levels-eq0, then-levels-eq0-via-else-levels-eq0+then-is_inode, then-levels-eq0-via-else-levels-eq0+else-is_inode+then-is_data_block}
 use Rattle.inode_fs.proofs.looking.+is_right.Goals as goal
 
@@ -55,15 +49,14 @@ pub returns-in-Err-clause-looks : goal.returns-in-Err-clause-looks
 returns-in-Err-clause-looks g t c = looks_refused g.K.Blocks.told (g.K.Blocks.view c.args.disk.now) (g.K.Blocks.view c.look_at.new.disk) c.in-Err.refusal c.in-Err.ensures.looks
 
 pub returns-then-not-is_entry-clause-comes : goal.returns-then-not-is_entry-clause-comes
-returns-then-not-is_entry-clause-comes g t c = λ told s agrees.
-    comes_none c.mark_inode.new.self _ (no_file c.args.is_entry (g.K.Blocks.view c.args.disk.now).world c.args.block s (inode_of c.in-Ok-Some.seen.found.inode) (subst (IsSeenAt c.args.client.now (g.K.Blocks.view c.args.disk.now) (g.K.Blocks.view c.look_at.new.disk) c.args.block) c.in-Ok-Some.field-0-is (c.in-Ok-Some.ensures.seen told)).0.is c.args.levels
-    c.if-not-is_entry.true (sym c.is_directory.ensures ∙ c.if-not-is_directory.true))
+returns-then-not-is_entry-clause-comes g t c =
+    let here = at_inode c.requires.valid c.requires.may c.requires.noted c.in-Ok-Some.ensures.looks c.in-Ok-Some.ensures.seen c.in-Ok-Some.field-0-is c.mark_inode.ensures in
+    no_entry here c.args.is_entry c.args.levels c.if-not-is_entry.true (sym c.is_directory.ensures ∙ c.if-not-is_directory.true)
 
 pub returns-then-not-is_entry-clause-noted : goal.returns-then-not-is_entry-clause-noted
-returns-then-not-is_entry-clause-noted g t c = λ told.
-    let old = g.K.Blocks.view c.args.disk.now in
-    noted_seen c.args.client.now old (g.K.Blocks.view c.look_at.new.disk) c.args.marks.now c.mark_inode.new.self c.args.block c.in-Ok-Some.seen (c.requires.noted told) (c.in-Ok-Some.ensures.looks.looked told).0 (subst (IsSeenAt c.args.client.now (g.K.Blocks.view c.args.disk.now) (g.K.Blocks.view c.look_at.new.disk) c.args.block) c.in-Ok-Some.field-0-is (c.in-Ok-Some.ensures.seen told)).0
-    (on_disk old c.args.block (c.requires.valid told) (c.requires.may told).live) c.mark_inode.ensures
+returns-then-not-is_entry-clause-noted g t c =
+    let here = at_inode c.requires.valid c.requires.may c.requires.noted c.in-Ok-Some.ensures.looks c.in-Ok-Some.ensures.seen c.in-Ok-Some.field-0-is c.mark_inode.ensures in
+    here.noted
 
 pub returns-then-not-is_entry-clause-looks : goal.returns-then-not-is_entry-clause-looks
 returns-then-not-is_entry-clause-looks g t c = looks_as g.K.Blocks.told (g.K.Blocks.view c.args.disk.now) (g.K.Blocks.view c.look_at.new.disk) _ false c.in-Ok-Some.ensures.looks
@@ -75,30 +68,20 @@ pub is_file_right-requires-clause-valid : goal.is_file_right-requires-clause-val
 is_file_right-requires-clause-valid g t c = λ told. (c.in-Ok-Some.ensures.looks.looked told).0.valid
 
 pub is_file_right-requires-clause-may : goal.is_file_right-requires-clause-may
-is_file_right-requires-clause-may g t c = λ told.
-    let old = g.K.Blocks.view c.args.disk.now in
-    let new = g.K.Blocks.view c.look_at.new.disk in
-    let seen = (c.in-Ok-Some.ensures.looks.looked told).0 in
-    let is = (subst (IsSeenAt c.args.client.now (g.K.Blocks.view c.args.disk.now) (g.K.Blocks.view c.look_at.new.disk) c.args.block) c.in-Ok-Some.field-0-is (c.in-Ok-Some.ensures.seen told)).0 in
-    named_may c.args.client.now old new c.args.block (inode_of c.in-Ok-Some.seen.found.inode) seen.valid (c.requires.may told) c.in-Ok-Some.ensures.looks.stays.0 seen is.is is.held
+is_file_right-requires-clause-may g t c =
+    let here = at_inode c.requires.valid c.requires.may c.requires.noted c.in-Ok-Some.ensures.looks c.in-Ok-Some.ensures.seen c.in-Ok-Some.field-0-is c.mark_inode.ensures in
+    here.may
 
 pub is_file_right-requires-clause-noted : goal.is_file_right-requires-clause-noted
-is_file_right-requires-clause-noted g t c = λ told.
-    let old = g.K.Blocks.view c.args.disk.now in
-    noted_seen c.args.client.now old (g.K.Blocks.view c.look_at.new.disk) c.args.marks.now c.mark_inode.new.self c.args.block c.in-Ok-Some.seen (c.requires.noted told) (c.in-Ok-Some.ensures.looks.looked told).0 (subst (IsSeenAt c.args.client.now (g.K.Blocks.view c.args.disk.now) (g.K.Blocks.view c.look_at.new.disk) c.args.block) c.in-Ok-Some.field-0-is (c.in-Ok-Some.ensures.seen told)).0
-    (on_disk old c.args.block (c.requires.valid told) (c.requires.may told).live) c.mark_inode.ensures
+is_file_right-requires-clause-noted g t c =
+    let here = at_inode c.requires.valid c.requires.may c.requires.noted c.in-Ok-Some.ensures.looks c.in-Ok-Some.ensures.seen c.in-Ok-Some.field-0-is c.mark_inode.ensures in
+    here.noted
 
 pub returns-then-not-is_directory-clause-comes : goal.returns-then-not-is_directory-clause-comes
-returns-then-not-is_directory-clause-comes g t c = λ told.
-    let old = g.K.Blocks.view c.args.disk.now in
-    let i = inode_of c.in-Ok-Some.seen.found.inode in
-    let b = c.args.block in
-    when_right c.is_file_right.new.marks c.is_file_right.result c.args.marks.now c.mark_inode.new.self b (come_as c.args.is_entry old.world c.args.levels b) (come_data (blocks_said i))
-    (λ s agrees. agrees_inode c.args.marks.now c.mark_inode.new.self s b c.in-Ok-Some.seen.has_others (on_disk old b (c.requires.valid told) (c.requires.may told).live) agrees c.mark_inode.ensures)
-    (λ s agrees. come_file c.args.is_entry old.world b s i (subst (IsSeenAt c.args.client.now (g.K.Blocks.view c.args.disk.now) (g.K.Blocks.view c.look_at.new.disk) c.args.block) c.in-Ok-Some.field-0-is (c.in-Ok-Some.ensures.seen told)).0.is c.args.levels (c.args.levels - 1) (omega (arith, c.if-levels-eq0.false))
-    (not_come c.args.marks.now s b agrees (sym c.is_inode.ensures ∙ c.if-is_inode.false) (sym c.is_data_block.ensures ∙ c.if-is_data_block.false))
-    c.if-not-is_entry.false (sym c.is_directory.ensures ∙ c.if-not-is_directory.true))
-    (c.is_file_right.ensures.comes told)
+returns-then-not-is_directory-clause-comes g t c =
+    let here = at_inode c.requires.valid c.requires.may c.requires.noted c.in-Ok-Some.ensures.looks c.in-Ok-Some.ensures.seen c.in-Ok-Some.field-0-is c.mark_inode.ensures in
+    right_file here c.args.is_entry c.args.levels (omega (arith, c.if-levels-eq0.false)) (sym c.is_inode.ensures ∙ c.if-is_inode.false) (sym c.is_data_block.ensures ∙ c.if-is_data_block.false)
+    c.is_file_right.new.marks c.is_file_right.result c.if-not-is_entry.false (sym c.is_directory.ensures ∙ c.if-not-is_directory.true) c.is_file_right.ensures.comes
 
 pub returns-then-not-is_directory-clause-noted : goal.returns-then-not-is_directory-clause-noted
 returns-then-not-is_directory-clause-noted g t c = c.is_file_right.ensures.noted
@@ -112,15 +95,11 @@ returns-then-not-is_directory-clause-looks g t c =
 
 pub loop-position-init : goal.loop-position-init
 loop-position-init g t c =
-    let old = g.K.Blocks.view c.args.disk.now in
-    let new = g.K.Blocks.view c.look_at.new.disk in
-    let looks = c.in-Ok-Some.ensures.looks in
+    let here = at_inode c.requires.valid c.requires.may c.requires.noted c.in-Ok-Some.ensures.looks c.in-Ok-Some.ensures.seen c.in-Ok-Some.field-0-is c.mark_inode.ensures in
     record {
-      looks = looks_as g.K.Blocks.told old new _ tt looks;
-      may = λ told. let is = (subst (IsSeenAt c.args.client.now (g.K.Blocks.view c.args.disk.now) (g.K.Blocks.view c.look_at.new.disk) c.args.block) c.in-Ok-Some.field-0-is (c.in-Ok-Some.ensures.seen told)).0 in
-          named_may c.args.client.now old new c.args.block (inode_of c.in-Ok-Some.seen.found.inode) (looks.looked told).0.valid (c.requires.may told) looks.stays.0 (looks.looked told).0 is.is is.held;
-      noted = λ told. noted_seen c.args.client.now old new c.args.marks.now c.mark_inode.new.self c.args.block c.in-Ok-Some.seen (c.requires.noted told) (looks.looked told).0 (subst (IsSeenAt c.args.client.now (g.K.Blocks.view c.args.disk.now) (g.K.Blocks.view c.look_at.new.disk) c.args.block) c.in-Ok-Some.field-0-is (c.in-Ok-Some.ensures.seen told)).0
-          (on_disk old c.args.block (c.requires.valid told) (c.requires.may told).live) c.mark_inode.ensures;
+      looks = looks_as g.K.Blocks.told (g.K.Blocks.view c.args.disk.now) (g.K.Blocks.view c.look_at.new.disk) _ tt c.in-Ok-Some.ensures.looks;
+      may = here.may;
+      noted = here.noted;
       comes = λ told s agrees. (s, agrees, refl);
     }
 
@@ -139,21 +118,12 @@ is_right-requires g t c κs within =
     (less, (within, (c.loop-position.invariant.looks.unspent.0, ((λ told. (c.loop-position.invariant.looks.looked told).0.valid), (may, c.loop-position.invariant.noted)))))
 
 pub returns-in-Ok-false-clause-comes : goal.returns-in-Ok-false-clause-comes
-returns-in-Ok-false-clause-comes g t c = λ told s agrees.
-    let old = g.K.Blocks.view c.args.disk.now in
-    let cur = g.K.Blocks.view c.loop-position.disk in
-    let i = inode_of c.in-Ok-Some.seen.found.inode in
-    let b = c.args.block in
-    let inv = c.loop-position.invariant in
-    subst (λ o. Comes c.is_right.new.marks o false)
-    (sym (come_dir c.args.is_entry old.world b s i (subst (IsSeenAt c.args.client.now (g.K.Blocks.view c.args.disk.now) (g.K.Blocks.view c.look_at.new.disk) c.args.block) c.in-Ok-Some.field-0-is (c.in-Ok-Some.ensures.seen told)).0.is c.args.levels (c.args.levels - 1) (omega (arith, c.if-levels-eq0.false))
-    (not_come c.args.marks.now s b agrees (sym c.is_inode.ensures ∙ c.if-is_inode.false) (sym c.is_data_block.ensures ∙ c.if-is_data_block.false))
-    (sym c.is_directory.ensures ∙ c.if-not-is_directory.false)))
-    (each_stops (come_from old.world (c.args.levels - 1)) (blocks_said i) c.loop-position.position c.mark_inode.new.self c.loop-position.marks (inv.comes told) c.is_right.new.marks
-    (subst (λ n. c.loop-position.position < n) c.count-position-end.ensures.value c.loop-position-test.true)
-    (told_as cur old (c.args.levels - 1) c.named.result _ c.is_right.new.marks c.loop-position.marks c.in-Ok-false.field-0 false (inv.looks.looked told).0.world c.named.ensures c.in-Ok-false.field-0-test (c.in-Ok-false.ensures.comes told))
-    (with_inode s b)
-    (agrees_inode c.args.marks.now c.mark_inode.new.self s b c.in-Ok-Some.seen.has_others (on_disk old b (c.requires.valid told) (c.requires.may told).live) agrees c.mark_inode.ensures))
+returns-in-Ok-false-clause-comes g t c =
+    let here = at_inode c.requires.valid c.requires.may c.requires.noted c.in-Ok-Some.ensures.looks c.in-Ok-Some.ensures.seen c.in-Ok-Some.field-0-is c.mark_inode.ensures in
+    let going = c.loop-position.invariant in
+    dir_stops here c.args.is_entry c.args.levels (omega (arith, c.if-levels-eq0.false)) (sym c.is_inode.ensures ∙ c.if-is_inode.false) (sym c.is_data_block.ensures ∙ c.if-is_data_block.false)
+    (sym c.is_directory.ensures ∙ c.if-not-is_directory.false) going c.is_right.new.marks (subst (λ n. c.loop-position.position < n) c.count-position-end.ensures.value c.loop-position-test.true)
+    (λ told. told_as (g.K.Blocks.view c.loop-position.disk) (g.K.Blocks.view c.args.disk.now) (c.args.levels - 1) c.named.result _ c.is_right.new.marks c.loop-position.marks c.in-Ok-false.field-0 false (going.looks.looked told).0.world c.named.ensures c.in-Ok-false.field-0-test (c.in-Ok-false.ensures.comes told))
 
 pub returns-in-Ok-false-clause-noted : goal.returns-in-Ok-false-clause-noted
 returns-in-Ok-false-clause-noted g t c = c.in-Ok-false.ensures.noted
@@ -195,18 +165,10 @@ loop-position-preserved g t c =
     }
 
 pub returns-clause-comes : goal.returns-clause-comes
-returns-clause-comes g t c = λ told s agrees.
-    let old = g.K.Blocks.view c.args.disk.now in
-    let i = inode_of c.in-Ok-Some.seen.found.inode in
-    let b = c.args.block in
-    subst (λ o. Comes c.loop-position.marks o true)
-    (sym (come_dir c.args.is_entry old.world b s i (subst (IsSeenAt c.args.client.now (g.K.Blocks.view c.args.disk.now) (g.K.Blocks.view c.look_at.new.disk) c.args.block) c.in-Ok-Some.field-0-is (c.in-Ok-Some.ensures.seen told)).0.is c.args.levels (c.args.levels - 1) (omega (arith, c.if-levels-eq0.false))
-    (not_come c.args.marks.now s b agrees (sym c.is_inode.ensures ∙ c.if-is_inode.false) (sym c.is_data_block.ensures ∙ c.if-is_data_block.false))
-    (sym c.is_directory.ensures ∙ c.if-not-is_directory.false)))
-    (each_ends (come_from old.world (c.args.levels - 1)) (blocks_said i) c.loop-position.position c.mark_inode.new.self c.loop-position.marks (c.loop-position.invariant.comes told)
-    (subst (λ n. n ≤ c.loop-position.position) c.count-position-end.ensures.value c.loop-position-test.false)
-    (with_inode s b)
-    (agrees_inode c.args.marks.now c.mark_inode.new.self s b c.in-Ok-Some.seen.has_others (on_disk old b (c.requires.valid told) (c.requires.may told).live) agrees c.mark_inode.ensures))
+returns-clause-comes g t c =
+    let here = at_inode c.requires.valid c.requires.may c.requires.noted c.in-Ok-Some.ensures.looks c.in-Ok-Some.ensures.seen c.in-Ok-Some.field-0-is c.mark_inode.ensures in
+    dir_ends here c.args.is_entry c.args.levels (omega (arith, c.if-levels-eq0.false)) (sym c.is_inode.ensures ∙ c.if-is_inode.false) (sym c.is_data_block.ensures ∙ c.if-is_data_block.false)
+    (sym c.is_directory.ensures ∙ c.if-not-is_directory.false) c.loop-position.invariant (subst (λ n. n ≤ c.loop-position.position) c.count-position-end.ensures.value c.loop-position-test.false)
 
 pub returns-clause-noted : goal.returns-clause-noted
 returns-clause-noted g t c = c.loop-position.invariant.noted

@@ -1,7 +1,5 @@
 use Rattle.std.proofs.Common.{◌-◌}
-use Rattle.inode_layout.specs.Block.{inode_of}
-use Rattle.inode_layout.specs.Said.{blocks_said}
-use Rattle.inode_fs.specs.Looking.{come_each, come_from}
+use Rattle.inode_fs.proofs.Common.{inode_of, blocks_said, come_each, come_from}
 use Rattle.inode_fs.proofs.LoopLaws.{Looping}
 use Rattle.inode_fs.proofs.looking.+is_right.Given as goal
 

@@ -1,11 +1,5 @@
 use Rattle.std.proofs.Common.{◌<◌, ◌≤◌, refl, sym, ◌∙◌, ap, subst, Ok, Err}
-use Rattle.inode_layout.specs.Block.{inode_of}
-use Rattle.inode_layout.specs.Said.{blocks_said}
-use Rattle.fs_client.specs.May.{MayWrite}
-use Rattle.fs_client.proofs.LookLaws.{no_look, looks_as, looks_refused, then_looks}
-use Rattle.fs_client.proofs.PlaceLaws.{place_in}
-use Rattle.inode_fs.specs.Marked.{is_inode}
-use Rattle.inode_fs.specs.Looking.{NamesData}
+use Rattle.inode_fs.proofs.Common.{inode_of, blocks_said, MayWrite, no_look, looks_as, looks_refused, then_looks, place_in, is_inode, NamesData}
 use Rattle.inode_fs.proofs.LoopLaws.{may_still, data_on, data_stops, data_ends}
 use Rattle.inode_fs.proofs.looking.is_file_right.Goals as goal
 

@@ -1,6 +1,4 @@
-use Rattle.inode_layout.specs.Block.{inode_of}
-use Rattle.inode_layout.specs.Said.{blocks_said}
-use Rattle.inode_fs.specs.Looking.{come_data}
+use Rattle.inode_fs.proofs.Common.{inode_of, blocks_said, come_data}
 use Rattle.inode_fs.proofs.LoopLaws.{Looping}
 use Rattle.inode_fs.proofs.looking.is_file_right.Given as goal
 

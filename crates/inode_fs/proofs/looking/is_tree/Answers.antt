@@ -1,7 +1,6 @@
 use Rattle.std.proofs.Common.{refl}
 use Rattle.fs_trees.specs.declared.ask.ShellKind.TheVariants.{Inode}
-use Rattle.fs_client.proofs.RootLaws.{root_may}
-use Rattle.inode_fs.specs.Looking.{come_under, nothing_yet}
+use Rattle.inode_fs.proofs.Common.{root_may, come_under, nothing_yet}
 use Rattle.inode_fs.proofs.SeeLaws.{agrees_none, noted_none}
 use Rattle.inode_fs.proofs.RootLaws.{tells_tree}
 use Rattle.inode_fs.proofs.looking.is_tree.Goals as goal

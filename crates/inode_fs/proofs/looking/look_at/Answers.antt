@@ -1,10 +1,7 @@
-use Rattle.std.proofs.Common.{refl, sym, ◌∙◌, ap, Some, None, Ok, Err}
+use Rattle.std.proofs.Common.{refl, sym, ◌∙◌, ap, Some, None}
 use Rattle.std.specs.Prelude.{length}
-use Rattle.inode_layout.specs.Block.{inode_of}
-use Rattle.inode_layout.specs.Said.{blocks_said}
-use Rattle.fs_client.specs.Leftovers.{named_targets, other_targets}
-use Rattle.fs_client.proofs.LookLaws.{looks_as, looks_refused, then_looks, may_again}
-use Rattle.inode_fs.proofs.SeenLaws.{inode_is, no_inode, wrong_count, right_count, is_seen}
+use Rattle.inode_fs.proofs.Common.{inode_of, blocks_said, named_targets, other_targets, looks_as, looks_refused, may_again}
+use Rattle.inode_fs.proofs.SeenLaws.{inode_is, no_inode, wrong_count, right_count, is_seen, then_lost, then_as}
 use Rattle.inode_fs.proofs.looking.look_at.Goals as goal
 
 pub look-requires-clause-unspent : goal.look-requires-clause-unspent
@@ -44,12 +41,7 @@ pub returns-in-Err-count_pairs-clause-only : goal.returns-in-Err-count_pairs-cla
 returns-in-Err-count_pairs-clause-only g c = c.in-Err-count_pairs.ensures.only
 
 pub returns-in-Err-count_pairs-clause-looks : goal.returns-in-Err-count_pairs-clause-looks
-returns-in-Err-count_pairs-clause-looks g c =
-    let told = g.K.Blocks.told in
-    let old = g.K.Blocks.view c.args.disk.now in
-    let mid = g.K.Blocks.view c.look.new.disk in
-    let new = g.K.Blocks.view c.count_pairs.new.disk in
-    then_looks told old mid new c.in-Ok.bytes (Err c.in-Err-count_pairs.refusal) c.in-Ok.ensures.looks (looks_refused told mid new c.in-Err-count_pairs.refusal c.in-Err-count_pairs.ensures.looks)
+returns-in-Err-count_pairs-clause-looks g c = then_lost c.in-Ok.ensures.looks c.in-Err-count_pairs.ensures.looks
 
 pub returns-then-count-clause-seen : goal.returns-then-count-clause-seen
 returns-then-count-clause-seen g c = λ t.
@@ -62,12 +54,7 @@ returns-then-count-clause-seen g c = λ t.
     (λ e. c.if-count.true (e ∙ sym c.count.ensures.value))
 
 pub returns-then-count-clause-looks : goal.returns-then-count-clause-looks
-returns-then-count-clause-looks g c =
-    let told = g.K.Blocks.told in
-    let old = g.K.Blocks.view c.args.disk.now in
-    let mid = g.K.Blocks.view c.look.new.disk in
-    let new = g.K.Blocks.view c.count_pairs.new.disk in
-    then_looks told old mid new c.in-Ok.bytes (Ok None) c.in-Ok.ensures.looks (looks_as told mid new c.in-Ok-count_pairs.count None c.in-Ok-count_pairs.ensures.looks)
+returns-then-count-clause-looks g c = then_as c.in-Ok.ensures.looks None c.in-Ok-count_pairs.ensures.looks
 
 pub returns-clause-seen : goal.returns-clause-seen
 returns-clause-seen g c = λ t.
@@ -86,9 +73,4 @@ returns-clause-seen g c = λ t.
     )
 
 pub returns-clause-looks : goal.returns-clause-looks
-returns-clause-looks g c =
-    let told = g.K.Blocks.told in
-    let old = g.K.Blocks.view c.args.disk.now in
-    let mid = g.K.Blocks.view c.look.new.disk in
-    let new = g.K.Blocks.view c.count_pairs.new.disk in
-    then_looks told old mid new c.in-Ok.bytes (Ok _) c.in-Ok.ensures.looks (looks_as told mid new c.in-Ok-count_pairs.count _ c.in-Ok-count_pairs.ensures.looks)
+returns-clause-looks g c = then_as c.in-Ok.ensures.looks _ c.in-Ok-count_pairs.ensures.looks

@@ -1,6 +1,5 @@
 use Rattle.std.proofs.Common.{sym, ◌∙◌, nat_lt}
-use Rattle.fs_client.proofs.LookLaws.{no_look, looks_as, looks_refused}
-use Rattle.fs_client.proofs.SetLaws.{on_disk}
+use Rattle.inode_fs.proofs.Common.{no_look, looks_as, looks_refused, on_disk}
 use Rattle.inode_fs.proofs.SeeLaws.{named_again, names_data, noted_on, noted_data}
 use Rattle.inode_fs.proofs.SeenLaws.{no_pairs}
 use Rattle.inode_fs.proofs.looking.see_data_block.Goals as goal

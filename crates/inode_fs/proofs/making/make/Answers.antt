@@ -1,8 +1,6 @@
 use Rattle.std.proofs.Common.{◌<◌, ◌≤◌, length, sym, subst}
-use Rattle.tsd_model.specs.Geometry.{block_len}
+use Rattle.inode_fs.proofs.Common.{block_len, written, IsEmptied}
 use Rattle.fs_trees.specs.declared.ask.ShellKind.TheVariants as kind
-use Rattle.tsd_model.specs.Step.{written}
-use Rattle.fs_client.specs.Changing.{IsEmptied}
 use Rattle.inode_fs.proofs.MakeLaws.{empty_fits, emptied}
 use Rattle.inode_fs.proofs.making.make.Goals as goal
 

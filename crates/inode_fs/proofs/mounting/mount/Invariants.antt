@@ -1,4 +1,4 @@
-use Rattle.fs_trees.specs.Layouts.{named_at}
+use Rattle.inode_fs.proofs.Common.{named_at}
 use Rattle.fs_trees.specs.declared.ask.ShellKind.TheVariants as kind
 use Rattle.inode_fs.proofs.mounting.mount.Given as goal
 

@@ -1,7 +1,5 @@
 use Rattle.std.proofs.Common.{sym, ◌∙◌, ap, arith, Ok, Err}
-use Rattle.fs_port.specs.View.{IsDiskSound}
-use Rattle.fs_client.proofs.LookLaws.{no_look}
-use Rattle.fs_client.proofs.TrimLaws.{trims_by_looks, then_trims}
+use Rattle.inode_fs.proofs.Common.{IsDiskSound, no_look, trims_by_looks, then_trims}
 use Rattle.inode_fs.proofs.TidyLaws.{tidy_still, under, clean_next, clean_all}
 use Rattle.inode_fs.proofs.mounting.tidy.Goals as goal
 

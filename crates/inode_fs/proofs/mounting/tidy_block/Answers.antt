@@ -1,127 +1,55 @@
 use contract.BorrowLft.{⊑_static}
-use Rattle.std.proofs.Common.{◌≡◌, true, false, [], sym, ◌∙◌, ap, Ok, Err}
-use Rattle.fs_port.specs.View.{IsDiskSound}
-use Rattle.fs_client.proofs.LookLaws.{no_look}
-use Rattle.fs_client.specs.Trimming.{MayDelete, IsClean, OnlyNamed}
-use Rattle.fs_client.proofs.RunLaws.{on_ok}
-use Rattle.fs_client.proofs.TrimLaws.{trims_by_looks, trims_refused, then_trims, delete_still}
-use Rattle.inode_layout.specs.Block.{inode_of}
-use Rattle.inode_layout.specs.Said.{blocks_said}
-use Rattle.inode_fs.specs.Looking.{blocks_in}
-use Rattle.inode_fs.specs.Marked.{is_inode, is_data_block}
-use Rattle.inode_fs.proofs.TidyLaws.{under, may_named, inode_named_here, trim_inode, trim_data, clean_before, clean_unmarked, clean_inode, clean_data}
+use Rattle.std.proofs.Common.{[], sym, ◌∙◌}
+use Rattle.inode_fs.proofs.Common.{IsClean, OnlyNamed, on_ok}
+use Rattle.inode_fs.proofs.TidyLaws.{no_trims, lost_trims, inode_may, inode_deletes, inode_trims, inode_cleans, data_deletes, clean_before, clean_unmarked, clean_data}
 use Rattle.inode_fs.proofs.mounting.tidy_block.Goals as goal
 
 pub returns-then-not-has_leftovers : goal.returns-then-not-has_leftovers
 returns-then-not-has_leftovers g c =
-    let told = g.K.Blocks.told in
-    let v = g.K.Blocks.view c.args.disk.now in
-    let me = c.args.client.now in
-    let m = c.args.marks.now in
     let may = c.requires.1 in
-    let sound : told → IsDiskSound v = λ t. g.met.K.Blocks.sound c.args.disk.now t may.ready.unspent in
+    let none = sym c.has_leftovers.ensures ∙ c.if-not-has_leftovers.true in
     record {
-      trims = trims_by_looks told me g.kept v v (Ok tt) may.valid (λ t. under told me g.kept v m t may (sound t)) (λ t. tt) (no_look told v may.ready.unspent sound may.valid);
-      clean = λ t. clean_before me g.kept v m (may.named t) (may.marked t) (may.noted t) c.args.block (sym c.has_leftovers.ensures ∙ c.if-not-has_leftovers.true);
+      trims = no_trims may (g.met.K.Blocks.sound c.args.disk.now);
+      clean = λ t. clean_before c.args.client.now g.kept (g.K.Blocks.view c.args.disk.now) c.args.marks.now (may.named t) (may.marked t) (may.noted t) c.args.block none;
     }
 
 pub read_inode-requires : goal.read_inode-requires
 read_inode-requires g c =
-    let told = g.K.Blocks.told in
-    let v = g.K.Blocks.view c.args.disk.now in
-    let me = c.args.client.now in
-    let m = c.args.marks.now in
     let may = c.requires.1 in
-    let one : is_inode m c.args.block ≡ true = sym c.is_inode.ensures ∙ c.if-is_inode.true in
+    let one = sym c.is_inode.ensures ∙ c.if-is_inode.true in
     record {
       unspent = may.ready.unspent;
       valid = may.valid;
-      may = λ t.
-          let sound = g.met.K.Blocks.sound c.args.disk.now t may.ready.unspent in
-          may_named told me g.kept v m t may sound c.args.block (inode_named_here told me g.kept v m t may sound c.args.block one);
+      may = inode_may may (g.met.K.Blocks.sound c.args.disk.now) c.args.block one;
       inode = λ t. (may.marked t).inodes c.args.block one;
     }
 
 pub delete_others-requires : goal.delete_others-requires
 delete_others-requires g c κs within =
-    let told = g.K.Blocks.told in
-    let v = g.K.Blocks.view c.args.disk.now in
-    let mid = g.K.Blocks.view c.read_inode.new.disk in
-    let me = c.args.client.now in
-    let m = c.args.marks.now in
-    let may = c.requires.1 in
-    let found = c.in-Ok.found in
-    let names = blocks_said (inode_of found.inode) in
-    let one : is_inode m c.args.block ≡ true = sym c.is_inode.ensures ∙ c.if-is_inode.true in
-    let sound : told → IsDiskSound v = λ t. g.met.K.Blocks.sound c.args.disk.now t may.ready.unspent in
-    let deletes : MayDelete told me g.kept v c.args.block names = record {
-      unspent = may.ready.unspent;
-      valid = may.valid;
-      trim = λ t. trim_inode told me g.kept v m t may (sound t) c.args.block one names (ap blocks_in (c.in-Ok.ensures.says t));
-    } in (
-      within,
-      (
-        ⊑_static _,
-        delete_still told me g.kept v mid c.args.block names found deletes
-            (trims_by_looks told me g.kept v mid (Ok found) may.valid (λ t. under told me g.kept v m t may (sound t)) (λ t. tt) c.in-Ok.ensures.looks),
-      ),
-    )
+    let one = sym c.is_inode.ensures ∙ c.if-is_inode.true in
+    (within, (⊑_static _, inode_deletes c.requires.1 (g.met.K.Blocks.sound c.args.disk.now) c.args.block one c.in-Ok.ensures.looks c.in-Ok.ensures.says))
 
 pub returns-in-Ok : goal.returns-in-Ok
 returns-in-Ok g c =
-    let told = g.K.Blocks.told in
-    let v = g.K.Blocks.view c.args.disk.now in
-    let mid = g.K.Blocks.view c.read_inode.new.disk in
-    let new = g.K.Blocks.view c.delete_others.new.disk in
-    let me = c.args.client.now in
-    let m = c.args.marks.now in
-    let may = c.requires.1 in
-    let found = c.in-Ok.found in
-    let names = blocks_said (inode_of found.inode) in
-    let one : is_inode m c.args.block ≡ true = sym c.is_inode.ensures ∙ c.if-is_inode.true in
-    let sound : told → IsDiskSound v = λ t. g.met.K.Blocks.sound c.args.disk.now t may.ready.unspent in
+    let sound = g.met.K.Blocks.sound c.args.disk.now in
+    let one = sym c.is_inode.ensures ∙ c.if-is_inode.true in
+    let read = c.in-Ok.ensures in
+    let deleted = c.delete_others.ensures in
     record {
-      trims = then_trims told me g.kept v mid new found c.delete_others.result
-          (trims_by_looks told me g.kept v mid (Ok found) may.valid (λ t. under told me g.kept v m t may (sound t)) (λ t. tt) c.in-Ok.ensures.looks) c.delete_others.ensures.trims;
-      clean = λ t. on_ok (OnlyNamed new.world c.args.block names) (IsClean g.kept new.world c.args.block) c.delete_others.result
-          (clean_inode me g.kept v m (may.named t) (may.marked t) (may.noted t) c.args.block one names (ap blocks_in (c.in-Ok.ensures.says t)) new.world)
-          (c.delete_others.ensures.named t);
+      trims = inode_trims c.requires.1 sound c.args.block one read.looks read.says deleted.trims;
+      clean = inode_cleans c.requires.1 sound c.args.block one read.looks read.says deleted.trims deleted.named;
     }
 
 pub returns-in-Err : goal.returns-in-Err
 returns-in-Err g c =
-    let told = g.K.Blocks.told in
-    let v = g.K.Blocks.view c.args.disk.now in
-    let mid = g.K.Blocks.view c.read_inode.new.disk in
-    let me = c.args.client.now in
-    let m = c.args.marks.now in
-    let may = c.requires.1 in
-    let sound : told → IsDiskSound v = λ t. g.met.K.Blocks.sound c.args.disk.now t may.ready.unspent in
-    record {
-      trims = trims_refused told me g.kept v mid c.in-Err.refusal
-          (trims_by_looks told me g.kept v mid (Err c.in-Err.refusal) may.valid (λ t. under told me g.kept v m t may (sound t)) c.in-Err.ensures.only c.in-Err.ensures.looks);
-      clean = λ t. tt;
-    }
+    let read = c.in-Err.ensures in
+    record { trims = lost_trims c.requires.1 (g.met.K.Blocks.sound c.args.disk.now) read.looks read.only; clean = λ t. tt }
 
 pub delete_others-requires-then-is_data_block : goal.delete_others-requires-then-is_data_block
 delete_others-requires-then-is_data_block g c κs within =
-    let told = g.K.Blocks.told in
-    let v = g.K.Blocks.view c.args.disk.now in
-    let me = c.args.client.now in
-    let m = c.args.marks.now in
-    let may = c.requires.1 in
-    let off : is_inode m c.args.block ≡ false = sym c.is_inode.ensures ∙ c.if-is_inode.false in
-    let two : is_data_block m c.args.block ≡ true = sym c.is_data_block.ensures ∙ c.if-is_data_block.true in (
-      within,
-      (
-        ⊑_static _,
-        record {
-          unspent = may.ready.unspent;
-          valid = may.valid;
-          trim = λ t. trim_data told me g.kept v m t may (g.met.K.Blocks.sound c.args.disk.now t may.ready.unspent) c.args.block off two;
-        },
-      ),
-    )
+    let off = sym c.is_inode.ensures ∙ c.if-is_inode.false in
+    let two = sym c.is_data_block.ensures ∙ c.if-is_data_block.true in
+    (within, (⊑_static _, data_deletes c.requires.1 (g.met.K.Blocks.sound c.args.disk.now) off two))
 
 pub returns-then-is_data_block : goal.returns-then-is_data_block
 returns-then-is_data_block g c =
@@ -134,13 +62,9 @@ returns-then-is_data_block g c =
 
 pub returns-else-is_data_block : goal.returns-else-is_data_block
 returns-else-is_data_block g c =
-    let told = g.K.Blocks.told in
     let v = g.K.Blocks.view c.args.disk.now in
-    let me = c.args.client.now in
-    let m = c.args.marks.now in
     let may = c.requires.1 in
-    let sound : told → IsDiskSound v = λ t. g.met.K.Blocks.sound c.args.disk.now t may.ready.unspent in
     record {
-      trims = trims_by_looks told me g.kept v v (Ok tt) may.valid (λ t. under told me g.kept v m t may (sound t)) (λ t. tt) (no_look told v may.ready.unspent sound may.valid);
-      clean = λ t. clean_unmarked me g.kept v m (may.named t) (may.marked t) (may.noted t) c.args.block (sym c.is_inode.ensures ∙ c.if-is_inode.false) (sym c.is_data_block.ensures ∙ c.if-is_data_block.false) v.world;
+      trims = no_trims may (g.met.K.Blocks.sound c.args.disk.now);
+      clean = λ t. clean_unmarked c.args.client.now g.kept v c.args.marks.now (may.named t) (may.marked t) (may.noted t) c.args.block (sym c.is_inode.ensures ∙ c.if-is_inode.false) (sym c.is_data_block.ensures ∙ c.if-is_data_block.false) v.world;
     }

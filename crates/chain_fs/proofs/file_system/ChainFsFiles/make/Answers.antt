@@ -1,5 +1,4 @@
-use Rattle.chain_reading.specs.Asking.{mounted_by}
-use Rattle.fs_client.proofs.FilesLaws.{made_as, make_as}
+use Rattle.chain_fs.proofs.Common.{mounted_by, made_as, make_as}
 use Rattle.chain_fs.proofs.file_system.ChainFsFiles.make.Goals as goal
 
 pub returns-in-Ok-clause-made : goal.returns-in-Ok-clause-made

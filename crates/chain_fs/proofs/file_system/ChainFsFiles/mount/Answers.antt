@@ -1,6 +1,5 @@
 use Rattle.std.proofs.Common.{Ok, Err}
-use Rattle.chain_reading.specs.Asking.{mounted_by}
-use Rattle.fs_client.proofs.FilesLaws.{finds_as, mount_as}
+use Rattle.chain_fs.proofs.Common.{mounted_by, finds_as, mount_as}
 use Rattle.chain_fs.proofs.file_system.ChainFsFiles.mount.Goals as goal
 
 pub returns-in-Ok-clause-finds : goal.returns-in-Ok-clause-finds

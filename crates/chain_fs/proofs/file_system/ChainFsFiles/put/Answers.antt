@@ -1,9 +1,6 @@
 use Rattle.fs_trees.specs.declared.ask.ShellAsk.TheVariants as ask
 use Rattle.fs_trees.specs.declared.refusal.FsRefusal.TheVariants as no
-use Rattle.fs_client.proofs.FilesLaws.{unasked_changes, mounted_changes}
-use Rattle.chain_reading.specs.Asking.{mounted_by}
-use Rattle.chain_fs.specs.View.{chain_view}
-use Rattle.fs_client.proofs.MountLaws.{other_fault}
+use Rattle.chain_fs.proofs.Common.{unasked_changes, mounted_changes, mounted_by, chain_view, other_fault}
 use Rattle.chain_fs.proofs.file_system.ChainFsFiles.put.Goals as goal
 
 pub returns-then-self-clause-changes : goal.returns-then-self-clause-changes

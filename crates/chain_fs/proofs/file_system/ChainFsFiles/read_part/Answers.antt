@@ -1,10 +1,8 @@
 use Rattle.std.proofs.Common.{sym, subst}
 use Rattle.fs_trees.specs.declared.ask.ShellAsk.TheVariants as ask
 use Rattle.fs_trees.specs.declared.ask.ShellKind.TheVariants.{Chain}
-use Rattle.fs_port.specs.Files.{Answers, TellsPart}
+use Rattle.chain_fs.proofs.Common.{Answers, TellsPart, looks_at, unasked_looks, other_fault}
 use Rattle.fs_trees.specs.declared.refusal.FsRefusal.TheVariants as no
-use Rattle.fs_client.proofs.FilesLaws.{looks_at, unasked_looks}
-use Rattle.fs_client.proofs.MountLaws.{other_fault}
 use Rattle.chain_fs.proofs.file_system.ChainFsFiles.read_part.Goals as goal
 
 pub returns-then-self-clause-answer : goal.returns-then-self-clause-answer

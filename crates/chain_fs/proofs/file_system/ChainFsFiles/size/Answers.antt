@@ -1,6 +1,5 @@
 use Rattle.fs_trees.specs.declared.refusal.FsRefusal.TheVariants as no
-use Rattle.fs_client.proofs.FilesLaws.{looks_at, unasked_looks}
-use Rattle.fs_client.proofs.MountLaws.{other_fault}
+use Rattle.chain_fs.proofs.Common.{looks_at, unasked_looks, other_fault}
 use Rattle.chain_fs.proofs.file_system.ChainFsFiles.size.Goals as goal
 
 pub returns-then-self-clause-looks : goal.returns-then-self-clause-looks

@@ -1,7 +1,6 @@
 use Rattle.std.proofs.Common.{◌∙◌, arith}
-use Rattle.inode_layout.specs.declared.kind.InodeKind.TheVariants.{Regular}
-use Rattle.inode_layout.proofs.HeadLaws.{length-blocks, block_at}
-use Rattle.inode_changes.specs.Content.{shared_count}
+use Rattle.inode_changes.proofs.Common.{Regular, length-blocks, shared_count}
+use Rattle.inode_layout.proofs.HeadLaws.{block_at}
 use Rattle.inode_changes.proofs.content.Content.shared_block.Goals as goal
 
 pub number_at-requires : goal.number_at-requires

@@ -1,5 +1,4 @@
-use Rattle.inode_walks.specs.Asking.{mounted_by}
-use Rattle.fs_client.proofs.FilesLaws.{made_as, make_as}
+use Rattle.inode_fs.proofs.Common.{mounted_by, made_as, make_as}
 use Rattle.inode_fs.proofs.file_system.InodeFsFiles.make.Goals as goal
 
 pub returns-in-Ok-clause-made : goal.returns-in-Ok-clause-made

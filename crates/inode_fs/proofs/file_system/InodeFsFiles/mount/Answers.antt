@@ -1,6 +1,5 @@
 use Rattle.std.proofs.Common.{Ok, Err}
-use Rattle.inode_walks.specs.Asking.{mounted_by}
-use Rattle.fs_client.proofs.FilesLaws.{finds_as, mount_as}
+use Rattle.inode_fs.proofs.Common.{mounted_by, finds_as, mount_as}
 use Rattle.inode_fs.proofs.file_system.InodeFsFiles.mount.Goals as goal
 
 pub returns-in-Ok-clause-finds : goal.returns-in-Ok-clause-finds

@@ -3,8 +3,7 @@ use Rattle.fs_trees.specs.declared.ask.ShellAsk.TheVariants as ask
 use Rattle.fs_trees.specs.declared.ask.ShellKind.TheVariants.{Inode}
 use Rattle.fs_port.specs.Files.{Answers, TellsPart}
 use Rattle.fs_trees.specs.declared.refusal.FsRefusal.TheVariants as no
-use Rattle.fs_client.proofs.FilesLaws.{looks_at, unasked_looks}
-use Rattle.fs_client.proofs.MountLaws.{other_fault}
+use Rattle.inode_fs.proofs.Common.{looks_at, unasked_looks, other_fault}
 use Rattle.inode_fs.proofs.file_system.InodeFsFiles.read_part.Goals as goal
 
 pub returns-then-self-clause-answer : goal.returns-then-self-clause-answer
