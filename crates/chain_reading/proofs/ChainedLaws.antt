@@ -1,15 +1,6 @@
 -- Chains and files are read so exactly where they are such lists.
 use Rattle.std.proofs.Common.{◌≡◌, ℕ, zero, suc, ◌≤◌, Bool, true, false, ◌==◌, List, [], ◌∷◌, ◌++◌, length, refl, sym, ◌∙◌, ap, subst, arith, append_assoc, Option, Some, None}
-use Rattle.std.proofs.lemmas.Bool.{or_right}
-use Rattle.fs_laws.proofs.ListLaws.{number_left, number_right, first_in}
-use Rattle.std.specs.Prelude.{map, flat_map, option_map}
-use Rattle.std.specs.Option.{option_and_then}
-use Rattle.tsd_model.specs.Geometry.{block_len}
-use Rattle.tsd_model.specs.World.{World, contents, has_number}
-use Rattle.fs_trees.specs.Fields.{only_if, Entry}
-use Rattle.fs_trees.specs.Cluster.{Cluster, cluster_in, entries_of, bytes_room}
-use Rattle.fs_trees.specs.ChainTree.{Link, cluster_at, before_rest, chain_by_next, next_of, chain_at, blocks_of, is_filled, ChainFile, file_of, file_at, all_there, files_of, files_in}
-use Rattle.chain_reading.specs.Chained.{IsFrom, IsChain, IsChainFile, PlacedEntry, AreFiles, placed, AreEntries}
+use Rattle.chain_reading.proofs.Common.{or_right, number_left, number_right, first_in, map, flat_map, option_map, option_and_then, block_len, World, contents, has_number, only_if, Entry, Cluster, cluster_in, entries_of, bytes_room, Link, cluster_at, before_rest, chain_by_next, next_of, chain_at, blocks_of, is_filled, ChainFile, file_of, file_at, all_there, files_of, files_in, IsFrom, IsChain, IsChainFile, PlacedEntry, AreFiles, placed, AreEntries}
 
 -- ---- a chain
 

@@ -1,24 +1,7 @@
 -- The chains under a root, where a cluster is written anew.
 use Rattle.std.proofs.Common.{◌≡◌, ℕ, ◌+◌, ◌≤◌, Bool, true, false, cond, ◌&&◌, ◌==◌, nat_le, List, [], ◌∷◌, ◌++◌, length, refl, sym, ◌∙◌, ap, subst, inl, inr, ◌⊎◌, arith, append_assoc, length-append, Option, Some, None}
-use Rattle.std.proofs.lemmas.Bool.{and_parts, and_from, or_right, eq-eqb, le-leb, leb-true}
-use Rattle.std.proofs.lemmas.Grind.{flat_map-append}
-use Rattle.std.specs.Prelude.{map}
-use Rattle.std.specs.Option.{option_and_then}
-use Rattle.std.specs.List.{list_all}
-use Rattle.tsd_model.specs.Geometry.{block_len}
-use Rattle.tsd_model.specs.World.{World, contents, has_number, are_apart}
-use Rattle.tsd_model.specs.Pairs.{holds}
-use Rattle.tsd_model.specs.Step.{with_contents}
+use Rattle.chain_reading.proofs.Common.{and_parts, and_from, or_right, eq-eqb, le-leb, leb-true, flat_map-append, map, option_and_then, list_all, block_len, World, contents, has_number, are_apart, holds, with_contents, contents-other, contents-same, are_distinct, only_if, Entry, Cluster, cluster_in, entries_of, Link, chain_at, blocks_of, links, ChainFile, files_in, Chains, chain_blocks, chain_pairs, names_max, are_right, with_files, with_directory, chains_under, all_held, held_left, held_right, held_append, first_in, times, times-append, none_times, apart_times, times_apart, IsFrom, IsChain, PlacedEntry, AreFiles, placed, AreEntries, file_blocks, file_pairs, file_names, relinked, Rewrites}
 use Rattle.tsd_model.proofs.PairLaws.{all_of_held}
-use Rattle.disk_laws.proofs.ChangeLaws.{contents-other, contents-same}
-use Rattle.fs_trees.specs.Names.{are_distinct}
-use Rattle.fs_trees.specs.Fields.{only_if, Entry}
-use Rattle.fs_trees.specs.Cluster.{Cluster, cluster_in, entries_of}
-use Rattle.fs_trees.specs.ChainTree.{Link, chain_at, blocks_of, links, ChainFile, files_in, Chains, chain_blocks, chain_pairs, names_max, are_right, with_files, with_directory, chains_under}
-use Rattle.fs_laws.proofs.ListLaws.{all_held, held_left, held_right, held_append, first_in}
-use Rattle.fs_laws.proofs.CountLaws.{times, times-append, none_times, apart_times, times_apart}
-use Rattle.chain_reading.specs.Chained.{IsFrom, IsChain, PlacedEntry, AreFiles, placed, AreEntries}
-use Rattle.chain_reading.specs.Changed.{file_blocks, file_pairs, file_names, relinked, Rewrites}
 use Rattle.chain_reading.proofs.ChainedLaws.{IsListing, listing_is, listing_from, chain_is, chain_from, from_same, files_same, files_split, files-append, entries_split, entries-append}
 
 -- ---- what is there

@@ -1,15 +1,6 @@
 -- Bytes of a file from an offset on, part by part.
 use Rattle.std.proofs.Common.{◌≡◌, ℕ, zero, suc, ◌+◌, ◌-◌, ◌*◌, ◌≤◌, List, [], ◌∷◌, ◌++◌, length, refl, sym, ◌∙◌, ap, arith, append-nil, append_assoc, Some, None, Ok}
-use Rattle.std.specs.Prelude.{take, drop}
-use Rattle.fs_trees.specs.Cluster.{Cluster}
-use Rattle.fs_trees.specs.ChainTree.{Link, chain_bytes, cluster_at}
-use Rattle.std.proofs.lemmas.Grind.{flat_map-append}
-use Rattle.fs_port.specs.View.{DiskView, state_of}
-use Rattle.fs_port.specs.Calls.{Stays}
-use Rattle.fs_laws.specs.Ways.{HoldsWrite}
-use Rattle.fs_client.specs.declared.client.Client.{Client}
-use Rattle.fs_client.specs.May.{Looked, OnlyLooks}
-use Rattle.chain_reading.specs.Ahead.{IsFileAhead}
+use Rattle.chain_reading.proofs.Common.{take, drop, Cluster, Link, chain_bytes, cluster_at, flat_map-append, DiskView, state_of, Stays, HoldsWrite, Client, Looked, OnlyLooks, IsFileAhead}
 use Rattle.chain_reading.proofs.WalkLaws.{link_of}
 use Rattle.chain_reading.proofs.SizeLaws.{IsCounted, count_on, more_bytes}
 use Rattle.chain_reading.proofs.WalkLaws.{walk_starts, walk_ends, first_link}

@@ -1,22 +1,8 @@
 -- The trees after the deciding writes.
 use Rattle.std.proofs.Common.{◌≡◌, ℕ, zero, suc, ◌+◌, ◌≤◌, ◌<◌, true, false, cond, ◌==◌, List, [], ◌∷◌, ◌++◌, length, refl, sym, ◌∙◌, ap, subst, inl, inr, arith, append_assoc, append-nil, length-append, Option, Some, None}
-use Rattle.std.proofs.lemmas.Bool.{or_cases, or_right, eqb-true}
+use Rattle.chain_reading.proofs.Common.{or_cases, or_right, eqb-true, holds, with_contents, in_append, first_in, is_some, option_and_then, World, contents, has_number, are_apart, Name, are_distinct, Tree, Entries, nothing, a_file, a_dir, with_entry, with_at, Entry, Cluster, cluster_in, Link, cluster_at, blocks_of, links, ChainFile, chain_bytes, Chains, chain_blocks, names_max, chains_under, as_tree, tree_of_files, chain_tree, times, times-append, apart_times, times_apart, IsFrom, IsChainFile, PlacedEntry, AreFiles, placed, AreOthers, file_blocks, file_pairs, file_names, relinked}
 use Rattle.std.proofs.lemmas.Bool.Decides.{nat_tests}
-use Rattle.tsd_model.specs.Pairs.{holds}
-use Rattle.tsd_model.specs.Step.{with_contents}
-use Rattle.fs_laws.proofs.ListLaws.{in_append, first_in}
-use Rattle.std.specs.Prelude.{is_some}
-use Rattle.std.specs.Option.{option_and_then}
-use Rattle.tsd_model.specs.World.{World, contents, has_number, are_apart}
 use Rattle.disk_laws.proofs.DoomLaws.{live_below}
-use Rattle.fs_trees.specs.Names.{Name, are_distinct}
-use Rattle.fs_trees.specs.Tree.{Tree, Entries, nothing, a_file, a_dir, with_entry, with_at}
-use Rattle.fs_trees.specs.Fields.{Entry}
-use Rattle.fs_trees.specs.Cluster.{Cluster, cluster_in}
-use Rattle.fs_trees.specs.ChainTree.{Link, cluster_at, blocks_of, links, ChainFile, chain_bytes, Chains, chain_blocks, names_max, chains_under, as_tree, tree_of_files, chain_tree}
-use Rattle.fs_laws.proofs.CountLaws.{times, times-append, apart_times, times_apart}
-use Rattle.chain_reading.specs.Chained.{IsFrom, IsChainFile, PlacedEntry, AreFiles, placed, AreOthers}
-use Rattle.chain_reading.specs.Changed.{file_blocks, file_pairs, file_names, relinked}
 use Rattle.chain_reading.specs.Decided.{FilesInAnyOrder, NamesAreFound, FileSet, EntryIsSet, FileAdded, EntryIsAdded, FileRemoved, EntryIsRemoved, DirectoryGrows, grown, FileGrows}
 use Rattle.chain_reading.proofs.FileLaws.{distinct_parts, distinct_with, others_left, tree_moved, tree_set, tree_removed, tree_has, tree_lacks}
 use Rattle.chain_reading.proofs.ChangeLaws.{HasChains, has_chains, chains_are, right_is, blocks-append, file_blocks-append, entries_change}

@@ -1,15 +1,7 @@
 -- The tree of files, whatever their order.
 use Rattle.std.proofs.Common.{◌≡◌, Bool, true, false, not, ◌||◌, List, [], ◌∷◌, ◌++◌, refl, sym, ◌∙◌, ap}
-use Rattle.std.proofs.lemmas.Bool.{and_parts, and_from, or_parts, not-true}
-use Rattle.std.proofs.lemmas.Slice.Eq.{bytes_eq-Decides}
+use Rattle.chain_reading.proofs.Common.{and_parts, and_from, or_parts, not-true, bytes_eq-Decides, list_any, Name, are_distinct, nothing, a_file, entry, with_entry, ChainFile, chain_bytes, tree_of_files, AreOthers, file_names, clash, with_entry-commutes, with_entry-again, without_absent, entry-same, entry-other}
 use Rattle.std.specs.Prelude.{bytes_eq}
-use Rattle.std.specs.List.{list_any}
-use Rattle.fs_trees.specs.Names.{Name, are_distinct}
-use Rattle.fs_trees.specs.Tree.{nothing, a_file, entry, with_entry}
-use Rattle.fs_trees.specs.ChainTree.{ChainFile, chain_bytes, tree_of_files}
-use Rattle.chain_reading.specs.Chained.{AreOthers}
-use Rattle.chain_reading.specs.Changed.{file_names}
-use Rattle.fs_laws.proofs.OrderLaws.{clash, with_entry-commutes, with_entry-again, without_absent, entry-same, entry-other}
 
 -- ---- names that stand once
 

@@ -1,20 +1,6 @@
 -- A chain that grows at its end: the directory by a cluster, a file by bytes and clusters.
 use Rattle.std.proofs.Common.{◌≡◌, ℕ, ◌+◌, ◌≤◌, ◌<◌, true, false, cond, ◌==◌, List, [], ◌∷◌, ◌++◌, length, refl, sym, ◌∙◌, ap, subst, inl, inr, ◌⊎◌, arith, append_assoc, append-nil, length-append, Option, Some, None}
-use Rattle.std.proofs.lemmas.Bool.{or_cases, or_left, or_right, eq-eqb, eqb-true, and_parts}
-use Rattle.std.specs.Option.{option_and_then}
-use Rattle.tsd_model.specs.Geometry.{block_len}
-use Rattle.tsd_model.specs.World.{World, contents, has_number, are_apart}
-use Rattle.tsd_model.specs.Pairs.{holds, is_pair}
-use Rattle.tsd_model.specs.Step.{with_contents}
-use Rattle.disk_laws.proofs.ChangeLaws.{contents-other, contents-same}
-use Rattle.fs_trees.specs.Names.{are_distinct}
-use Rattle.fs_trees.specs.Fields.{Entry}
-use Rattle.fs_trees.specs.Cluster.{Cluster, cluster_in, entries_of, bytes_room}
-use Rattle.fs_trees.specs.ChainTree.{Link, cluster_at, blocks_of, links, is_filled, ChainFile, Chains, chain_blocks, chain_pairs, names_max}
-use Rattle.fs_laws.proofs.ListLaws.{held_left, held_right, held_append, first_in}
-use Rattle.fs_laws.proofs.CountLaws.{times, times-append, apart_times}
-use Rattle.chain_reading.specs.Chained.{IsFrom, IsChainFile, PlacedEntry, AreFiles, placed, AreEntries}
-use Rattle.chain_reading.specs.Changed.{file_blocks, file_pairs, file_names, relinked, Rewrites}
+use Rattle.chain_reading.proofs.Common.{or_cases, or_left, or_right, eq-eqb, eqb-true, and_parts, option_and_then, block_len, World, contents, has_number, are_apart, holds, is_pair, with_contents, contents-other, contents-same, are_distinct, Entry, Cluster, cluster_in, entries_of, bytes_room, Link, cluster_at, blocks_of, links, is_filled, ChainFile, Chains, chain_blocks, chain_pairs, names_max, held_left, held_right, held_append, first_in, times, times-append, apart_times, IsFrom, IsChainFile, PlacedEntry, AreFiles, placed, AreEntries, file_blocks, file_pairs, file_names, relinked, Rewrites}
 use Rattle.chain_reading.proofs.ChainedLaws.{IsListing, from_same, files_same, files-append, entries_of_files, entries_split, entries-append}
 use Rattle.chain_reading.proofs.ChangeLaws.{HasChains, right_is, is_right, blocks-append, file_blocks-append, file_pairs-append, times_three, held_three, first_held, last_held, is_other, from_changed, not_of_files, stays, directory_changed}
 

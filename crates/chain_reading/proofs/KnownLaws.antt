@@ -1,46 +1,18 @@
 -- The tree under a mounted root, as it is read.
 use Rattle.std.proofs.Common.{◌≡◌, ℕ, ◌≤◌, ◌<◌, true, cond, ◌==◌, List, [], ◌∷◌, ◌++◌, length, refl, sym, ◌∙◌, ap, subst, arith, inl, append_assoc, Option, Some, None}
-use Rattle.std.proofs.lemmas.Bool.{and_from, or_left, or_right, eq-eqb}
+use Rattle.chain_reading.proofs.Common.{and_from, or_left, or_right, eq-eqb, when, first_of, lost_on_the_way, missing, no_file, no_dir, Taken, Free, slice_get, block_len, World, holds, is_pair, Name, Path, Entries, nothing, a_file, a_dir, entry, at, is_there, is_file, is_dir, Entry, entry_names, Link, ChainFile, blocks_of, links, is_filled, chain_bytes, Chains, chains_under, as_tree, tree_of_files, chain_tree, bytes_room, FsRefusal, ways_lead_on, found, held_left, held_right, DiskView, state_of, IsDiskSound, Stays, Client, shown_at, MayWrite, Looked, cluster_of, dir_cluster, entries_in, IsFrom, IsChainFile, PlacedEntry, AreFiles, placed, AreEntries, AreOthers, file_names, file_pairs, Page, IsFileAhead, IsDirectoryAhead, HasDirectory, MayAsk, tree_under, placed_names, no_way, IsLookupTaken, IsNameFound, IsFileOf, no_file_found, no_directory_found}
 use Rattle.std.proofs.Common.{get_or, not}
-use Rattle.fs_trees.specs.Refusals.{when, first_of, lost_on_the_way, missing, no_file, no_dir}
 use Rattle.chain_reading.specs.declared.finding.Lookup.{Lookup}
-use Rattle.chain_reading.specs.declared.finding.Lookup.TheVariants.{Taken, Free}
-use Rattle.std.specs.Prelude.{slice_get}
-use Rattle.tsd_model.specs.Geometry.{block_len}
-use Rattle.tsd_model.specs.World.{World}
-use Rattle.tsd_model.specs.Pairs.{holds, is_pair}
 use Rattle.tsd_model.specs.Records.{kept_of}
 use Rattle.tsd_model.specs.Sessions.{level_le}
 use Rattle.tsd_model.specs.Attained.{record_level, shown_level}
 use Rattle.tsd_model.specs.declared.caps.Shown.TheVariants.{Nothing, Key}
 use Rattle.tsd_model.specs.declared.requests.Level.TheVariants as level
 use Rattle.disk_laws.proofs.AttainedLaws.{attained_where}
-use Rattle.fs_trees.specs.Names.{Name, Path}
-use Rattle.fs_trees.specs.Tree.{Entries, nothing, a_file, a_dir, entry, at, is_there, is_file, is_dir}
-use Rattle.fs_trees.specs.Fields.{Entry, entry_names}
-use Rattle.fs_trees.specs.ChainTree.{Link, ChainFile, blocks_of, links, is_filled, chain_bytes, Chains, chains_under, as_tree, tree_of_files, chain_tree}
-use Rattle.fs_trees.specs.Cluster.{bytes_room}
-use Rattle.fs_trees.specs.declared.refusal.FsRefusal.{FsRefusal}
 use Rattle.fs_trees.specs.declared.refusal.FsRefusal.TheVariants as no
-use Rattle.fs_laws.proofs.WayLaws.{ways_lead_on}
-use Rattle.fs_laws.proofs.ChainLaws.{found}
-use Rattle.fs_laws.proofs.ListLaws.{held_left, held_right}
-use Rattle.fs_port.specs.View.{DiskView, state_of, IsDiskSound}
-use Rattle.fs_port.specs.Calls.{Stays}
-use Rattle.fs_client.specs.declared.client.Client.{Client}
-use Rattle.fs_client.specs.Client.{shown_at}
-use Rattle.fs_client.specs.May.{MayWrite, Looked}
-use Rattle.chain_layout.specs.Block.{cluster_of}
-use Rattle.chain_layout.specs.Held.{dir_cluster, entries_in}
-use Rattle.chain_reading.specs.Chained.{IsFrom, IsChainFile, PlacedEntry, AreFiles, placed, AreEntries, AreOthers}
-use Rattle.chain_reading.specs.Changed.{file_names, file_pairs}
 use Rattle.chain_reading.proofs.ChainedLaws.{files_split, entries_split}
 use Rattle.chain_reading.proofs.ChangeLaws.{HasChains, has_chains, right_is, placed-append, file_pairs-append}
 use Rattle.chain_reading.proofs.FileLaws.{tree_has, tree_lacks, others-append}
-use Rattle.chain_reading.specs.declared.walking.Page.{Page}
-use Rattle.chain_reading.specs.Ahead.{IsFileAhead, IsDirectoryAhead, HasDirectory}
-use Rattle.chain_reading.specs.Asking.{MayAsk, tree_under}
-use Rattle.chain_reading.specs.Finding.{placed_names, no_way, IsLookupTaken, IsNameFound, IsFileOf, no_file_found, no_directory_found}
 use Rattle.chain_reading.proofs.WalkLaws.{link_of}
 use Rattle.chain_reading.proofs.ListLaws.{names_placed, names-append, own_entries, entries_unique}
 

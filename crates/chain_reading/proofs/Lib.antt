@@ -1,3 +1,4 @@
+pub mod Common
 pub mod WalkLaws
 pub mod SizeLaws
 pub mod CopyLaws

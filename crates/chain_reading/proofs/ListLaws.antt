@@ -1,24 +1,7 @@
 -- The directory, read cluster by cluster.
 use Rattle.std.proofs.Common.{◌≡◌, ℕ, ◌+◌, true, List, [], ◌∷◌, ◌++◌, length, refl, sym, ◌∙◌, ap, subst, arith, append-nil, length-append, Option, Some, None, Ok}
-use Rattle.std.specs.Prelude.{map, is_some}
-use Rattle.std.specs.Option.{option_and_then}
-use Rattle.tsd_model.specs.Geometry.{block_len}
-use Rattle.tsd_model.specs.World.{World}
-use Rattle.fs_trees.specs.Names.{Name}
-use Rattle.fs_trees.specs.Fields.{Entry, entry_names}
-use Rattle.fs_trees.specs.Cluster.{Cluster, entries_of}
-use Rattle.fs_trees.specs.ChainTree.{Link, cluster_at}
-use Rattle.fs_port.specs.View.{DiskView, state_of}
-use Rattle.fs_port.specs.Calls.{Stays}
-use Rattle.fs_laws.specs.Ways.{HoldsWrite}
-use Rattle.fs_client.specs.declared.client.Client.{Client}
-use Rattle.fs_client.specs.May.{Looked, OnlyLooks}
-use Rattle.chain_layout.specs.Listed.{lesser, if_above, least_above}
-use Rattle.chain_layout.proofs.PlaceLaws.{lesser-assoc}
-use Rattle.chain_reading.specs.Chained.{IsFrom, PlacedEntry, placed, AreEntries}
+use Rattle.chain_reading.proofs.Common.{map, is_some, option_and_then, block_len, World, Name, Entry, entry_names, Cluster, entries_of, Link, cluster_at, DiskView, state_of, Stays, HoldsWrite, Client, Looked, OnlyLooks, lesser, if_above, least_above, lesser-assoc, IsFrom, PlacedEntry, placed, AreEntries, entries_at, IsDirectoryAhead}
 use Rattle.chain_reading.proofs.ChainedLaws.{entries-append, entries_split}
-use Rattle.chain_reading.specs.Standing.{entries_at}
-use Rattle.chain_reading.specs.Ahead.{IsDirectoryAhead}
 use Rattle.chain_reading.proofs.WalkLaws.{link_of, IsWalked, walk_starts, walk_on, walk_ends}
 
 abbrev pub placed_names : List PlacedEntry → List Name

@@ -1,28 +1,6 @@
 -- What holds while clusters are looked at one after the other.
 use Rattle.std.proofs.Common.{◌≡◌, ℕ, suc, ◌+◌, ◌-◌, ◌*◌, ◌<◌, ◌≤◌, Bool, true, false, not, cond, ◌==◌, nat_le, List, [], ◌∷◌, length, refl, sym, ◌∙◌, ap, subst, arith, Option, Some, None, Ok}
-use Rattle.std.proofs.lemmas.Bool.{eqb-true}
-use Rattle.std.specs.Prelude.{drop, slice_index}
-use Rattle.std.specs.Option.{option_and_then}
-use Rattle.tsd_model.specs.World.{World, has_number}
-use Rattle.tsd_model.specs.Pairs.{holds}
-use Rattle.fs_trees.specs.Fields.{only_if, Entry}
-use Rattle.fs_trees.specs.Cluster.{Cluster}
-use Rattle.fs_trees.specs.ChainTree.{names_max}
-use Rattle.fs_laws.specs.Ways.{HoldsWrite}
-use Rattle.fs_laws.proofs.WayLaws.{ways_lead_on}
-use Rattle.fs_port.specs.View.{DiskView, state_of}
-use Rattle.fs_port.specs.Calls.{IsValidNow, Stays}
-use Rattle.fs_client.specs.declared.client.Client.{Client}
-use Rattle.fs_client.specs.Client.{shown_at}
-use Rattle.fs_client.specs.May.{MayWrite, Looked, OnlyLooks}
-use Rattle.fs_client.proofs.LookLaws.{may_again}
-use Rattle.fs_client.specs.Marked.{has_block, Gains, Agrees}
-use Rattle.fs_client.specs.declared.block_set.BlockSet.{BlockSet}
-use Rattle.fs_client.proofs.ApartLaws.{is_false}
-use Rattle.fs_client.proofs.PlaceLaws.{drop_at, drop_end}
-use Rattle.fs_client.proofs.SetLaws.{agrees_more, is_new}
-use Rattle.chain_layout.specs.Listed.{entry_blocks}
-use Rattle.chain_reading.specs.Looking.{part_seen, ListedCluster, page_seen, go_on, file_by, file_from, files_from, page_on, directory_by, directory_from, Comes}
+use Rattle.chain_reading.proofs.Common.{eqb-true, drop, slice_index, option_and_then, World, has_number, holds, only_if, Entry, Cluster, names_max, HoldsWrite, ways_lead_on, DiskView, state_of, IsValidNow, Stays, Client, shown_at, MayWrite, Looked, OnlyLooks, may_again, has_block, Gains, Agrees, BlockSet, is_false, drop_at, drop_end, agrees_more, is_new, entry_blocks, part_seen, ListedCluster, page_seen, go_on, file_by, file_from, files_from, page_on, directory_by, directory_from, Comes}
 
 -- ---- what is come to
 

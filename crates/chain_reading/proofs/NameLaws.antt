@@ -1,13 +1,6 @@
 -- Names of which each stands once, in parts.
 use Rattle.std.proofs.Common.{◌≡◌, Bool, true, false, not, ◌&&◌, ◌||◌, List, [], ◌∷◌, ◌++◌, length, refl, sym, ◌∙◌, ap, arith, bytes_eq, Result, Ok, Err}
-use Rattle.std.specs.Prelude.{IfOk}
-use Rattle.std.specs.List.{list_any}
-use Rattle.fs_trees.specs.Names.{Name, are_distinct}
-use Rattle.fs_trees.specs.Fields.{Entry, entry_names}
-use Rattle.fs_trees.specs.declared.refusal.FsRefusal.{FsRefusal}
-use Rattle.fs_laws.proofs.ListLaws.{any-append}
-use Rattle.chain_layout.specs.Listed.{is_among}
-use Rattle.chain_reading.specs.Comparing.{are_apart_from, AreFirstDistinct}
+use Rattle.chain_reading.proofs.Common.{IfOk, list_any, Name, are_distinct, Entry, entry_names, FsRefusal, any-append, is_among, are_apart_from, AreFirstDistinct}
 
 five : (a b c d e : Bool) → (not (a || b) && ((d && not c) && e)) ≡ (((not a && d) && not (b || c)) && e)
 five true b c d e = refl

@@ -1,14 +1,6 @@
 -- The least name above another is the next in the tree's order.
 use Rattle.std.proofs.Common.{◌≡◌, ℕ, true, false, not, cond, List, [], ◌∷◌, refl, sym, ◌∙◌, ap, Option, Some, None}
-use Rattle.std.proofs.lemmas.Bool.{and_parts, not-true}
-use Rattle.std.specs.Prelude.{find}
-use Rattle.fs_trees.specs.Names.{Name, name_lt, are_distinct}
-use Rattle.fs_trees.specs.Tree.{Entries, none, file, dir, Node, nothing, a_file, a_dir, entry, before, with_entry, names, is_there}
-use Rattle.fs_trees.specs.ChainTree.{ChainFile, chain_bytes, tree_of_files}
-use Rattle.chain_layout.specs.Listed.{is_among, lesser, if_above, least_above}
-use Rattle.chain_layout.proofs.PlaceLaws.{lesser-none}
-use Rattle.chain_reading.specs.Changed.{file_names}
-use Rattle.fs_laws.proofs.OrderLaws.{clash, lt_trans, below_only}
+use Rattle.chain_reading.proofs.Common.{and_parts, not-true, find, Name, name_lt, are_distinct, Entries, none, file, dir, Node, nothing, a_file, a_dir, entry, before, with_entry, names, is_there, ChainFile, chain_bytes, tree_of_files, is_among, lesser, if_above, least_above, lesser-none, file_names, clash, lt_trans, below_only}
 use Rattle.chain_reading.proofs.FileLaws.{others_tested, tree_lacks}
 
 abbrev FileEntries : Type 0

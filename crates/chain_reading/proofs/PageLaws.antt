@@ -1,27 +1,8 @@
 -- Clusters of the directory that are still to be read, one after the other.
 use Rattle.std.proofs.Common.{◌≡◌, ℕ, ◌+◌, ◌≤◌, Bool, true, List, [], ◌∷◌, ◌++◌, length, refl, sym, ◌∙◌, ap, subst, arith, Option, Some, None, Ok}
-use Rattle.std.specs.Prelude.{is_some}
-use Rattle.std.specs.Option.{option_and_then}
-use Rattle.tsd_model.specs.Geometry.{block_len}
-use Rattle.tsd_model.specs.Pairs.{holds}
-use Rattle.fs_trees.specs.Names.{Name}
-use Rattle.fs_trees.specs.Fields.{Entry, entry_names}
-use Rattle.fs_trees.specs.Cluster.{Cluster, entries_of}
-use Rattle.fs_trees.specs.ChainTree.{Link, cluster_at}
-use Rattle.fs_laws.specs.Ways.{HoldsWrite}
-use Rattle.fs_port.specs.View.{DiskView, state_of}
-use Rattle.fs_port.specs.Calls.{IsValidNow, Stays}
-use Rattle.fs_client.specs.declared.client.Client.{Client}
-use Rattle.fs_client.specs.May.{Looked, OnlyLooks}
-use Rattle.fs_client.proofs.LookLaws.{may_again}
-use Rattle.chain_reading.specs.Chained.{IsFrom, PlacedEntry, placed, AreEntries}
-use Rattle.chain_layout.specs.Held.{dir_cluster}
-use Rattle.chain_reading.specs.Standing.{entries_at, IsAhead, IsRead, IsPage}
-use Rattle.chain_reading.specs.declared.walking.Page.{Page}
-use Rattle.chain_reading.specs.Finding.{placed_names}
+use Rattle.chain_reading.proofs.Common.{is_some, option_and_then, block_len, holds, Name, Entry, entry_names, Cluster, entries_of, Link, cluster_at, HoldsWrite, DiskView, state_of, IsValidNow, Stays, Client, Looked, OnlyLooks, may_again, IsFrom, PlacedEntry, placed, AreEntries, dir_cluster, entries_at, IsAhead, IsRead, IsPage, Page, placed_names, ArePagesAhead}
 use Rattle.chain_reading.proofs.WalkLaws.{link_of, walk_starts, walk_on, first_link}
 use Rattle.chain_reading.proofs.ListLaws.{names_placed, names-append, own_entries}
-use Rattle.chain_reading.specs.Comparing.{ArePagesAhead}
 
 some_same : {X : Type 0} {x y : X} → Some x ≡ Some y → x ≡ y
 some_same e = cc

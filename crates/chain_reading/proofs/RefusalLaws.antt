@@ -1,18 +1,8 @@
 -- The answers of asks that read, by what was found.
 use Rattle.std.proofs.Common.{◌≡◌, true, List, [], ◌∷◌, refl, ◌∙◌, ap, Option, Some, None}
-use Rattle.fs_trees.specs.Names.{Path}
-use Rattle.fs_trees.specs.Tree.{Tree, nothing, a_file, a_dir, at, is_there, bytes_in, names_in}
-use Rattle.fs_trees.specs.Answer.{bytes, listed, refused}
-use Rattle.fs_trees.specs.Refusals.{first_of, not_mounted, lost_on_the_way, missing, no_file, no_dir, refusal}
+use Rattle.chain_reading.proofs.Common.{Path, Tree, nothing, a_file, a_dir, at, is_there, bytes_in, names_in, bytes, listed, refused, first_of, not_mounted, lost_on_the_way, missing, no_file, no_dir, refusal, Chain, FsRefusal, DiskView, step_on, Client, mounted_by, tree_under, no_file_found, no_directory_found}
 use Rattle.fs_trees.specs.Step.{judged}
 use Rattle.fs_trees.specs.declared.ask.ShellAsk.TheVariants as ask
-use Rattle.fs_trees.specs.declared.ask.ShellKind.TheVariants.{Chain}
-use Rattle.fs_trees.specs.declared.refusal.FsRefusal.{FsRefusal}
-use Rattle.fs_port.specs.View.{DiskView}
-use Rattle.fs_port.specs.Files.{step_on}
-use Rattle.fs_client.specs.declared.client.Client.{Client}
-use Rattle.chain_reading.specs.Asking.{mounted_by, tree_under}
-use Rattle.chain_reading.specs.Finding.{no_file_found, no_directory_found}
 
 is_mounted : (t : Tree) (rest : List (Option FsRefusal)) → is_there t ≡ true → first_of (not_mounted t ∷ rest) ≡ first_of rest
 is_mounted nothing rest h = absurd (cc)

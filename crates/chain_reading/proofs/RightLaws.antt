@@ -1,26 +1,9 @@
 -- Where a look comes to the end, the chains are there, and what they name is held and was come to once.
 use Rattle.std.proofs.Common.{◌≡◌, ℕ, zero, suc, ◌+◌, ◌≤◌, Bool, true, false, cond, ◌&&◌, ◌||◌, ◌==◌, nat_lt, nat_le, List, [], ◌∷◌, ◌++◌, length, refl, sym, ◌∙◌, ap, subst, arith, inl, inr, Option, Some, None}
-use Rattle.std.proofs.lemmas.Bool.{and_parts, and_from, or_cases, or_left, or_right, eq-eqb, eqb-true, leb-true}
-use Rattle.std.specs.Prelude.{is_none}
-use Rattle.std.specs.Option.{option_and_then}
-use Rattle.std.specs.List.{list_all}
-use Rattle.tsd_model.specs.Geometry.{block_len}
-use Rattle.tsd_model.specs.World.{World, has_number, are_apart}
-use Rattle.tsd_model.specs.Pairs.{holds, is_pair}
-use Rattle.fs_trees.specs.Fields.{Entry}
-use Rattle.fs_trees.specs.Cluster.{Cluster}
-use Rattle.fs_trees.specs.ChainTree.{Link, blocks_of, links, is_filled, ChainFile, names_max}
-use Rattle.fs_laws.proofs.ListLaws.{held_append, number_right}
-use Rattle.fs_laws.proofs.CountLaws.{times, times-append, times_none}
-use Rattle.fs_client.specs.Held.{are_held}
-use Rattle.fs_client.proofs.ApartLaws.{all_in}
-use Rattle.chain_layout.specs.Listed.{next_blocks, entry_blocks}
-use Rattle.chain_reading.specs.Chained.{IsFrom, PlacedEntry, AreFiles, placed, AreEntries}
-use Rattle.chain_reading.specs.Changed.{file_blocks, file_pairs}
+use Rattle.chain_reading.proofs.Common.{and_parts, and_from, or_cases, or_left, or_right, eq-eqb, eqb-true, leb-true, is_none, option_and_then, list_all, block_len, World, has_number, are_apart, holds, is_pair, Entry, Cluster, Link, blocks_of, links, is_filled, ChainFile, names_max, held_append, number_right, times, times-append, times_none, are_held, all_in, next_blocks, entry_blocks, IsFrom, PlacedEntry, AreFiles, placed, AreEntries, file_blocks, file_pairs, part_seen, ListedCluster, blocks_listed, page_seen, go_on, file_by, file_from, files_from, page_on, directory_by, directory_from}
 use Rattle.chain_reading.proofs.ChainedLaws.{files-append}
 use Rattle.chain_reading.proofs.ChangeLaws.{file_blocks-append, file_pairs-append}
 use Rattle.chain_reading.proofs.WalkLaws.{link_of}
-use Rattle.chain_reading.specs.Looking.{part_seen, ListedCluster, blocks_listed, page_seen, go_on, file_by, file_from, files_from, page_on, directory_by, directory_from}
 use Rattle.chain_reading.proofs.SeenLaws.{room_of, passed, PartIs, part_is, PageIs, page_is}
 
 -- ---- what was come to

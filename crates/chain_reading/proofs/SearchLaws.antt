@@ -1,28 +1,8 @@
 -- A name, looked up in the directory.
 use Rattle.std.proofs.Common.{◌≡◌, ℕ, suc, ◌+◌, ◌*◌, ◌≤◌, ◌<◌, Bool, true, false, cond, ◌||◌, List, [], ◌∷◌, ◌++◌, length, refl, sym, ◌∙◌, ap, subst, arith, length-append, append_assoc, Option, Some, None, Ok}
-use Rattle.std.proofs.lemmas.Slice.Eq.{bytes_eq-Decides}
-use Rattle.std.specs.Prelude.{bytes_eq, slice_index}
-use Rattle.std.specs.List.{position_from, list_any}
-use Rattle.tsd_model.specs.Geometry.{block_len}
-use Rattle.fs_trees.specs.Names.{Name}
-use Rattle.fs_trees.specs.Fields.{Entry, entry_names}
-use Rattle.fs_trees.specs.Cluster.{Cluster, entries_of}
-use Rattle.fs_trees.specs.ChainTree.{Link, cluster_at}
-use Rattle.fs_laws.specs.Ways.{HoldsWrite}
-use Rattle.fs_port.specs.View.{DiskView, state_of}
-use Rattle.fs_port.specs.Calls.{IsValidNow, Stays}
-use Rattle.fs_client.specs.declared.client.Client.{Client}
-use Rattle.fs_client.specs.May.{MayWrite, Looked, OnlyLooks}
-use Rattle.fs_client.proofs.LookLaws.{may_again}
-use Rattle.chain_layout.specs.Listed.{has_name, entry_blocks}
-use Rattle.chain_layout.specs.Block.{cluster_of, block_len_of}
-use Rattle.chain_layout.specs.Held.{dir_cluster, entries_in}
-use Rattle.chain_reading.specs.Chained.{PlacedEntry, placed, AreEntries, AreOthers}
+use Rattle.chain_reading.proofs.Common.{bytes_eq-Decides, slice_index, position_from, list_any, block_len, Name, Entry, entry_names, Cluster, entries_of, Link, cluster_at, HoldsWrite, DiskView, state_of, IsValidNow, Stays, Client, MayWrite, Looked, OnlyLooks, may_again, has_name, entry_blocks, cluster_of, block_len_of, dir_cluster, entries_in, PlacedEntry, placed, AreEntries, AreOthers, Page, IsPage, IsDirectoryAhead, placed_names, page_link, IsEntry, IsLookupTaken, is_roomy, IsRoomiest, better}
+use Rattle.std.specs.Prelude.{bytes_eq}
 use Rattle.chain_reading.proofs.FileLaws.{others-append}
-use Rattle.chain_reading.specs.declared.walking.Page.{Page}
-use Rattle.chain_reading.specs.Standing.{IsPage}
-use Rattle.chain_reading.specs.Ahead.{IsDirectoryAhead}
-use Rattle.chain_reading.specs.Finding.{placed_names, page_link, IsEntry, IsLookupTaken, is_roomy, IsRoomiest, better}
 use Rattle.chain_reading.proofs.WalkLaws.{link_of, first_link, walk_ends}
 use Rattle.chain_reading.proofs.ListLaws.{IsLooking, look_starts, look_on, look_ends, names_placed, names-append}
 

@@ -1,23 +1,8 @@
 -- A cluster that is right by itself.
 use Rattle.std.proofs.Common.{◌≡◌, ℕ, ◌≤◌, Bool, true, false, ◌&&◌, nat_le, List, refl, sym, ◌∙◌, ap, subst, Option, Some, None}
-use Rattle.std.proofs.lemmas.Bool.{and_parts, and_from, le-leb}
-use Rattle.std.specs.Prelude.{IfSome, IfNone}
-use Rattle.std.specs.Option.{option_and_then, option_map_or}
-use Rattle.tsd_model.specs.Geometry.{block_len}
-use Rattle.tsd_model.specs.World.{World}
-use Rattle.fs_trees.specs.Fields.{only_if, Entry}
-use Rattle.fs_trees.specs.Cluster.{Cluster, entries_of, bytes_room}
-use Rattle.fs_trees.specs.ChainTree.{cluster_at}
-use Rattle.fs_client.specs.Held.{are_held}
-use Rattle.fs_client.proofs.ApartLaws.{yes_no, is_false}
-use Rattle.chain_layout.specs.Listed.{next_blocks}
-use Rattle.chain_layout.specs.Block.{cluster_of, block_len_of}
-use Rattle.chain_layout.specs.Held.{part_cluster}
-use Rattle.chain_reading.specs.Standing.{entries_at, has_part, IsPage, IsPartOfRoot}
-use Rattle.chain_reading.specs.declared.walking.Page.{Page}
+use Rattle.chain_reading.proofs.Common.{and_parts, and_from, le-leb, IfSome, IfNone, option_and_then, option_map_or, block_len, World, only_if, Entry, Cluster, entries_of, bytes_room, cluster_at, are_held, yes_no, is_false, next_blocks, cluster_of, block_len_of, part_cluster, entries_at, has_part, IsPage, IsPartOfRoot, Page, is_part_filled, is_part_right, if_part, part_seen, ListedCluster, blocks_listed, if_page, page_of, page_seen, listed_in}
 use Rattle.chain_reading.specs.declared.walking.Part.{Part}
 use Rattle.chain_reading.proofs.ListLaws.{own_entries}
-use Rattle.chain_reading.specs.Looking.{is_part_filled, is_part_right, if_part, part_seen, ListedCluster, blocks_listed, if_page, page_of, page_seen, listed_in}
 
 abbrev pub room_of : World → ℕ
 room_of w = bytes_room (block_len w.geometry)

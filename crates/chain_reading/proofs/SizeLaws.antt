@@ -1,17 +1,6 @@
 -- How many bytes of a file were counted.
 use Rattle.std.proofs.Common.{◌≡◌, ℕ, ◌+◌, ◌*◌, ◌≤◌, ◌<◌, true, List, [], ◌∷◌, ◌++◌, length, refl, ◌∙◌, ap, arith, append-nil, length-append, Some, None, Ok}
-use Rattle.std.proofs.lemmas.Grind.{flat_map-append}
-use Rattle.std.specs.Prelude.{take}
-use Rattle.tsd_model.specs.Geometry.{block_len}
-use Rattle.fs_trees.specs.Cluster.{Cluster, bytes_room}
-use Rattle.fs_trees.specs.ChainTree.{Link, chain_bytes, cluster_at, is_filled}
-use Rattle.fs_port.specs.View.{DiskView, state_of}
-use Rattle.fs_port.specs.Calls.{Stays}
-use Rattle.fs_laws.specs.Ways.{HoldsWrite}
-use Rattle.fs_client.specs.declared.client.Client.{Client}
-use Rattle.fs_client.specs.May.{Looked, OnlyLooks}
-use Rattle.chain_reading.specs.Standing.{has_part}
-use Rattle.chain_reading.specs.Ahead.{IsFileAhead}
+use Rattle.chain_reading.proofs.Common.{flat_map-append, take, block_len, Cluster, bytes_room, Link, chain_bytes, cluster_at, is_filled, DiskView, state_of, Stays, HoldsWrite, Client, Looked, OnlyLooks, has_part, IsFileAhead}
 use Rattle.chain_reading.proofs.WalkLaws.{link_of, IsWalked, walk_starts, walk_on, walk_ends, one_more, part_there}
 
 -- after so many clusters the walk is at a block, and those before it have so many bytes

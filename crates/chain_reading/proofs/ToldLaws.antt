@@ -1,27 +1,9 @@
 -- What reading calls tell.
 use Rattle.std.proofs.Common.{◌≡◌, ◌≤◌, ℕ, true, List, [], length, sym, ◌∙◌, ap, subst, Option, Some, None, Result, Ok, Err}
-use Rattle.std.specs.Prelude.{take, drop, map, IfOk, IfErr, OnOk}
-use Rattle.fs_trees.specs.Names.{Name, Path}
-use Rattle.fs_trees.specs.Tree.{at, is_there, bytes_in, names_in, names}
-use Rattle.fs_trees.specs.Answer.{bytes, listed}
-use Rattle.fs_trees.specs.ChainTree.{Link, chain_bytes, chain_tree, tree_of_files}
+use Rattle.chain_reading.proofs.Common.{take, drop, map, IfOk, IfErr, OnOk, Name, Path, at, is_there, bytes_in, names_in, names, bytes, listed, Link, chain_bytes, chain_tree, tree_of_files, FsRefusal, block_len, holds, IsValidNow, Stays, may_again, DiskView, IsDiskSound, Answers, TellsPart, TellsNext, Client, Looked, OnlyLooks, least_above, IsFrom, PlacedEntry, AreEntries, IsFileAhead, IsDirectoryAhead, MayAsk, mounted_by, tree_under, IsFileOf, no_file_found}
 use Rattle.fs_trees.specs.declared.ask.ShellAsk.TheVariants as ask
-use Rattle.fs_trees.specs.declared.refusal.FsRefusal.{FsRefusal}
 use Rattle.fs_trees.specs.declared.refusal.FsRefusal.TheVariants as no
-use Rattle.tsd_model.specs.Geometry.{block_len}
-use Rattle.tsd_model.specs.Pairs.{holds}
-use Rattle.fs_port.specs.Calls.{IsValidNow, Stays}
-use Rattle.fs_client.proofs.LookLaws.{may_again}
-use Rattle.fs_port.specs.View.{DiskView, IsDiskSound}
-use Rattle.fs_port.specs.Files.{Answers, TellsPart, TellsNext}
-use Rattle.fs_client.specs.declared.client.Client.{Client}
-use Rattle.fs_client.specs.May.{Looked, OnlyLooks}
-use Rattle.chain_layout.specs.Listed.{least_above}
-use Rattle.chain_reading.specs.Chained.{IsFrom, PlacedEntry, AreEntries}
 use Rattle.chain_reading.proofs.ChangeLaws.{right_is}
-use Rattle.chain_reading.specs.Ahead.{IsFileAhead, IsDirectoryAhead}
-use Rattle.chain_reading.specs.Asking.{MayAsk, mounted_by, tree_under}
-use Rattle.chain_reading.specs.Finding.{IsFileOf, no_file_found}
 use Rattle.chain_reading.proofs.RefusalLaws.{cat_answered, cat_stays, ls_answered, ls_stays}
 use Rattle.chain_reading.proofs.KnownLaws.{is_known, tree_known, root_is_listed, names_of_files}
 use Rattle.chain_reading.proofs.NextLaws.{next_name}

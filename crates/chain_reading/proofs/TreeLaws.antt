@@ -1,33 +1,9 @@
 -- Whether there is a tree.
 use Rattle.std.proofs.Common.{◌≡◌, ℕ, ◌≤◌, Bool, true, false, ◌&&◌, nat_le, List, [], length, refl, sym, ◌∙◌, ap, subst, arith, inl, inr, Option, Some, None, Result, Ok, Err}
-use Rattle.std.proofs.lemmas.Bool.{le-leb}
-use Rattle.tsd_model.specs.World.{World, are_apart}
-use Rattle.tsd_model.specs.Pairs.{holds}
-use Rattle.fs_trees.specs.Names.{are_distinct}
-use Rattle.fs_trees.specs.Tree.{is_there}
-use Rattle.fs_trees.specs.Fields.{only_if}
-use Rattle.fs_trees.specs.ChainTree.{blocks_of, links, Chains, chain_blocks, chain_pairs, are_right, names_max, with_files, with_directory, as_tree, chain_tree}
-use Rattle.fs_laws.proofs.ListLaws.{all_held, held_left, held_right, held_append}
-use Rattle.fs_laws.proofs.ChainLaws.{found}
-use Rattle.fs_laws.proofs.CountLaws.{times-append, times_apart}
-use Rattle.fs_client.specs.Marked.{HasNone, Agrees}
-use Rattle.fs_client.specs.declared.block_set.BlockSet.{BlockSet}
-use Rattle.fs_client.proofs.ApartLaws.{is_false}
-use Rattle.fs_client.proofs.SetLaws.{agrees_none}
-use Rattle.chain_reading.specs.Changed.{file_blocks, file_pairs, file_names}
+use Rattle.chain_reading.proofs.Common.{le-leb, World, are_apart, holds, are_distinct, is_there, only_if, blocks_of, links, Chains, chain_blocks, chain_pairs, are_right, names_max, with_files, with_directory, as_tree, chain_tree, all_held, held_left, held_right, held_append, found, times-append, times_apart, HasNone, Agrees, BlockSet, is_false, agrees_none, file_blocks, file_pairs, file_names, IfOk, block_len, FsRefusal, DiskView, Client, MayWrite, Looked, IsFrom, AreEntries, placed_names, ArePagesAhead, directory_from, Comes}
 use Rattle.chain_reading.proofs.ChainedLaws.{chain_from, listing_from}
 use Rattle.chain_reading.proofs.ChangeLaws.{has_chains, right_is}
-use Rattle.std.specs.Prelude.{IfOk}
-use Rattle.tsd_model.specs.Geometry.{block_len}
-use Rattle.fs_trees.specs.declared.refusal.FsRefusal.{FsRefusal}
-use Rattle.fs_port.specs.View.{DiskView}
-use Rattle.fs_client.specs.declared.client.Client.{Client}
-use Rattle.fs_client.specs.May.{MayWrite, Looked}
-use Rattle.chain_reading.specs.Chained.{IsFrom, AreEntries}
-use Rattle.chain_reading.specs.Finding.{placed_names}
 use Rattle.chain_reading.proofs.KnownLaws.{names_of_files}
-use Rattle.chain_reading.specs.Comparing.{ArePagesAhead}
-use Rattle.chain_reading.specs.Looking.{directory_from, Comes}
 use Rattle.chain_reading.proofs.LoopLaws.{none_of, some_of}
 use Rattle.chain_reading.proofs.RightLaws.{DirectoryRight, directory_right}
 use Rattle.chain_reading.proofs.WrongLaws.{directory_wrong}

@@ -1,21 +1,6 @@
 -- A chain that is read cluster by cluster.
 use Rattle.std.proofs.Common.{◌≡◌, ℕ, ◌≤◌, ◌<◌, true, false, ◌&&◌, ◌==◌, nat_lt, nat_le, List, [], ◌∷◌, ◌++◌, length, refl, sym, ◌∙◌, ap, subst, arith, append_assoc, length-append, Option, Some, None}
-use Rattle.std.proofs.lemmas.Bool.{and_parts, and_from, or_left, or_right, eq-eqb, eqb-true, le-leb}
-use Rattle.std.specs.Option.{option_map_or}
-use Rattle.tsd_model.specs.Geometry.{block_len}
-use Rattle.tsd_model.specs.World.{World}
-use Rattle.tsd_model.specs.Pairs.{holds, is_pair}
-use Rattle.fs_trees.specs.Cluster.{Cluster, bytes_room}
-use Rattle.fs_trees.specs.ChainTree.{Link, cluster_at, blocks_of, links, is_filled}
-use Rattle.fs_laws.specs.Ways.{HoldsWrite}
-use Rattle.fs_laws.proofs.WayLaws.{ways_lead_on}
-use Rattle.fs_port.specs.View.{DiskView, state_of}
-use Rattle.fs_port.specs.Calls.{Stays}
-use Rattle.fs_client.specs.declared.client.Client.{Client}
-use Rattle.fs_client.specs.Client.{shown_at}
-use Rattle.fs_client.specs.May.{Looked}
-use Rattle.chain_reading.specs.Chained.{IsFrom}
-use Rattle.chain_reading.specs.Standing.{has_part, IsAhead}
+use Rattle.chain_reading.proofs.Common.{and_parts, and_from, or_left, or_right, eq-eqb, eqb-true, le-leb, option_map_or, block_len, World, holds, is_pair, Cluster, bytes_room, Link, cluster_at, blocks_of, links, is_filled, HoldsWrite, ways_lead_on, DiskView, state_of, Stays, Client, shown_at, Looked, IsFrom, has_part, IsAhead}
 
 abbrev pub link_of : ℕ → Cluster → Link
 link_of b cl = record { block = b; cluster = cl }

@@ -1,23 +1,8 @@
 -- Where a look comes to nothing, the chains aren't right.
 use Rattle.std.proofs.Common.{◌≡◌, ℕ, zero, suc, ◌+◌, ◌≤◌, Bool, true, false, cond, ◌&&◌, ◌||◌, ◌==◌, nat_lt, nat_le, List, [], ◌∷◌, ◌++◌, length, refl, sym, ◌∙◌, ap, subst, arith, inl, inr, Option, Some, None}
-use Rattle.std.proofs.lemmas.Bool.{and_parts, and_from, or_cases, or_left, or_right, eq-eqb, eqb-true, le-leb}
-use Rattle.std.specs.Prelude.{is_none}
-use Rattle.std.specs.Option.{option_and_then}
-use Rattle.tsd_model.specs.Geometry.{block_len}
-use Rattle.tsd_model.specs.World.{World, has_number, are_apart}
-use Rattle.tsd_model.specs.Pairs.{holds, is_pair}
-use Rattle.fs_trees.specs.Fields.{only_if, Entry}
-use Rattle.fs_trees.specs.ChainTree.{Link, blocks_of, links, is_filled, ChainFile, names_max, cluster_at}
-use Rattle.fs_laws.proofs.ListLaws.{held_left, held_right, in_append}
-use Rattle.fs_laws.proofs.CountLaws.{times, times-append, none_times, times_apart}
-use Rattle.fs_client.specs.Held.{are_held}
-use Rattle.fs_client.proofs.ApartLaws.{each_in}
-use Rattle.chain_layout.specs.Listed.{next_blocks, entry_blocks}
-use Rattle.chain_reading.specs.Chained.{IsFrom, PlacedEntry, AreFiles, placed, AreEntries}
-use Rattle.chain_reading.specs.Changed.{file_blocks, file_pairs}
+use Rattle.chain_reading.proofs.Common.{and_parts, and_from, or_cases, or_left, or_right, eq-eqb, eqb-true, le-leb, is_none, option_and_then, block_len, World, has_number, are_apart, holds, is_pair, only_if, Entry, Link, blocks_of, links, is_filled, ChainFile, names_max, cluster_at, held_left, held_right, in_append, times, times-append, none_times, times_apart, are_held, each_in, next_blocks, entry_blocks, IsFrom, PlacedEntry, AreFiles, placed, AreEntries, file_blocks, file_pairs, part_seen, page_seen, go_on, file_by, file_from, files_from, page_on, directory_by, directory_from}
 use Rattle.chain_reading.proofs.ChainedLaws.{chain_from, file_from as file_read, files_split}
 use Rattle.chain_reading.proofs.ChangeLaws.{file_blocks-append, file_pairs-append}
-use Rattle.chain_reading.specs.Looking.{part_seen, page_seen, go_on, file_by, file_from, files_from, page_on, directory_by, directory_from}
 use Rattle.chain_reading.proofs.SeenLaws.{room_of, PartIs, is_part, PageIs, is_page}
 use Rattle.chain_reading.proofs.RightLaws.{begins_filled, file_right, files_right, as_many}
 

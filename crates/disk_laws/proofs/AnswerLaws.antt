@@ -1,21 +1,9 @@
 -- What an answer is where a rule applies, and where none does.
 use Rattle.std.proofs.Common.{◌≡◌, ◌≢◌, ℕ, Bool, true, false, cond, not, ◌&&◌, ◌↔◌, nat_lt, List, [], ◌∷◌, ◌++◌, length, refl, sym, ◌∙◌, ap, subst, inl, inr, ◌⊎◌, arith, ◌<◌}
 use Rattle.std.proofs.Common.{Option, Some, None}
-use Rattle.std.specs.Prelude.{map, unwrap_or}
-use Rattle.std.specs.Option.{option_map_or}
-use Rattle.std.proofs.lemmas.Bool.{and_parts, and_from, ltb-true, lt-ltb}
-use Rattle.tsd_model.specs.World.{World, free_count}
-use Rattle.tsd_model.specs.Sessions.{Sessions}
-use Rattle.tsd_model.specs.Needs.{session_of, needs, wanted_blocks}
-use Rattle.tsd_model.specs.Verdict.{Check, check, first_rule, denied, session_rules, block_rules, level_rules, pair_rules, room_rules, rules_before_room, verdict, finds_no_run, has_no_room}
-use Rattle.tsd_model.specs.Step.{State, Outcome, step, judged, change, gives}
-use Rattle.tsd_model.specs.Run.{starved, answer}
-use Rattle.tsd_model.specs.declared.needs.Need.{Need}
-use Rattle.tsd_model.specs.declared.requests.PlaceKind.{PlaceKind}
-use Rattle.tsd_model.specs.declared.requests.Request.{Request}
+use Rattle.disk_laws.proofs.Common.{map, unwrap_or, option_map_or, and_parts, and_from, ltb-true, lt-ltb, World, free_count, Sessions, session_of, needs, wanted_blocks, Check, check, first_rule, denied, session_rules, block_rules, level_rules, pair_rules, room_rules, rules_before_room, verdict, finds_no_run, has_no_room, State, Outcome, step, judged, change, gives, starved, answer, Need, PlaceKind, Request, Rule}
 use Rattle.tsd_model.specs.declared.requests.Request.TheVariants as ask
 use Rattle.tsd_model.specs.declared.replies.Reply.TheVariants as reply
-use Rattle.tsd_model.specs.declared.replies.Rule.{Rule}
 use Rattle.tsd_model.specs.declared.replies.Rule.TheVariants as rule
 use Rattle.disk_laws.specs.FullDisk.{IsFullAt}
 use Rattle.tsd_model.proofs.VerdictLaws.{first_rule_none, first_rule_some}

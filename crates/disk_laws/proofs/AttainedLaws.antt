@@ -1,20 +1,7 @@
 -- Where a level is attained.
 use Rattle.std.proofs.Common.{◌≡◌, ℕ, zero, suc, ◌+◌, ◌<◌, ◌≤◌, Bool, true, false, cond, ◌||◌, ◌==◌, ◌↔◌, List, [], ◌∷◌, refl, sym, ◌∙◌, ap, subst, arith, inl, inr, ◌⊎◌, IsTrue}
-use Rattle.std.proofs.lemmas.Bool.{cases_eq, cases_lt, eq-eqb, and_parts, and_from, or_cases, eqb-true, lt-ltb, or_left, or_right}
-use Rattle.std.specs.Prelude.{map, filter, slice_index_or}
-use Rattle.std.specs.List.{list_any, range_with_len}
-use Rattle.tsd_model.specs.Pairs.{is_pair, holds, sources_to}
-use Rattle.tsd_model.specs.World.{World, primary_blocks}
-use Rattle.tsd_model.specs.Sessions.{Sessions, level_le, greatest, levels_from, level_from}
-use Rattle.tsd_model.specs.Attained.{shown_level, led_level, attained_from, attained}
-use Rattle.tsd_model.specs.Valid.{IsValid}
-use Rattle.tsd_model.specs.Run.{after, at_rest}
-use Rattle.tsd_model.specs.declared.caps.Shown.{Shown}
-use Rattle.tsd_model.specs.declared.requests.Level.{Level}
+use Rattle.disk_laws.proofs.Common.{cases_eq, cases_lt, eq-eqb, and_parts, and_from, or_cases, eqb-true, lt-ltb, or_left, or_right, map, filter, slice_index_or, list_any, range_with_len, is_pair, holds, sources_to, World, primary_blocks, Sessions, level_le, greatest, levels_from, level_from, shown_level, led_level, attained_from, attained, IsValid, after, at_rest, Shown, Level, PlaceKind, Request, ShownAttains, GrantAttains}
 use Rattle.tsd_model.specs.declared.requests.Level.TheVariants as level
-use Rattle.tsd_model.specs.declared.requests.PlaceKind.{PlaceKind}
-use Rattle.tsd_model.specs.declared.requests.Request.{Request}
-use Rattle.disk_laws.specs.Grants.{ShownAttains, GrantAttains}
 use Rattle.disk_laws.proofs.DoomLaws.{not_primary}
 use Rattle.disk_laws.proofs.RunLaws.{run_geometry}
 use Rattle.disk_laws.proofs.HeldLaws.{le_greater, not_bare}

@@ -1,32 +1,12 @@
 -- Worlds that differ in the bytes of their live blocks alone give the same answers.
 use Rattle.std.proofs.Common.{◌≡◌, ℕ, suc, ◌+◌, true, false, cond, not, ◌&&◌, ◌==◌, nat_lt, nat_le, List, [], ◌∷◌, ◌++◌, length, refl, sym, ◌∙◌, ap, subst, arith, inl, inr, Option, Some, None}
-use Rattle.std.specs.Prelude.{map, filter, take, is_some, is_none, slice_index_or, slice_get, unwrap_or, count_by}
-use Rattle.std.specs.List.{range_with_len, list_all, list_any}
-use Rattle.std.specs.Option.{option_map_or}
-use Rattle.std.proofs.lemmas.Bool.{cases_eq}
-use Rattle.std.proofs.lemmas.List.{get_or-set_same, get_or-set_other, length-set}
+use Rattle.disk_laws.proofs.Common.{map, filter, is_some, is_none, slice_index_or, slice_get, unwrap_or, count_by, range_with_len, list_all, list_any, option_map_or, cases_eq, get_or-set_same, get_or-set_other, length-set, block_len, holds, World, contents, is_live, is_free, free_count, kept_of, rank_of, hint_block, sorted_by_rank, free_blocks, chosen, runs, first_block, chosen_run, Sessions, greatest, levels_from, level_le, record_level, shown_level, led_level, attained_from, attained, session_of, named_blocks, needs, wanted_blocks, wanted_pairs, check, first_rule, has_bad_count, has_bad_size, sets_caps_elsewhere, points_to_primary, adds_held_pair, deletes_missing_pair, is_empty, finds_no_run, session_rules, verdict, with_contents, Shown, Need, Hint, PlaceKind, Request, AreLike}
+use Rattle.std.specs.Prelude.{take}
 use Rattle.std.proofs.lemmas.List.Sums.{sum_by-cons}
-use Rattle.tsd_model.specs.Geometry.{block_len}
-use Rattle.tsd_model.specs.Pairs.{holds}
-use Rattle.tsd_model.specs.World.{World, contents, is_live, is_free, free_count}
-use Rattle.tsd_model.specs.Records.{kept_of}
-use Rattle.tsd_model.specs.Rank.{rank_of}
-use Rattle.tsd_model.specs.Placing.{hint_block, sorted_by_rank, free_blocks, chosen, runs, first_block, chosen_run}
-use Rattle.tsd_model.specs.Sessions.{Sessions, greatest, levels_from, level_le}
-use Rattle.tsd_model.specs.Attained.{record_level, shown_level, led_level, attained_from, attained}
-use Rattle.tsd_model.specs.Needs.{session_of, named_blocks, needs, wanted_blocks, wanted_pairs}
-use Rattle.tsd_model.specs.Verdict.{check, first_rule, has_bad_count, has_bad_size, sets_caps_elsewhere, points_to_primary, adds_held_pair, deletes_missing_pair, is_empty, finds_no_run, session_rules, verdict}
-use Rattle.tsd_model.specs.Step.{with_contents}
-use Rattle.tsd_model.specs.declared.caps.Shown.{Shown}
 use Rattle.tsd_model.specs.declared.caps.Shown.TheVariants.{Nothing, Key}
-use Rattle.tsd_model.specs.declared.needs.Need.{Need}
 use Rattle.tsd_model.specs.declared.replies.Rule.TheVariants as rule
-use Rattle.tsd_model.specs.declared.requests.Hint.{Hint}
 use Rattle.tsd_model.specs.declared.requests.Level.TheVariants as level
-use Rattle.tsd_model.specs.declared.requests.PlaceKind.{PlaceKind}
-use Rattle.tsd_model.specs.declared.requests.Request.{Request}
 use Rattle.tsd_model.specs.declared.requests.Request.TheVariants as ask
-use Rattle.disk_laws.specs.Bytes.{AreLike}
 use Rattle.disk_laws.proofs.DoomLaws.{live_below}
 
 -- other bytes in a live block

@@ -1,21 +1,7 @@
 -- Changes of a world keep it valid.
 use Rattle.std.proofs.Common.{◌≡◌, ℕ, zero, suc, ◌+◌, ◌<◌, ◌≤◌, Bool, true, false, not, cond, ◌==◌, nat_lt, List, [], ◌∷◌, ◌⊎◌, length, refl, sym, ◌∙◌, ap, subst, arith, inl, inr, Option, Some, None, take, length-append}
-use Rattle.std.proofs.lemmas.Bool.{eqb-true, eq-eqb, and_parts, and_from, or_cases, ltb-true, cases_eq, cases_lt, or_left, or_right}
-use Rattle.std.proofs.lemmas.List.{get_or-set_same, get_or-set_other, length-set, length-replicate, length-take}
-use Rattle.std.specs.Prelude.{filter, is_some, is_none, IfSome}
-use Rattle.std.specs.List.{list_all, range_with_len}
-use Rattle.tsd_model.specs.Geometry.{block_len}
-use Rattle.tsd_model.specs.Pairs.{holds, is_pair}
-use Rattle.tsd_model.specs.Rank.{rank_of}
-use Rattle.tsd_model.specs.World.{World, contents, is_live, is_free, all_blocks}
-use Rattle.tsd_model.specs.Placing.{in_rank_order, sorted_by_rank, hint_block, free_blocks, chosen, is_free_run, runs, first_block, chosen_run}
-use Rattle.tsd_model.specs.Step.{filled, with_contents, with_pointer, without_pointer, zeros, with_new_blocks, run_at}
-use Rattle.tsd_model.specs.Valid.{IsSized, IsRaw, IsValid}
-use Rattle.tsd_model.specs.declared.requests.Hint.{Hint}
-use Rattle.tsd_model.specs.declared.requests.PlaceKind.{PlaceKind}
-use Rattle.tsd_model.proofs.SizeLaws.{length-with_pair, sized-with_pointer, sized-without_pointer}
+use Rattle.disk_laws.proofs.Common.{eqb-true, eq-eqb, and_parts, and_from, or_cases, ltb-true, cases_eq, cases_lt, or_left, or_right, get_or-set_same, get_or-set_other, length-set, length-replicate, length-take, filter, is_some, is_none, IfSome, list_all, range_with_len, block_len, holds, is_pair, rank_of, World, contents, is_live, is_free, all_blocks, in_rank_order, sorted_by_rank, hint_block, free_blocks, chosen, is_free_run, runs, first_block, chosen_run, filled, with_contents, with_pointer, without_pointer, zeros, with_new_blocks, run_at, IsSized, IsRaw, IsValid, Hint, PlaceKind, length-with_pair, sized-with_pointer, sized-without_pointer, holds-with_pair, holds-filter, is_rising-with_pair, is_rising-filter}
 use Rattle.disk_laws.proofs.GraphLaws.{length-range}
-use Rattle.tsd_model.proofs.PairLaws.{holds-with_pair, holds-filter, is_rising-with_pair, is_rising-filter}
 use Rattle.disk_laws.proofs.DoomLaws.{live_below}
 
 -- ---- contents

@@ -1,17 +1,7 @@
 -- Doomed blocks, and what is left without them.
 use Rattle.std.proofs.Common.{◌≡◌, ℕ, zero, suc, ◌<◌, ◌≤◌, Bool, true, false, not, cond, ◌&&◌, ◌||◌, ◌==◌, List, [], ◌∷◌, length, refl, sym, ◌∙◌, ap, subst, arith, Option, None}
-use Rattle.std.proofs.lemmas.Bool.{eqb-true, and_parts, and_from, lt-ltb, not-true, not-false, or_parts}
-use Rattle.std.proofs.lemmas.Bool.Decides.{nat_tests}
-use Rattle.std.specs.Prelude.{slice_index_or, is_some}
-use Rattle.std.specs.List.{list_all}
-use Rattle.tsd_model.specs.Pairs.{holds}
-use Rattle.tsd_model.specs.World.{World, contents, is_live, is_primary, all_blocks, has_number}
-use Rattle.tsd_model.specs.Reach.{restricted}
-use Rattle.tsd_model.specs.Doomed.{is_led_only_from, hangs_on, doomed_round, doomed_rounds, doomed, settle}
-use Rattle.tsd_model.specs.Valid.{IsRaw, IsValid}
-use Rattle.tsd_model.proofs.SizeLaws.{contents-restricted, sized-restricted}
+use Rattle.disk_laws.proofs.Common.{eqb-true, and_parts, and_from, lt-ltb, not-true, not-false, or_parts, nat_tests, slice_index_or, is_some, list_all, holds, World, contents, is_live, is_primary, all_blocks, has_number, restricted, is_led_only_from, hangs_on, doomed_round, doomed_rounds, doomed, settle, IsRaw, IsValid, contents-restricted, sized-restricted, and_false, holds-filter, is_rising-filter, all_of_held, one_fails}
 use Rattle.disk_laws.proofs.GraphLaws.{rounds, round_more, rounds_end, has_number-filter, has_number-range, length-range}
-use Rattle.tsd_model.proofs.PairLaws.{and_false, holds-filter, is_rising-filter, all_of_held, one_fails}
 
 pub live_below : (cs : List (Option (List ℕ))) (b : ℕ) → is_some (slice_index_or cs b None) ≡ true → b < length cs
 live_below [] b h = absurd (cc)

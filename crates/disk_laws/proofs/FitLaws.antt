@@ -1,23 +1,8 @@
 -- The sessions after a request fit the world after it.
 use Rattle.std.proofs.Common.{◌≡◌, ℕ, zero, suc, ◌<◌, true, false, cond, List, [], ◌∷◌, length, refl, sym, ◌∙◌, ap, subst, arith, Option, Some, None, ◌⊎◌, inl, inr}
-use Rattle.std.proofs.lemmas.Bool.{cases_lt}
-use Rattle.std.proofs.lemmas.List.{get_or_past, get_or-map, length-set, length-map, length-replicate}
-use Rattle.std.proofs.lemmas.List.FromFn.{length-map-range_with_len, get_or-map-range_with_len, length-enumerate_from}
-use Rattle.std.specs.Prelude.{map, replicate, slice_index_or, slice_set, option_map, is_some, IfSome}
-use Rattle.std.specs.List.{enumerate_from}
-use Rattle.tsd_model.specs.World.{World, is_live}
-use Rattle.tsd_model.specs.Sessions.{Levels, Held, Sessions, sessions_max, held_by, with_held, levels_in, raised_level, raised_held, raised_sessions, levels_at_live, fitted, Fits}
-use Rattle.tsd_model.specs.Needs.{session_of, needs}
-use Rattle.tsd_model.specs.Attained.{attained_from}
-use Rattle.tsd_model.specs.Placing.{chosen, chosen_run}
-use Rattle.tsd_model.specs.Step.{change, raised_at, raised_for, raised_by, with_pointer, with_contents, zeros, with_new_blocks, run_at}
-use Rattle.tsd_model.specs.declared.needs.Need.{Need}
-use Rattle.tsd_model.specs.declared.requests.Level.{Level}
+use Rattle.disk_laws.proofs.Common.{cases_lt, get_or_past, get_or-map, length-set, length-map, length-replicate, length-map-range_with_len, get_or-map-range_with_len, length-enumerate_from, map, replicate, slice_index_or, slice_set, option_map, is_some, IfSome, enumerate_from, World, is_live, Levels, Held, Sessions, sessions_max, held_by, with_held, levels_in, raised_level, raised_held, raised_sessions, levels_at_live, fitted, Fits, session_of, needs, attained_from, chosen, chosen_run, change, raised_at, raised_for, raised_by, with_pointer, with_contents, zeros, with_new_blocks, run_at, Need, Level, PlaceKind, Request, held_keeps, length-with_held, held-map}
 use Rattle.tsd_model.specs.declared.requests.Level.TheVariants as level
-use Rattle.tsd_model.specs.declared.requests.PlaceKind.{PlaceKind}
-use Rattle.tsd_model.specs.declared.requests.Request.{Request}
 use Rattle.tsd_model.specs.declared.requests.Request.TheVariants as ask
-use Rattle.tsd_model.proofs.SessionLaws.{held_keeps, length-with_held, held-map}
 
 -- ---- sessions with a table for each origin
 

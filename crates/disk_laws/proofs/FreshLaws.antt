@@ -1,22 +1,10 @@
 -- Worlds at which a run may begin.
 use Rattle.std.proofs.Common.{◌≡◌, ℕ, zero, suc, ◌-◌, ◌<◌, ◌≤◌, true, List, [], ◌∷◌, ◌++◌, length, length-append, refl, sym, ◌∙◌, ap, subst, arith, inl, inr, Option, Some, None}
-use Rattle.std.proofs.lemmas.Bool.{cases_lt, and_from}
-use Rattle.std.proofs.lemmas.List.{length-map, length-replicate}
-use Rattle.std.specs.Prelude.{map, replicate, slice_index_or, is_some, IfSome}
-use Rattle.std.specs.List.{list_all}
-use Rattle.tsd_model.specs.Geometry.{IsLawful, block_len}
-use Rattle.tsd_model.specs.World.{World, is_live}
-use Rattle.tsd_model.specs.Records.{kept, is_of_version, is_record_of, upgraded_kept, upgraded_record, upgraded}
-use Rattle.tsd_model.specs.Sessions.{Held, sessions_max, no_sessions, levels_in, Fits}
-use Rattle.tsd_model.specs.Valid.{IsValid}
-use Rattle.tsd_model.specs.Run.{fresh_world}
-use Rattle.tsd_model.specs.declared.caps.CapPair.{CapPair}
+use Rattle.disk_laws.proofs.Common.{cases_lt, and_from, length-map, length-replicate, map, replicate, slice_index_or, is_some, IfSome, list_all, IsLawful, block_len, World, is_live, kept, is_of_version, is_record_of, upgraded_kept, upgraded_record, upgraded, Held, sessions_max, no_sessions, levels_in, Fits, IsValid, fresh_world, CapPair, Record, no_held}
 use Rattle.tsd_model.specs.declared.geometry.Geometry.{Geometry}
 use Rattle.tsd_model.specs.declared.records.KeptCap.{KeptCap}
 use Rattle.tsd_model.specs.declared.records.KeptCap.TheVariants.{Plain, Digested}
-use Rattle.tsd_model.specs.declared.records.Record.{Record}
 use Rattle.tsd_model.specs.declared.requests.Level.TheVariants as level
-use Rattle.tsd_model.proofs.SessionLaws.{no_held}
 
 -- ---- no session
 

@@ -1,27 +1,10 @@
 -- What a session holds is what it was granted.
 use Rattle.std.proofs.Common.{◌≡◌, ℕ, zero, suc, ◌<◌, ◌≤◌, Bool, true, false, not, cond, ◌&&◌, ◌||◌, ◌==◌, nat_lt, nat_le, List, [], ◌∷◌, length, refl, sym, ◌∙◌, ap, subst, arith, inl, inr, ◌⊎◌, Option, Some, None, drop}
-use Rattle.std.proofs.lemmas.Bool.{cases_eq, eq-eqb, ne_eqb, leb-false, ltb-false, or_parts}
-use Rattle.std.specs.Prelude.{replicate, slice_index_or, is_some, is_none, IfSome}
-use Rattle.std.specs.List.{list_any}
-use Rattle.std.specs.Option.{option_map_or}
-use Rattle.tsd_model.specs.World.{World, is_live}
-use Rattle.tsd_model.specs.Sessions.{Held, Sessions, sessions_max, level_le, held_by, is_open, levels_in, level_from, session_begun, session_ended, Fits}
-use Rattle.tsd_model.specs.Needs.{session_of, needs}
-use Rattle.tsd_model.specs.Valid.{IsValid}
-use Rattle.tsd_model.specs.Verdict.{is_begin, is_no_session, has_bad_session, is_already_open, names_missing_block, is_granted, verdict}
-use Rattle.tsd_model.specs.Step.{State, change, judged, raised_by}
-use Rattle.tsd_model.specs.Run.{answer, after, wants_now, at_rest}
-use Rattle.tsd_model.specs.History.{Asked, state_after, is_of_session, attains_at, gives_grant, is_end_of, is_set_cap_of, keeps_grant, has_grant}
-use Rattle.tsd_model.specs.declared.requests.Level.{Level}
+use Rattle.disk_laws.proofs.Common.{cases_eq, eq-eqb, ne_eqb, leb-false, ltb-false, or_parts, replicate, slice_index_or, is_some, is_none, IfSome, list_any, option_map_or, World, is_live, Held, Sessions, sessions_max, level_le, held_by, is_open, levels_in, level_from, session_begun, session_ended, Fits, session_of, needs, IsValid, is_begin, is_no_session, has_bad_session, is_already_open, names_missing_block, is_granted, verdict, State, change, judged, raised_by, answer, after, wants_now, at_rest, Asked, state_after, is_of_session, attains_at, gives_grant, is_end_of, is_set_cap_of, keeps_grant, has_grant, Level, PlaceKind, Request, Rule, onto_past, newest_first, no_held, held_keeps, held-with_other, held-with_same}
 use Rattle.tsd_model.specs.declared.requests.Level.TheVariants as level
-use Rattle.tsd_model.specs.declared.requests.PlaceKind.{PlaceKind}
-use Rattle.tsd_model.specs.declared.requests.Request.{Request}
 use Rattle.tsd_model.specs.declared.requests.Request.TheVariants as ask
-use Rattle.tsd_model.specs.declared.replies.Rule.{Rule}
-use Rattle.disk_laws.specs.Grants.{onto_past, newest_first}
 use Rattle.disk_laws.proofs.RuleLaws.{Passes, granted_passes}
 use Rattle.disk_laws.proofs.AnswerLaws.{refused_answer, granted_answer}
-use Rattle.tsd_model.proofs.SessionLaws.{no_held, held_keeps, held-with_other, held-with_same}
 use Rattle.disk_laws.proofs.FitLaws.{HasOrigins, origins-raised_by}
 use Rattle.disk_laws.proofs.RunLaws.{answer_valid, answer_fits, fits_have_origins, answer_geometry}
 use Rattle.disk_laws.proofs.FreshLaws.{no_sessions_fit}

@@ -1,12 +1,6 @@
 -- Sets that rounds build.
 use Rattle.std.proofs.Common.{◌≡◌, ℕ, zero, suc, ◌+◌, ◌≤◌, Bool, true, false, cond, ◌&&◌, ◌||◌, ◌==◌, nat_lt, nat_le, List, [], ◌∷◌, ◌⊎◌, length, refl, sym, ◌∙◌, ap, subst, arith, inl, inr}
-use Rattle.std.proofs.lemmas.Bool.{eq-eqb, eqb-true, and_parts, and_from, or_left, or_right}
-use Rattle.std.proofs.lemmas.Bool.Decides.{nat_tests}
-use Rattle.std.specs.Prelude.{filter}
-use Rattle.std.specs.List.{range_with_len}
-use Rattle.tsd_model.specs.World.{has_number}
-use Rattle.tsd_model.proofs.SizeLaws.{length-filter_le}
-use Rattle.tsd_model.proofs.PairLaws.{and_false}
+use Rattle.disk_laws.proofs.Common.{eq-eqb, eqb-true, and_parts, and_from, or_left, or_right, nat_tests, filter, range_with_len, has_number, length-filter_le, and_false}
 
 -- of two tests, the weaker keeps the same or more
 pub filter_weaker : (p q : ℕ → Bool) → ((x : ℕ) → p x ≡ true → q x ≡ true) → (xs : List ℕ) → (filter q xs ≡ filter p xs) ⊎ (suc (length (filter p xs)) ≤ length (filter q xs))

@@ -1,21 +1,7 @@
 -- Levels that sessions hold, after a change.
 use Rattle.std.proofs.Common.{◌≡◌, ℕ, zero, suc, ◌+◌, ◌<◌, ◌≤◌, Bool, true, false, cond, ◌&&◌, ◌||◌, ◌==◌, List, [], ◌∷◌, length, refl, sym, ◌∙◌, ap, subst, arith, inl, inr, Option, Some, None}
-use Rattle.std.proofs.lemmas.Bool.{cases_eq, cases_lt, eq-eqb, ne_eqb}
-use Rattle.std.proofs.lemmas.Bool.Decides.{nat_tests}
-use Rattle.std.proofs.lemmas.List.{get_or-set_same, get_or-set_other, get_or_past, get_or-map, length-set}
-use Rattle.std.proofs.lemmas.List.FromFn.{length-map-range_with_len, get_or-map-range_with_len, length-enumerate_from, get_or-enumerate_from}
-use Rattle.std.specs.Prelude.{map, replicate, slice_index_or, slice_set, option_map, is_some, IfSome}
-use Rattle.std.specs.List.{enumerate_from, list_any}
-use Rattle.std.specs.Option.{option_map_or}
-use Rattle.tsd_model.specs.World.{World, is_live}
-use Rattle.tsd_model.specs.Sessions.{Levels, Held, Sessions, sessions_max, level_rank, level_le, greater, held_by, is_open, levels_in, levels_from, level_from, raised_level, raised_held, raised_sessions, dropped_from, levels_at_live, fitted}
-use Rattle.tsd_model.specs.Attained.{attained_from}
-use Rattle.tsd_model.specs.Step.{raised_at, raised_for}
-use Rattle.tsd_model.specs.History.{attains_at}
-use Rattle.tsd_model.specs.declared.needs.Need.{Need}
-use Rattle.tsd_model.specs.declared.requests.Level.{Level}
+use Rattle.disk_laws.proofs.Common.{cases_eq, cases_lt, eq-eqb, ne_eqb, nat_tests, get_or-set_same, get_or-set_other, get_or_past, get_or-map, length-set, length-map-range_with_len, get_or-map-range_with_len, length-enumerate_from, get_or-enumerate_from, map, replicate, slice_index_or, slice_set, option_map, is_some, IfSome, enumerate_from, list_any, option_map_or, World, is_live, Levels, Held, Sessions, sessions_max, level_rank, level_le, greater, held_by, is_open, levels_in, levels_from, level_from, raised_level, raised_held, raised_sessions, dropped_from, levels_at_live, fitted, attained_from, raised_at, raised_for, attains_at, Need, Level, held-map, held-with_other, held-with_same}
 use Rattle.tsd_model.specs.declared.requests.Level.TheVariants as level
-use Rattle.tsd_model.proofs.SessionLaws.{held-map, held-with_other, held-with_same}
 use Rattle.disk_laws.proofs.FitLaws.{HasOrigins, origins-raised}
 
 -- ---- the order of levels

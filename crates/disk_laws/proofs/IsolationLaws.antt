@@ -1,24 +1,10 @@
 -- A request of one session and the levels of another.
 use Rattle.std.proofs.Common.{◌≡◌, ℕ, Bool, true, false, not, cond, ◌&&◌, ◌==◌, length, refl, sym, ◌∙◌, ap, subst, inl, inr, ◌⊎◌, Option, Some, None}
-use Rattle.std.proofs.lemmas.Bool.{eq-eqb}
-use Rattle.std.specs.Prelude.{map, replicate, slice_index_or, slice_set, option_map, is_some, is_none}
-use Rattle.std.specs.Option.{option_map_or}
-use Rattle.tsd_model.specs.World.{World, is_live}
-use Rattle.tsd_model.specs.Sessions.{Held, Sessions, held_by, is_open, levels_in, level_from, levels_at_live, fitted, Fits}
-use Rattle.tsd_model.specs.Needs.{session_of, needs}
-use Rattle.tsd_model.specs.Verdict.{is_granted, verdict}
-use Rattle.tsd_model.specs.Step.{State, change, judged, raised_by, raised_for}
-use Rattle.tsd_model.specs.Run.{answer}
-use Rattle.tsd_model.specs.History.{is_of_session, is_set_cap_of}
-use Rattle.tsd_model.specs.declared.requests.Level.{Level}
+use Rattle.disk_laws.proofs.Common.{eq-eqb, map, replicate, slice_index_or, slice_set, option_map, is_some, is_none, option_map_or, World, is_live, Held, Sessions, held_by, is_open, levels_in, level_from, levels_at_live, fitted, Fits, session_of, needs, is_granted, verdict, State, change, judged, raised_by, raised_for, answer, is_of_session, is_set_cap_of, Level, PlaceKind, Request, Rule, held-map, held-with_other}
 use Rattle.tsd_model.specs.declared.requests.Level.TheVariants as level
-use Rattle.tsd_model.specs.declared.requests.PlaceKind.{PlaceKind}
-use Rattle.tsd_model.specs.declared.requests.Request.{Request}
 use Rattle.tsd_model.specs.declared.requests.Request.TheVariants as ask
-use Rattle.tsd_model.specs.declared.replies.Rule.{Rule}
 use Rattle.disk_laws.specs.Isolation.{renews}
 use Rattle.disk_laws.proofs.AnswerLaws.{after_answer, refused_answer, granted_answer}
-use Rattle.tsd_model.proofs.SessionLaws.{held-map, held-with_other}
 use Rattle.disk_laws.proofs.HeldLaws.{level-fitted, level-dropped_from, other-raised_at}
 
 another : (n t : ℕ) → (t == n) ≡ false → n ≡ t → ⊥

@@ -1,3 +1,4 @@
+pub mod Common
 pub mod AnswerLaws
 pub mod AttainedLaws
 pub mod ByteLaws

@@ -1,14 +1,7 @@
 -- Which blocks are doomed and which are reached reads no bytes, nor do the levels at live blocks.
 use Rattle.std.proofs.Common.{◌≡◌, ℕ, zero, suc, Bool, None, cond, not, ◌&&◌, ◌||◌, ◌==◌, nat_lt, List, length, refl, sym, ◌∙◌, ap, subst}
-use Rattle.std.specs.Prelude.{map, filter, slice_index_or, option_map}
-use Rattle.std.specs.List.{range_with_len, list_all, list_any}
-use Rattle.std.proofs.lemmas.List.FromFn.{length-map-range_with_len}
-use Rattle.tsd_model.specs.World.{World, contents, primary_blocks, has_number}
-use Rattle.tsd_model.specs.Reach.{reach_rounds, reach, restricted, swept}
-use Rattle.tsd_model.specs.Doomed.{doomed_rounds, doomed, settle}
-use Rattle.tsd_model.specs.Sessions.{Levels, Sessions, fitted}
+use Rattle.disk_laws.proofs.Common.{map, filter, slice_index_or, option_map, range_with_len, list_all, list_any, length-map-range_with_len, World, contents, primary_blocks, has_number, reach_rounds, reach, restricted, swept, doomed_rounds, doomed, settle, Levels, Sessions, fitted, AreLike}
 use Rattle.tsd_model.specs.declared.requests.Level.TheVariants as level
-use Rattle.disk_laws.specs.Bytes.{AreLike}
 use Rattle.disk_laws.proofs.DoomLaws.{live-restricted}
 
 -- ---- rounds

@@ -1,20 +1,7 @@
 -- What a granted request attained, and what is led to where less is held.
 use Rattle.std.proofs.Common.{◌≡◌, ℕ, Bool, true, false, not, cond, ◌&&◌, ◌==◌, nat_le, List, [], ◌∷◌, refl, inl, inr, arith, Option, None}
-use Rattle.std.proofs.lemmas.Bool.{and_parts, and_from, or_cases, eq-eqb, or_left, or_right}
-use Rattle.std.proofs.lemmas.Bool.Decides.{nat_tests}
-use Rattle.std.specs.Prelude.{map, filter, slice_index_or, unwrap_or}
-use Rattle.std.specs.List.{list_any, list_all}
-use Rattle.tsd_model.specs.Pairs.{is_pair, holds}
-use Rattle.tsd_model.specs.World.{World}
-use Rattle.tsd_model.specs.Sessions.{Sessions, Levels, level_rank, level_le, greater, greatest}
-use Rattle.tsd_model.specs.Attained.{led_level, attained}
-use Rattle.tsd_model.specs.Needs.{session_of, needs}
-use Rattle.tsd_model.specs.Verdict.{denied, verdict}
-use Rattle.tsd_model.specs.declared.needs.Need.{Need}
-use Rattle.tsd_model.specs.declared.requests.Level.{Level}
+use Rattle.disk_laws.proofs.Common.{and_parts, and_from, or_cases, eq-eqb, or_left, or_right, nat_tests, map, filter, slice_index_or, unwrap_or, list_any, list_all, is_pair, holds, World, Sessions, Levels, level_rank, level_le, greater, greatest, led_level, attained, session_of, needs, denied, verdict, Need, Level, Request, Rule}
 use Rattle.tsd_model.specs.declared.requests.Level.TheVariants as level
-use Rattle.tsd_model.specs.declared.requests.Request.{Request}
-use Rattle.tsd_model.specs.declared.replies.Rule.{Rule}
 use Rattle.disk_laws.proofs.RuleLaws.{NoRule, none_first, granted_passes}
 
 -- ---- the order of levels

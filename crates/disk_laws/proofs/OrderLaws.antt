@@ -1,16 +1,8 @@
 -- The reclaimed blocks stand in an order.
 use Rattle.std.proofs.Common.{◌≡◌, ℕ, zero, suc, ◌+◌, nat_le, nat_lt, arith, Bool, true, false, not, ◌&&◌, ◌||◌, ◌==◌, cond, length, List, [], ◌∷◌, ◌++◌, refl, sym, ◌∙◌, ap, subst, append_assoc, append-nil}
-use Rattle.std.proofs.lemmas.Bool.{and_parts, and_from, eq-eqb, not-true, or_left, or_right}
+use Rattle.disk_laws.proofs.Common.{and_parts, and_from, eq-eqb, not-true, or_left, or_right, nat_tests, filter, range_with_len, holds, World, is_live, is_primary, has_number, all_blocks, are_apart, is_led_only_from, hangs_on, doomed_rounds, InOrder, and_false, all_of_held}
 use Rattle.std.proofs.lemmas.List.Folds.{list_any-append}
-use Rattle.std.proofs.lemmas.Bool.Decides.{nat_tests}
-use Rattle.std.specs.Prelude.{filter}
-use Rattle.std.specs.List.{range_with_len}
-use Rattle.tsd_model.specs.Pairs.{holds}
-use Rattle.tsd_model.specs.World.{World, is_live, is_primary, has_number, all_blocks, are_apart}
-use Rattle.tsd_model.specs.Doomed.{is_led_only_from, hangs_on, doomed_rounds}
-use Rattle.disk_laws.specs.Reclaiming.{InOrder}
 use Rattle.disk_laws.proofs.GraphLaws.{has_number-filter, has_number-range}
-use Rattle.tsd_model.proofs.PairLaws.{and_false, all_of_held}
 use Rattle.disk_laws.proofs.DoomLaws.{doomed_more}
 
 -- what a round adds

@@ -1,22 +1,8 @@
 -- Which pointers and which records a request changes.
 use Rattle.std.proofs.Common.{◌≡◌, ℕ, zero, suc, Bool, true, false, not, ◌&&◌, ◌||◌, ◌==◌, nat_lt, List, [], ◌∷◌, ◌⊎◌, length, refl, sym, ◌∙◌, ap, subst, inl, inr, Option, Some, None}
-use Rattle.std.proofs.lemmas.Bool.{and_parts, and_from, eq-eqb, eqb-true}
-use Rattle.std.specs.Prelude.{slice_get, slice_set, is_some, is_none}
-use Rattle.tsd_model.specs.Pairs.{is_pair, holds}
-use Rattle.tsd_model.specs.World.{World, contents, is_live, is_free, has_number}
-use Rattle.tsd_model.specs.Records.{kept}
-use Rattle.tsd_model.specs.Reach.{restricted, reach}
-use Rattle.tsd_model.specs.Doomed.{doomed}
-use Rattle.tsd_model.specs.Placing.{chosen, chosen_run}
-use Rattle.tsd_model.specs.Sessions.{Sessions}
-use Rattle.tsd_model.specs.Step.{change, with_contents, with_pointer, without_pointer, with_new_blocks, zeros, run_at}
-use Rattle.tsd_model.specs.History.{is_set_cap_of}
-use Rattle.tsd_model.specs.declared.records.Record.{Record}
-use Rattle.tsd_model.specs.declared.requests.PlaceKind.{PlaceKind}
-use Rattle.tsd_model.specs.declared.requests.Request.{Request}
+use Rattle.disk_laws.proofs.Common.{and_parts, and_from, eq-eqb, eqb-true, slice_get, slice_set, is_some, is_none, is_pair, holds, World, contents, is_live, is_free, has_number, kept, restricted, reach, doomed, chosen, chosen_run, Sessions, change, with_contents, with_pointer, without_pointer, with_new_blocks, zeros, run_at, is_set_cap_of, Record, PlaceKind, Request, holds-with_pair, holds-filter}
 use Rattle.tsd_model.specs.declared.requests.Request.TheVariants as ask
 use Rattle.disk_laws.specs.Changes.{has_source, is_create_of}
-use Rattle.tsd_model.proofs.PairLaws.{holds-with_pair, holds-filter}
 use Rattle.disk_laws.proofs.DoomLaws.{holds-restricted, live-restricted}
 use Rattle.disk_laws.proofs.ChangeLaws.{AllOf, either_pair, held_before, chosen_are_free, chosen_run_is_free}
 

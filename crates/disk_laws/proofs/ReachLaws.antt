@@ -1,13 +1,6 @@
 -- What is reached is closed under pairs, and the world on it is valid.
 use Rattle.std.proofs.Common.{◌≡◌, ℕ, zero, suc, ◌+◌, ◌-◌, ◌<◌, ◌≤◌, Bool, true, false, cond, ◌&&◌, ◌||◌, ◌==◌, nat_lt, nat_le, List, [], ◌∷◌, length, refl, sym, ◌∙◌, ap, subst, arith, inl, inr}
-use Rattle.std.proofs.lemmas.Bool.{and_parts, and_from, or_cases, eq-eqb, eqb-true, ltb-true, or_left, or_right}
-use Rattle.std.proofs.lemmas.Bool.Decides.{nat_tests}
-use Rattle.std.specs.Prelude.{filter}
-use Rattle.std.specs.List.{list_any, range_with_len}
-use Rattle.tsd_model.specs.Pairs.{holds, is_pair}
-use Rattle.tsd_model.specs.World.{World, is_live, all_blocks, primary_blocks, has_number}
-use Rattle.tsd_model.specs.Reach.{is_led_from, reach_round, reach_rounds, reach_from, reach, swept}
-use Rattle.tsd_model.specs.Valid.{IsRaw, IsValid}
+use Rattle.disk_laws.proofs.Common.{and_parts, and_from, or_cases, eq-eqb, eqb-true, ltb-true, or_left, or_right, nat_tests, filter, list_any, range_with_len, holds, is_pair, World, is_live, all_blocks, primary_blocks, has_number, is_led_from, reach_round, reach_rounds, reach_from, reach, swept, IsRaw, IsValid}
 use Rattle.disk_laws.proofs.GraphLaws.{has_number-filter, has_number-range, length-range, rounds_from, from_more, from_end}
 use Rattle.disk_laws.proofs.DoomLaws.{live_below, in_all, restricted_is_valid}
 

@@ -1,24 +1,7 @@
 -- Which blocks are reclaimed, and which stay.
 use Rattle.std.proofs.Common.{◌≡◌, ℕ, Bool, true, false, not, ◌&&◌, ◌||◌, ◌==◌, ◌↔◌, [], length, refl, sym, ◌∙◌, ap, subst, Option, Some, None, inl, inr}
-use Rattle.std.proofs.lemmas.Bool.{and_parts, eq-eqb, ltb-false, not-true, cases_lt}
-use Rattle.std.specs.Prelude.{is_none}
-use Rattle.tsd_model.specs.Pairs.{holds}
-use Rattle.tsd_model.specs.World.{World, contents, is_live, is_primary, has_number}
-use Rattle.tsd_model.specs.Reach.{reach}
-use Rattle.tsd_model.specs.Doomed.{is_led_only_from, doomed, settle}
-use Rattle.tsd_model.specs.Sessions.{Sessions}
-use Rattle.tsd_model.specs.Verdict.{verdict, is_granted}
-use Rattle.tsd_model.specs.Valid.{IsValid}
-use Rattle.tsd_model.specs.Step.{State, change, raised_by, without_pointer}
-use Rattle.tsd_model.specs.Run.{answer}
-use Rattle.tsd_model.specs.declared.caps.Shown.{Shown}
-use Rattle.tsd_model.specs.declared.requests.PlaceKind.{PlaceKind}
-use Rattle.tsd_model.specs.declared.requests.Request.{Request}
+use Rattle.disk_laws.proofs.Common.{and_parts, eq-eqb, ltb-false, not-true, cases_lt, is_none, holds, World, contents, is_live, is_primary, has_number, reach, is_led_only_from, doomed, settle, Sessions, verdict, is_granted, IsValid, State, change, raised_by, without_pointer, answer, Shown, PlaceKind, Request, Rule, KeepsWhatIsReached, writes_to, is_sweep, LosesItsPointers, ReclaimsTheLost, ReclaimOrder, all_of_held}
 use Rattle.tsd_model.specs.declared.requests.Request.TheVariants as ask
-use Rattle.tsd_model.specs.declared.replies.Rule.{Rule}
-use Rattle.disk_laws.specs.Reached.{KeepsWhatIsReached, writes_to}
-use Rattle.disk_laws.specs.Reclaiming.{is_sweep, LosesItsPointers, ReclaimsTheLost, ReclaimOrder}
-use Rattle.tsd_model.proofs.PairLaws.{all_of_held}
 use Rattle.disk_laws.proofs.DoomLaws.{live-restricted, holds-restricted, is_doomed}
 use Rattle.disk_laws.proofs.ReachLaws.{reached_is_led_to}
 use Rattle.disk_laws.proofs.ChangeLaws.{held_before}

@@ -1,11 +1,7 @@
 -- What is known of a request that no rule refuses.
 use Rattle.std.proofs.Common.{◌≡◌, true, false, cond, List, [], ◌∷◌, ◌++◌, refl, ◌∙◌, ap}
 use Rattle.std.proofs.Common.{Option, Some, None}
-use Rattle.tsd_model.specs.World.{World}
-use Rattle.tsd_model.specs.Sessions.{Sessions}
-use Rattle.tsd_model.specs.Verdict.{Check, first_rule, session_rules, block_rules, level_rules, pair_rules, room_rules, rules_before_room, rules, is_bad, has_bad_session, is_already_open, is_not_open, has_bad_count, has_bad_size, names_missing_block, names_free_block, sets_caps_elsewhere, points_to_primary, adds_held_pair, deletes_missing_pair, wants_too_many, finds_no_run, has_no_room}
-use Rattle.tsd_model.specs.declared.requests.Request.{Request}
-use Rattle.tsd_model.specs.declared.replies.Rule.{Rule}
+use Rattle.disk_laws.proofs.Common.{World, Sessions, Check, first_rule, session_rules, block_rules, level_rules, pair_rules, room_rules, rules_before_room, rules, is_bad, has_bad_session, is_already_open, is_not_open, has_bad_count, has_bad_size, names_missing_block, names_free_block, sets_caps_elsewhere, points_to_primary, adds_held_pair, deletes_missing_pair, wants_too_many, finds_no_run, has_no_room, Request, Rule}
 
 abbrev pub NoRule : List Check → Type 0
 NoRule cs = ◌≡◌ {A = Option Rule} (first_rule cs) None

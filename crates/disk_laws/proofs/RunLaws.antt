@@ -1,13 +1,6 @@
 -- What each answer keeps, a run keeps.
 use Rattle.std.proofs.Common.{◌≡◌, Bool, List, [], ◌∷◌, refl, sym, ◌∙◌, subst, Option, None, drop}
-use Rattle.tsd_model.specs.Sessions.{Fits}
-use Rattle.tsd_model.specs.Valid.{IsValid}
-use Rattle.tsd_model.specs.Verdict.{verdict}
-use Rattle.tsd_model.specs.Step.{State, change, raised_by, judged}
-use Rattle.tsd_model.specs.Run.{answer, after, wants_now}
-use Rattle.tsd_model.specs.declared.requests.PlaceKind.{PlaceKind}
-use Rattle.tsd_model.specs.declared.requests.Request.{Request}
-use Rattle.tsd_model.specs.declared.replies.Rule.{Rule}
+use Rattle.disk_laws.proofs.Common.{Fits, IsValid, verdict, State, change, raised_by, judged, answer, after, wants_now, PlaceKind, Request, Rule}
 use Rattle.disk_laws.proofs.AnswerLaws.{after_answer}
 use Rattle.disk_laws.proofs.FitLaws.{HasOrigins, origins-raised_by, origins-change, fitted_fits, geometry-change, version-change}
 use Rattle.disk_laws.proofs.RuleLaws.{granted_passes}

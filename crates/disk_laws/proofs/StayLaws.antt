@@ -1,20 +1,7 @@
 -- What a granted request leaves as it is.
 use Rattle.std.proofs.Common.{◌≡◌, ℕ, Bool, true, false, not, cond, nat_lt, List, [], ◌∷◌, refl, sym, ◌∙◌, subst, Option, Some, None}
-use Rattle.std.proofs.lemmas.Bool.{and_parts, eq-eqb}
-use Rattle.std.specs.Prelude.{is_some, is_none}
-use Rattle.tsd_model.specs.Pairs.{holds}
-use Rattle.tsd_model.specs.World.{World, contents, is_live, is_free, has_number}
-use Rattle.tsd_model.specs.Reach.{restricted, reach}
-use Rattle.tsd_model.specs.Doomed.{doomed}
-use Rattle.tsd_model.specs.Placing.{chosen, chosen_run}
-use Rattle.tsd_model.specs.Sessions.{Sessions}
-use Rattle.tsd_model.specs.Step.{change, filled, with_pointer, without_pointer, with_contents, zeros, with_new_blocks, run_at}
-use Rattle.tsd_model.specs.Geometry.{block_len}
-use Rattle.tsd_model.specs.declared.requests.PlaceKind.{PlaceKind}
-use Rattle.tsd_model.specs.declared.requests.Request.{Request}
+use Rattle.disk_laws.proofs.Common.{and_parts, eq-eqb, is_some, is_none, holds, World, contents, is_live, is_free, has_number, restricted, reach, doomed, chosen, chosen_run, Sessions, change, filled, with_pointer, without_pointer, with_contents, zeros, with_new_blocks, run_at, block_len, PlaceKind, Request, contents-restricted, writes_to}
 use Rattle.tsd_model.specs.declared.requests.Request.TheVariants as ask
-use Rattle.tsd_model.proofs.SizeLaws.{contents-restricted}
-use Rattle.disk_laws.specs.Reached.{writes_to}
 use Rattle.disk_laws.proofs.ChangeLaws.{live-with_contents, contents-other, old_pair, AllOf, AllFree, AllOf-map, chosen_are_free, chosen_run_is_free}
 
 -- ---- new blocks

@@ -1,17 +1,9 @@
 -- Answers to one request at two states.
 use Rattle.std.proofs.Common.{◌≡◌, ℕ, Bool, true, false, ◌&&◌, refl, sym, ◌∙◌, ap, subst, Option, Some, None}
-use Rattle.std.specs.Prelude.{is_none}
-use Rattle.tsd_model.specs.Verdict.{is_granted, verdict}
-use Rattle.tsd_model.specs.Step.{State, Outcome, step, judged, gives}
-use Rattle.tsd_model.specs.Run.{answer, starved}
-use Rattle.tsd_model.specs.declared.requests.PlaceKind.{PlaceKind}
-use Rattle.tsd_model.specs.declared.requests.Request.{Request}
+use Rattle.disk_laws.proofs.Common.{is_none, is_granted, verdict, State, Outcome, step, judged, gives, answer, starved, PlaceKind, Request, Rule, writes_to, and_false}
 use Rattle.tsd_model.specs.declared.requests.Request.TheVariants as ask
 use Rattle.tsd_model.specs.declared.replies.Reply.{Reply}
 use Rattle.tsd_model.specs.declared.replies.Reply.TheVariants as reply
-use Rattle.tsd_model.specs.declared.replies.Rule.{Rule}
-use Rattle.disk_laws.specs.Reached.{writes_to}
-use Rattle.tsd_model.proofs.PairLaws.{and_false}
 use Rattle.disk_laws.proofs.AnswerLaws.{refused_answer}
 
 -- what holds of two answers that a rule gives, or that found no memory, and of those that are granted, where the verdict is one

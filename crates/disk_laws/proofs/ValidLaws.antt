@@ -1,22 +1,7 @@
 -- A request leaves a valid world.
 use Rattle.std.proofs.Common.{◌≡◌, ℕ, zero, suc, ◌+◌, ◌<◌, Bool, true, false, ◌&&◌, ◌||◌, nat_lt, nat_le, List, [], ◌∷◌, length, refl, sym, ◌∙◌, subst, arith, Option, Some, None, ◌⊎◌, inl, inr}
-use Rattle.std.proofs.lemmas.Bool.{and_parts, and_from, leb-false, ltb-false, or_parts}
-use Rattle.std.proofs.lemmas.Bool.Decides.{nat_tests}
-use Rattle.std.proofs.lemmas.List.{length-set}
-use Rattle.std.specs.Prelude.{slice_set, is_some, is_none}
-use Rattle.std.specs.List.{list_all}
-use Rattle.tsd_model.specs.Geometry.{block_len}
-use Rattle.tsd_model.specs.World.{World, contents, is_live, is_free}
-use Rattle.tsd_model.specs.Records.{kept, is_record_of, is_of_version, kept_of}
-use Rattle.tsd_model.specs.Placing.{chosen, chosen_run}
-use Rattle.tsd_model.specs.Sessions.{Sessions}
-use Rattle.tsd_model.specs.Step.{change, filled, with_caps, without_pointer, run_at}
-use Rattle.tsd_model.specs.Valid.{IsValid}
+use Rattle.disk_laws.proofs.Common.{and_parts, and_from, leb-false, ltb-false, or_parts, nat_tests, length-set, slice_set, is_some, is_none, list_all, block_len, World, contents, is_live, is_free, kept, is_record_of, is_of_version, kept_of, chosen, chosen_run, Sessions, change, filled, with_caps, without_pointer, run_at, IsValid, CapPair, Record, PlaceKind, Request}
 use Rattle.tsd_model.specs.declared.caps.Cap.{Cap}
-use Rattle.tsd_model.specs.declared.caps.CapPair.{CapPair}
-use Rattle.tsd_model.specs.declared.records.Record.{Record}
-use Rattle.tsd_model.specs.declared.requests.PlaceKind.{PlaceKind}
-use Rattle.tsd_model.specs.declared.requests.Request.{Request}
 use Rattle.tsd_model.specs.declared.requests.Request.TheVariants as ask
 use Rattle.disk_laws.proofs.DoomLaws.{settle_is_valid}
 use Rattle.disk_laws.proofs.ReachLaws.{swept_is_valid}

@@ -1,20 +1,6 @@
 -- A call that begins where others only looked before.
 use Rattle.std.proofs.Common.{◌≡◌, cond, sym, ◌∙◌, ap, subst, inl, inr, Result, Ok, Err}
-use Rattle.tsd_model.specs.World.{World, is_free}
-use Rattle.tsd_model.specs.Valid.{IsValid}
-use Rattle.fs_trees.specs.Tree.{nothing}
-use Rattle.fs_trees.specs.Answer.{Answer}
-use Rattle.fs_trees.specs.Layouts.{tree_at, IsTidy, step_in}
-use Rattle.fs_trees.specs.Needs.{need_of}
-use Rattle.fs_trees.specs.Outside.{OthersStay}
-use Rattle.fs_trees.specs.Step.{AskOutcome}
-use Rattle.fs_trees.specs.declared.ask.ShellAsk.{ShellAsk}
-use Rattle.fs_trees.specs.declared.refusal.FsRefusal.{FsRefusal}
-use Rattle.fs_port.specs.View.{DiskView}
-use Rattle.fs_port.specs.Files.{FilesView, Answers, IsEitherTree, KeepsRoom, LeavesTidyWorld, need_on, step_on, unless_refused}
-use Rattle.fs_client.specs.May.{OnlyLooks}
-use Rattle.fs_port.specs.Runs.{Changes, Runs}
-use Rattle.fs_port.proofs.RunLaws.{both_leave, leaves_more, on_answer}
+use Rattle.fs_client.proofs.Common.{World, is_free, IsValid, nothing, Answer, tree_at, IsTidy, step_in, need_of, OthersStay, AskOutcome, ShellAsk, FsRefusal, DiskView, FilesView, Answers, IsEitherTree, KeepsRoom, LeavesTidyWorld, need_on, step_on, unless_refused, OnlyLooks, Changes, Runs, both_leave, leaves_more, on_answer}
 use Rattle.fs_client.proofs.RunLaws.{on_ok, runs_look, runs_more, then_runs, changes_so, as_before}
 
 module _ (f : FilesView) (first rd : DiskView) (a : ShellAsk) (same : rd.world ≡ first.world) where

@@ -1,8 +1,6 @@
 -- Tests, and lists none of whose blocks stands twice.
 use Rattle.std.proofs.Common.{◌≡◌, ℕ, Bool, true, false, not, ◌||◌, ◌==◌, List, [], ◌∷◌, refl, sym, ◌∙◌, ap, inl, inr}
-use Rattle.std.proofs.lemmas.Bool.{and_parts, and_from, or_cases, or_left, or_right, eq-eqb, eqb-true}
-use Rattle.std.specs.List.{list_all}
-use Rattle.tsd_model.specs.World.{has_number, are_apart}
+use Rattle.fs_client.proofs.Common.{and_parts, and_from, or_cases, or_left, or_right, eq-eqb, eqb-true, list_all, has_number, are_apart}
 
 -- ---- tests
 

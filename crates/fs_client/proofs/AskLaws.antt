@@ -1,21 +1,11 @@
 -- What an ask answers, by the refusal that applies first, in either layout.
 use Rattle.std.proofs.Common.{◌≡◌, ◌≢◌, ℕ, true, false, not, nat_lt, List, [], ◌∷◌, length, sym, ◌∙◌, ap, refl, Option, Some, None, Ok, Err}
-use Rattle.tsd_model.specs.World.{free_count}
+use Rattle.fs_client.proofs.Common.{free_count, Tree, nothing, a_file, a_dir, at, is_there, names_in, Answer, done, tree_at, RoomNeed, when, first_of, not_mounted, lost_on_the_way, missing, is_root, has_entries, refusal, change, ShellAsk, ShellKind, FsRefusal, DiskView, FilesView, Answers, tree_on, tree_after, unless_refused, refused_on, lookup_refusal}
 use Rattle.tsd_model.specs.declared.geometry.Geometry.{Geometry}
 use Rattle.fs_trees.specs.Names.{Path}
-use Rattle.fs_trees.specs.Tree.{Tree, nothing, a_file, a_dir, at, is_there, names_in}
-use Rattle.fs_trees.specs.Answer.{Answer, done}
-use Rattle.fs_trees.specs.Layouts.{tree_at}
-use Rattle.fs_trees.specs.Refusals.{RoomNeed, when, first_of, not_mounted, lost_on_the_way, missing, is_root, has_entries, refusal}
-use Rattle.fs_trees.specs.Step.{change, judged}
-use Rattle.fs_trees.specs.declared.ask.ShellAsk.{ShellAsk}
+use Rattle.fs_trees.specs.Step.{judged}
 use Rattle.fs_trees.specs.declared.ask.ShellAsk.TheVariants as ask
-use Rattle.fs_trees.specs.declared.ask.ShellKind.{ShellKind}
-use Rattle.fs_trees.specs.declared.refusal.FsRefusal.{FsRefusal}
 use Rattle.fs_trees.specs.declared.refusal.FsRefusal.TheVariants as no
-use Rattle.fs_port.specs.View.{DiskView}
-use Rattle.fs_port.specs.Files.{FilesView, Answers, tree_on, tree_after, unless_refused}
-use Rattle.fs_client.specs.Changing.{refused_on, lookup_refusal}
 
 -- ---- any ask
 

@@ -1,13 +1,6 @@
 -- How many of a block's pairs lead to what it names.
 use Rattle.std.proofs.Common.{◌≡◌, ℕ, suc, ◌+◌, ◌≤◌, Bool, true, false, not, cond, ◌&&◌, ◌||◌, ◌==◌, nat_lt, List, [], ◌∷◌, length, refl, sym, ◌∙◌, ap, arith}
-use Rattle.std.proofs.lemmas.Bool.{and_parts, and_from, eq-eqb, eqb-true}
-use Rattle.std.proofs.lemmas.Bool.Decides.{nat_tests}
-use Rattle.std.specs.Prelude.{map, filter}
-use Rattle.std.specs.List.{list_all}
-use Rattle.tsd_model.specs.World.{World, has_number, are_apart}
-use Rattle.tsd_model.specs.Pairs.{holds}
-use Rattle.tsd_model.specs.Valid.{IsValid}
-use Rattle.fs_client.specs.Leftovers.{targets_of, named_targets}
+use Rattle.fs_client.proofs.Common.{and_parts, and_from, eq-eqb, eqb-true, nat_tests, map, filter, list_all, World, has_number, are_apart, holds, IsValid, targets_of, named_targets}
 use Rattle.fs_client.proofs.PageLaws.{climbs, targets_climb, targets_in}
 use Rattle.fs_client.specs.Held.{are_held}
 use Rattle.fs_client.proofs.ApartLaws.{yes_no, is_false, no_or, apart_first, apart_with}

@@ -1,17 +1,7 @@
 -- The pairs out of a block counted page by page: what holds at each page.
 use Rattle.std.proofs.Common.{◌≡◌, ℕ, ◌+◌, ◌*◌, ◌<◌, ◌≤◌, true, nat_lt, nat_le, List, [], ◌∷◌, length, refl, sym, ◌∙◌, ap, subst, arith, Ok}
-use Rattle.std.proofs.lemmas.Bool.{lt-ltb, and_parts, and_from}
-use Rattle.std.proofs.lemmas.Bool.Decides.{nat_tests}
-use Rattle.std.specs.Prelude.{take, drop, filter}
-use Rattle.std.specs.List.{list_all}
-use Rattle.tsd_model.specs.World.{World, has_number}
-use Rattle.tsd_model.specs.Valid.{IsValid}
-use Rattle.tsd_model.specs.Step.{targets_from}
-use Rattle.disk_laws.proofs.DoomLaws.{live_below}
-use Rattle.fs_port.specs.View.{DiskView}
-use Rattle.fs_client.specs.declared.client.Client.{Client}
-use Rattle.fs_client.specs.Leftovers.{targets_of, named_targets, other_targets, next_in}
-use Rattle.fs_client.specs.May.{MayWrite, OnlyLooks}
+use Rattle.fs_client.proofs.Common.{lt-ltb, and_parts, and_from, nat_tests, drop, filter, list_all, World, has_number, IsValid, targets_from, live_below, DiskView, Client, targets_of, named_targets, other_targets, next_in, MayWrite, OnlyLooks}
+use Rattle.std.specs.Prelude.{take}
 use Rattle.fs_client.proofs.PageLaws.{targets_climb, all_targets, from_start, left_behind, counted_page, length_page, both_kinds, from_zero, none_from_end}
 
 -- the targets from a start on

@@ -1,14 +1,7 @@
 -- The world after a deletion: which pairs are held, and which blocks live.
 use Rattle.std.proofs.Common.{◌≡◌, ℕ, true, false, Bool, not, cond, ◌&&◌, ◌==◌, refl, sym, ◌∙◌, ap, None}
-use Rattle.std.proofs.lemmas.Bool.{and_parts, and_from, eq-eqb, eqb-true}
-use Rattle.tsd_model.specs.World.{World, contents, is_live, has_number}
-use Rattle.tsd_model.specs.Pairs.{holds, is_pair}
+use Rattle.fs_client.proofs.Common.{and_parts, and_from, eq-eqb, eqb-true, World, contents, is_live, has_number, holds, is_pair, without_pointer, holds-filter, contents-restricted, live-restricted, holds-restricted, dropped}
 use Rattle.tsd_model.specs.Doomed.{doomed}
-use Rattle.tsd_model.specs.Step.{without_pointer}
-use Rattle.tsd_model.proofs.PairLaws.{holds-filter}
-use Rattle.tsd_model.proofs.SizeLaws.{contents-restricted}
-use Rattle.disk_laws.proofs.DoomLaws.{live-restricted, holds-restricted}
-use Rattle.fs_client.specs.Steps.{dropped}
 
 clash : (t : Bool) → t ≡ true → t ≡ false → ⊥
 clash t p q = cc

@@ -1,16 +1,8 @@
 -- What a file system's calls promise, whether a tree is mounted or not.
 use Rattle.std.proofs.Common.{◌≡◌, ◌≢◌, Bool, true, false, refl, sym, subst, Result, Err}
-use Rattle.tsd_model.specs.World.{World}
-use Rattle.fs_trees.specs.declared.ask.ShellAsk.{ShellAsk}
+use Rattle.fs_client.proofs.Common.{World, ShellAsk, FsRefusal, DiskView, IsDiskSound, IsValidNow, FilesView, IsEitherTree, IsTreeAlone, IsLeft, LeavesTidyWorld, OnlyDeletes, Changes, FindsTree, IsMade, Looks, Runs, on_answer, unasked, Looked, OnlyLooks}
 use Rattle.fs_trees.specs.declared.ask.ShellAsk.TheVariants as ask
-use Rattle.fs_trees.specs.declared.refusal.FsRefusal.{FsRefusal}
 use Rattle.fs_trees.specs.declared.refusal.FsRefusal.TheVariants as no
-use Rattle.fs_port.specs.View.{DiskView, IsDiskSound}
-use Rattle.fs_port.specs.Calls.{IsValidNow}
-use Rattle.fs_port.specs.Files.{FilesView, IsEitherTree, IsTreeAlone, IsLeft, LeavesTidyWorld, OnlyDeletes}
-use Rattle.fs_port.specs.Runs.{Changes, FindsTree, IsMade, Looks, Runs}
-use Rattle.fs_port.proofs.RunLaws.{on_answer, unasked}
-use Rattle.fs_client.specs.May.{Looked, OnlyLooks}
 use Rattle.fs_client.proofs.RunLaws.{as_before, changes_so, leaves_same, on_ok, runs_look, runs_more}
 
 pub looks_at : {X : Type 0} (told : Type 0) (old new : DiskView) (result : Result X FsRefusal) → OnlyLooks told old new result → Looks told old new result

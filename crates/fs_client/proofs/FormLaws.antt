@@ -1,18 +1,9 @@
 -- A reply, by the form that was wanted.
 use Rattle.std.proofs.Common.{◌≡◌, ℕ, true, false, List, refl, sym, subst, inl, inr, ◌⊎◌, Result, Ok, Err}
-use Rattle.std.specs.Prelude.{IfOk}
-use Rattle.tsd_model.specs.declared.requests.Request.{Request}
+use Rattle.fs_client.proofs.Common.{IfOk, Request, Hint, Shown, Reply, Rule, FsRefusal, DiskView, Counts, IsAskCarriedOut, IsEitherSide, LeavesWorldsOnly, Stays, refusal_in, bytes_replied, done_replied, gone_replied, blocks_replied, targets_replied, has_wanted_form, AsksOnce}
 use Rattle.tsd_model.specs.declared.requests.Request.TheVariants as ask
-use Rattle.tsd_model.specs.declared.requests.Hint.{Hint}
-use Rattle.tsd_model.specs.declared.caps.Shown.{Shown}
-use Rattle.tsd_model.specs.declared.replies.Reply.{Reply}
 use Rattle.tsd_model.specs.declared.replies.Reply.TheVariants as reply
-use Rattle.tsd_model.specs.declared.replies.Rule.{Rule}
-use Rattle.fs_trees.specs.declared.refusal.FsRefusal.{FsRefusal}
 use Rattle.fs_trees.specs.declared.refusal.FsRefusal.TheVariants as no
-use Rattle.fs_port.specs.View.{DiskView}
-use Rattle.fs_port.specs.Calls.{Counts, IsAskCarriedOut, IsEitherSide, LeavesWorldsOnly, Stays}
-use Rattle.fs_client.specs.Asks.{refusal_in, bytes_replied, done_replied, gone_replied, blocks_replied, targets_replied, has_wanted_form, AsksOnce}
 use Rattle.fs_client.proofs.RefusedLaws.{is_of_files}
 use Rattle.fs_client.proofs.OnceLaws.{carried_out, replied_otherwise}
 

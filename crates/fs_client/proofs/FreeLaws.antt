@@ -1,23 +1,9 @@
 -- The free blocks are counted, which changes nothing.
 use Rattle.std.proofs.Common.{◌≡◌, ℕ, Bool, true, false, refl, sym, ◌∙◌, ap, subst, Result, Ok, Err}
-use Rattle.std.specs.Prelude.{IfOk, IfErr}
-use Rattle.image_device.specs.Counts.{Rose}
-use Rattle.tsd_model.specs.World.{is_live}
-use Rattle.tsd_model.specs.Sessions.{Fits}
-use Rattle.tsd_model.specs.Valid.{IsValid}
-use Rattle.tsd_model.specs.Run.{answer}
+use Rattle.fs_client.proofs.Common.{IfOk, IfErr, Rose, is_live, Fits, IsValid, answer, answer_valid, answer_fits, HoldsWrite, ways_stay, DiskView, state_of, Counts, IsAskCarriedOut, IsValidNow, LeavesWorldsOnly, Stays, OnAnswer, led_by, FsRefusal, Looked, OnlyLooks}
 use Rattle.tsd_model.specs.declared.requests.Request.TheVariants as ask
 use Rattle.tsd_model.specs.declared.replies.Reply.TheVariants as reply
-use Rattle.disk_laws.proofs.RunLaws.{answer_valid, answer_fits}
-use Rattle.fs_laws.specs.Ways.{HoldsWrite}
-use Rattle.fs_laws.proofs.WayLaws.{ways_stay}
-use Rattle.fs_port.specs.View.{DiskView, state_of}
-use Rattle.fs_port.specs.Calls.{Counts, IsAskCarriedOut, IsValidNow, LeavesWorldsOnly, Stays}
-use Rattle.fs_port.specs.Files.{OnAnswer}
-use Rattle.fs_port.proofs.RunLaws.{led_by}
-use Rattle.fs_trees.specs.declared.refusal.FsRefusal.{FsRefusal}
 use Rattle.fs_trees.specs.declared.refusal.FsRefusal.TheVariants as no
-use Rattle.fs_client.specs.May.{Looked, OnlyLooks}
 use Rattle.fs_client.proofs.MayLaws.{held_live}
 
 pub free_same : (v : DiskView) (want : Bool) → (answer v.kind (state_of v) ask.GetFree want).state.world ≡ v.world

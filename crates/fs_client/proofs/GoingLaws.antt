@@ -1,20 +1,9 @@
 -- Pairs let go of one after the other: what holds so far.
 use Rattle.std.proofs.Common.{◌≡◌, ℕ, zero, suc, ◌+◌, ◌<◌, ◌≤◌, Bool, true, false, not, cond, ◌&&◌, ◌||◌, ◌==◌, nat_lt, nat_le, List, [], ◌∷◌, length, refl, sym, ◌∙◌, ap, arith, inl, inr, ◌⊎◌, Ok}
-use Rattle.std.proofs.lemmas.Bool.{and_parts, and_from, or_cases, or_left, or_right, eqb-true, not-true}
-use Rattle.std.proofs.lemmas.Bool.Decides.{nat_tests}
-use Rattle.std.specs.Prelude.{take, drop, filter, map, slice_index}
-use Rattle.std.specs.List.{list_all}
-use Rattle.tsd_model.specs.World.{World, has_number, are_apart}
-use Rattle.tsd_model.specs.Pairs.{holds}
-use Rattle.tsd_model.specs.Valid.{IsValid}
-use Rattle.tsd_model.specs.Step.{targets_from}
-use Rattle.fs_trees.specs.Layouts.{Named}
-use Rattle.fs_port.specs.View.{DiskView}
-use Rattle.fs_client.specs.declared.client.Client.{Client}
-use Rattle.fs_client.specs.Leftovers.{targets_of, next_in}
+use Rattle.fs_client.proofs.Common.{and_parts, and_from, or_cases, or_left, or_right, eqb-true, not-true, nat_tests, drop, filter, map, slice_index, list_all, World, has_number, are_apart, holds, IsValid, targets_from, Named, DiskView, Client, targets_of, next_in, MayDelete, Trims}
+use Rattle.std.specs.Prelude.{take}
 use Rattle.fs_client.proofs.Counting.{rest_of, page_is, behind_page}
 use Rattle.fs_client.proofs.PageLaws.{targets_climb, climbs}
-use Rattle.fs_client.specs.Trimming.{MayDelete, Trims}
 
 -- ---- in a page
 

@@ -1,25 +1,7 @@
 -- Room is kept to: what is taken, counted.
 use Rattle.std.proofs.Common.{◌≡◌, ℕ, zero, suc, ◌+◌, ◌≤◌, Bool, true, false, not, cond, ◌||◌, ◌==◌, List, [], ◌∷◌, ◌++◌, length, length-append, refl, sym, ◌∙◌, ap, subst, arith, inl, inr, Option, Some, None}
-use Rattle.std.proofs.lemmas.Bool.{and_parts, and_from, or_cases, or_left, or_right, eq-eqb, eqb-true, ne_eqb, false_from_ne_true}
+use Rattle.fs_client.proofs.Common.{and_parts, and_from, or_cases, or_left, or_right, eq-eqb, eqb-true, ne_eqb, false_from_ne_true, sum_by-cons, filter, count_by, is_some, is_none, slice_index_or, list_any, World, is_live, has_number, is_pair, holds, is_below_first, is_rising, without_pair, IsValid, Request, holds-filter, holds_first, first_once, is_pair_ext, is_pair_same, length-filter_le, has_number-filter, need, RoomNeed, DiskView, IsValidNow, KeepsRoom, Client, written, Went, dropped}
 use Rattle.std.proofs.lemmas.List.Folds.{list_any-append}
-use Rattle.std.proofs.lemmas.List.Sums.{sum_by-cons}
-use Rattle.std.specs.Prelude.{filter, count_by, is_some, is_none, slice_index_or}
-use Rattle.std.specs.List.{list_any}
-use Rattle.tsd_model.specs.World.{World, is_live, has_number}
-use Rattle.tsd_model.specs.Pairs.{is_pair, holds, is_below_first, is_rising, without_pair}
-use Rattle.tsd_model.specs.Valid.{IsValid}
-use Rattle.tsd_model.specs.declared.requests.Request.{Request}
-use Rattle.tsd_model.proofs.PairLaws.{holds-filter, holds_first, first_once, is_pair_ext, is_pair_same}
-use Rattle.tsd_model.proofs.SizeLaws.{length-filter_le}
-use Rattle.disk_laws.proofs.GraphLaws.{has_number-filter}
-use Rattle.fs_trees.specs.Needs.{need}
-use Rattle.fs_trees.specs.Refusals.{RoomNeed}
-use Rattle.fs_port.specs.View.{DiskView}
-use Rattle.fs_port.specs.Calls.{IsValidNow}
-use Rattle.fs_port.specs.Files.{KeepsRoom}
-use Rattle.fs_client.specs.declared.client.Client.{Client}
-use Rattle.tsd_model.specs.Step.{written}
-use Rattle.fs_client.specs.Steps.{Went, dropped}
 use Rattle.fs_client.proofs.DropLaws.{fewer_pairs, fewer_live}
 use Rattle.fs_client.proofs.WriteLaws.{written_elsewhere}
 

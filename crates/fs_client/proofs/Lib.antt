@@ -1,3 +1,4 @@
+pub mod Common
 pub mod RefusedLaws
 pub mod OnceLaws
 pub mod FormLaws

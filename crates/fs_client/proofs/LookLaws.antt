@@ -1,40 +1,10 @@
 -- A request that only looks, of a client that may write the block.
 use Rattle.std.proofs.Common.{◌≡◌, ◌≢◌, ℕ, zero, suc, ◌<◌, ◌≤◌, Bool, true, false, ◌&&◌, ◌||◌, ◌==◌, refl, sym, ◌∙◌, ap, subst, arith, inl, inr, Option, Some, None, List, [], Result, Ok, Err}
-use Rattle.std.proofs.lemmas.Bool.{and_from, eq-eqb, or_left}
-use Rattle.std.specs.Prelude.{is_none, is_some, unwrap_or}
-use Rattle.image_device.specs.Counts.{Rose}
-use Rattle.tsd_model.specs.World.{World, contents, is_live}
-use Rattle.tsd_model.specs.Sessions.{Sessions, is_open, level_le, level_from, Fits}
-use Rattle.tsd_model.specs.Attained.{attained}
-use Rattle.tsd_model.specs.Verdict.{verdict}
-use Rattle.tsd_model.specs.Valid.{IsValid}
-use Rattle.tsd_model.specs.Step.{State, judged, targets_from}
-use Rattle.tsd_model.specs.Run.{answer}
-use Rattle.tsd_model.specs.History.{is_of_session}
-use Rattle.tsd_model.specs.declared.requests.Level.{Level}
+use Rattle.fs_client.proofs.Common.{and_from, eq-eqb, or_left, is_none, is_some, unwrap_or, Rose, World, contents, is_live, Sessions, is_open, level_le, level_from, Fits, attained, verdict, IsValid, State, judged, targets_from, answer, is_of_session, Level, PlaceKind, Request, Reply, Rule, answer_valid, answer_fits, attained_where, holds, is_steady, HoldsWrite, writes_through, ways_stay, ways_are_gained, read_is_granted, list_is_granted, DiskView, state_of, IsDiskSound, IsAskCarriedOut, IsEitherSide, IsValidNow, LeavesWorldsOnly, Stays, both_leave, leaves_more, on_answer, if_fault, both_stay, both_count, led_both, led_by, FsRefusal, Client, shown_at, read_by, list_by, AsksOnce, MayWrite, Looked, OnlyLooks}
 use Rattle.tsd_model.specs.declared.requests.Level.TheVariants as level
-use Rattle.tsd_model.specs.declared.requests.PlaceKind.{PlaceKind}
-use Rattle.tsd_model.specs.declared.requests.Request.{Request}
-use Rattle.tsd_model.specs.declared.replies.Reply.{Reply}
 use Rattle.tsd_model.specs.declared.replies.Reply.TheVariants as reply
-use Rattle.tsd_model.specs.declared.replies.Rule.{Rule}
-use Rattle.disk_laws.proofs.RunLaws.{answer_valid, answer_fits}
-use Rattle.disk_laws.proofs.AttainedLaws.{attained_where}
 use Rattle.disk_laws.specs.Grants.{ShownAttains}
-use Rattle.tsd_model.specs.Pairs.{holds}
-use Rattle.tsd_model.specs.Needs.{is_steady}
-use Rattle.fs_laws.specs.Ways.{HoldsWrite, writes_through}
-use Rattle.fs_laws.proofs.WayLaws.{ways_stay, ways_are_gained}
-use Rattle.fs_laws.proofs.GrantedLaws.{read_is_granted, list_is_granted}
-use Rattle.fs_port.specs.View.{DiskView, state_of, IsDiskSound}
-use Rattle.fs_port.specs.Calls.{IsAskCarriedOut, IsEitherSide, IsValidNow, LeavesWorldsOnly, Stays}
-use Rattle.fs_port.proofs.RunLaws.{both_leave, leaves_more, on_answer, if_fault, both_stay, both_count, led_both, led_by}
-use Rattle.fs_trees.specs.declared.refusal.FsRefusal.{FsRefusal}
 use Rattle.fs_trees.specs.declared.refusal.FsRefusal.TheVariants as no
-use Rattle.fs_client.specs.declared.client.Client.{Client}
-use Rattle.fs_client.specs.Client.{shown_at, read_by, list_by}
-use Rattle.fs_client.specs.Asks.{AsksOnce}
-use Rattle.fs_client.specs.May.{MayWrite, Looked, OnlyLooks}
 use Rattle.fs_client.proofs.RefusedLaws.{is_steady_too, same_answer}
 
 -- ---- what is no other refusal is a fault

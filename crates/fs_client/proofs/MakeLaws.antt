@@ -1,31 +1,7 @@
 -- A root that is written so that its tree is empty.
 use Rattle.std.proofs.Common.{◌≡◌, ℕ, ◌<◌, true, false, ◌&&◌, ◌==◌, List, [], ◌∷◌, refl, sym, ◌∙◌, ap, subst, inl, inr, ◌⊎◌}
-use Rattle.std.proofs.lemmas.Bool.{and_from, or_cases, or_left, eq-eqb, eqb-true}
-use Rattle.tsd_model.specs.World.{World, is_live, has_number}
-use Rattle.tsd_model.specs.Pairs.{holds}
-use Rattle.fs_trees.specs.Tree.{is_there}
-use Rattle.fs_trees.specs.Needs.{need}
-use Rattle.fs_trees.specs.Step.{empty_tree}
-use Rattle.fs_trees.specs.Layouts.{tree_at, named_at, IsTidy}
-use Rattle.fs_trees.specs.Outside.{is_under, OthersStay}
+use Rattle.fs_client.proofs.Common.{and_from, or_cases, or_left, eq-eqb, eqb-true, World, is_live, has_number, holds, is_there, need, empty_tree, tree_at, named_at, IsTidy, is_under, OthersStay, ShellKind, SameTree, IsUnder, Keeps, outside_twice, root_under, named_is_under, read_from_named, DiskView, IsValidNow, IsEitherTree, Client, write_by, MayWrite, written, Leads, Went, IsMade, files_by, IsEmptied, root_alone, MayTrim, Trimmed, IsTrim, OnlyNamed}
 use Rattle.fs_trees.specs.declared.ask.ShellAsk.TheVariants as ask
-use Rattle.fs_trees.specs.declared.ask.ShellKind.{ShellKind}
-use Rattle.fs_laws.specs.Reading.{SameTree}
-use Rattle.fs_laws.specs.Stays.{IsUnder, Keeps}
-use Rattle.fs_laws.proofs.OutsideLaws.{outside_twice}
-use Rattle.fs_laws.proofs.UnderLaws.{root_under}
-use Rattle.fs_laws.proofs.TreeLaws.{named_is_under, read_from_named}
-use Rattle.fs_port.specs.View.{DiskView}
-use Rattle.fs_port.specs.Calls.{IsValidNow}
-use Rattle.fs_port.specs.Files.{IsEitherTree}
-use Rattle.fs_client.specs.declared.client.Client.{Client}
-use Rattle.fs_client.specs.Client.{write_by}
-use Rattle.fs_client.specs.May.{MayWrite}
-use Rattle.tsd_model.specs.Step.{written}
-use Rattle.fs_client.specs.Steps.{Leads, Went}
-use Rattle.fs_port.specs.Runs.{IsMade}
-use Rattle.fs_client.specs.Changing.{files_by, IsEmptied}
-use Rattle.fs_client.specs.Trimming.{root_alone, MayTrim, Trimmed, IsTrim, OnlyNamed}
 use Rattle.fs_client.proofs.RunLaws.{as_before}
 use Rattle.fs_client.proofs.TidyLaws.{is_tidy}
 use Rattle.fs_client.proofs.TrimLaws.{freed}

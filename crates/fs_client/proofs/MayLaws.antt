@@ -1,24 +1,7 @@
 -- What may be written after a request.
 use Rattle.std.proofs.Common.{◌≡◌, ◌<◌, ◌≤◌, ℕ, true, refl, sym, ap, subst, ◌∙◌, inl, inr}
-use Rattle.std.specs.Prelude.{slice_get}
-use Rattle.tsd_model.specs.World.{World, is_live}
-use Rattle.tsd_model.specs.Pairs.{holds}
-use Rattle.tsd_model.specs.Records.{kept_of}
-use Rattle.tsd_model.specs.Sessions.{level_le, level_from}
-use Rattle.tsd_model.specs.Attained.{record_level, shown_level}
-use Rattle.tsd_model.specs.declared.caps.Shown.{Shown}
-use Rattle.tsd_model.specs.declared.caps.Shown.TheVariants.{Nothing, Key}
-use Rattle.tsd_model.specs.declared.requests.Level.{Level}
+use Rattle.fs_client.proofs.Common.{slice_get, World, is_live, holds, kept_of, level_le, level_from, record_level, shown_level, Shown, Nothing, Key, Level, Request, attained_where, HoldsWrite, DiskView, state_of, IsValidNow, Stays, Client, shown_at, MayWrite, Went}
 use Rattle.tsd_model.specs.declared.requests.Level.TheVariants as level
-use Rattle.tsd_model.specs.declared.requests.Request.{Request}
-use Rattle.disk_laws.proofs.AttainedLaws.{attained_where}
-use Rattle.fs_laws.specs.Ways.{HoldsWrite}
-use Rattle.fs_port.specs.View.{DiskView, state_of}
-use Rattle.fs_port.specs.Calls.{IsValidNow, Stays}
-use Rattle.fs_client.specs.declared.client.Client.{Client}
-use Rattle.fs_client.specs.Client.{shown_at}
-use Rattle.fs_client.specs.May.{MayWrite}
-use Rattle.fs_client.specs.Steps.{Went}
 
 -- a block that is live still, and the sources of its pairs
 pub may_still : (c : Client) (old new : DiskView) (b : ℕ) → new.world.geometry ≡ old.world.geometry → new.world.version ≡ old.world.version → new.world.records ≡ old.world.records

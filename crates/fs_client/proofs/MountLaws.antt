@@ -1,24 +1,8 @@
 -- What mounting leaves, in either layout.
 use Rattle.std.proofs.Common.{◌≡◌, ◌≢◌, ℕ, ◌<◌, Bool, true, false, refl, sym, ◌∙◌, ap, subst, Result, Ok, Err}
-use Rattle.std.specs.Prelude.{IfErr, OnOk}
-use Rattle.tsd_model.specs.World.{has_number}
-use Rattle.tsd_model.specs.Pairs.{holds}
-use Rattle.fs_trees.specs.Tree.{Tree, nothing, a_file, a_dir, is_there}
-use Rattle.fs_trees.specs.Layouts.{Named, tree_at, named_at, IsTidy}
+use Rattle.fs_client.proofs.Common.{IfErr, OnOk, has_number, holds, Tree, nothing, a_file, a_dir, is_there, Named, tree_at, named_at, IsTidy, ShellKind, FsRefusal, IsUnder, named_is_under, DiskView, IsValidNow, FilesView, IsTreeAlone, LeavesTidyWorld, OnAnswer, OnlyDeletes, Client, OnlyLooks, files_by, Runs, Trimmed, IsTrim, Trims, IsClean}
 use Rattle.fs_trees.specs.declared.ask.ShellAsk.TheVariants as ask
-use Rattle.fs_trees.specs.declared.ask.ShellKind.{ShellKind}
-use Rattle.fs_trees.specs.declared.refusal.FsRefusal.{FsRefusal}
 use Rattle.fs_trees.specs.declared.refusal.FsRefusal.TheVariants as no
-use Rattle.fs_laws.specs.Stays.{IsUnder}
-use Rattle.fs_laws.proofs.TreeLaws.{named_is_under}
-use Rattle.fs_port.specs.View.{DiskView}
-use Rattle.fs_port.specs.Calls.{IsValidNow}
-use Rattle.fs_port.specs.Files.{FilesView, IsTreeAlone, LeavesTidyWorld, OnAnswer, OnlyDeletes}
-use Rattle.fs_client.specs.declared.client.Client.{Client}
-use Rattle.fs_client.specs.May.{OnlyLooks}
-use Rattle.fs_client.specs.Changing.{files_by}
-use Rattle.fs_port.specs.Runs.{Runs}
-use Rattle.fs_client.specs.Trimming.{Trimmed, IsTrim, Trims, IsClean}
 use Rattle.fs_client.proofs.RunLaws.{on_ok, on_both, answer_ok, ok_of, alone_same, runs_look, runs_more, looks_change}
 use Rattle.fs_client.proofs.TidyLaws.{is_tidy, same_tree, tree_alone, only_deletes, trimmed_left}
 use Rattle.fs_client.proofs.TrimLaws.{trims_by_looks, then_trims, under_still}

@@ -1,16 +1,7 @@
 -- What is needed in all, told before a first block was taken and after it.
 use Rattle.std.proofs.Common.{◌≡◌, ℕ, ◌+◌, ◌-◌, ◌<◌, ◌≤◌, Bool, true, false, cond, nat_lt, List, [], ◌∷◌, length, refl, sym, ◌∙◌, ap, arith, Option, Some, None}
-use Rattle.std.proofs.lemmas.Bool.{and_parts, ltb-true}
-use Rattle.std.proofs.lemmas.Bool.Decides.{nat_tests}
-use Rattle.std.proofs.lemmas.List.Sums.{sum_by-set}
-use Rattle.std.specs.Prelude.{is_none}
-use Rattle.tsd_model.specs.World.{World, contents, is_free, free_count}
-use Rattle.tsd_model.specs.Step.{with_contents}
-use Rattle.fs_trees.specs.Refusals.{when, first_of}
-use Rattle.fs_trees.specs.declared.refusal.FsRefusal.{FsRefusal}
+use Rattle.fs_client.proofs.Common.{and_parts, ltb-true, nat_tests, sum_by-set, is_none, World, contents, is_free, free_count, with_contents, when, first_of, FsRefusal, refusal_before, no_room_in}
 use Rattle.fs_trees.specs.declared.refusal.FsRefusal.TheVariants as no
-use Rattle.fs_client.specs.Leftovers.{refusal_before}
-use Rattle.fs_client.specs.Steps.{no_room_in}
 use Rattle.fs_client.proofs.RoomLaws.{room_there, there_is_room}
 
 -- one free block fewer

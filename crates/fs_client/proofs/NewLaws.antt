@@ -1,22 +1,10 @@
 -- New blocks of a world: which are chosen, and the world with them.
 use Rattle.std.proofs.Common.{◌≡◌, ℕ, zero, suc, ◌+◌, ◌<◌, ◌≤◌, Bool, true, false, cond, ◌&&◌, ◌||◌, ◌==◌, nat_lt, nat_le, List, [], ◌∷◌, length, refl, sym, ◌∙◌, ap, subst, arith, inl, inr, Some, None}
-use Rattle.std.proofs.lemmas.Bool.{and_parts, or_cases, or_left, or_right, eq-eqb, eqb-true}
-use Rattle.std.proofs.lemmas.List.{length-take, length-set, ext_get_or}
+use Rattle.fs_client.proofs.Common.{and_parts, or_cases, or_left, or_right, eq-eqb, eqb-true, length-take, length-set, ext_get_or, sum_by-cons, is_some, is_none, count_by, filter, map, range_with_len, World, contents, is_live, is_free, free_count, all_blocks, has_number, are_apart, holds, is_pair, hint_block, in_rank_order, sorted_by_rank, free_blocks, chosen, zeros, with_contents, with_pointer, with_new_blocks, Hint, PlaceKind, holds-with_pair, contents-other, contents-same, AllOf, chosen_are_free, has_number-range}
 use Rattle.std.proofs.lemmas.List.FromFn.{length-map-range_with_len, get_or-map-range_with_len}
-use Rattle.std.proofs.lemmas.List.Sums.{sum_by-cons}
-use Rattle.std.specs.Prelude.{is_some, is_none, count_by, take, filter, map}
-use Rattle.std.specs.List.{range_with_len}
-use Rattle.tsd_model.specs.World.{World, contents, is_live, is_free, free_count, all_blocks, has_number, are_apart}
-use Rattle.tsd_model.specs.Pairs.{holds, is_pair}
+use Rattle.std.specs.Prelude.{take}
 use Rattle.tsd_model.specs.Rank.{rank_of}
-use Rattle.tsd_model.specs.Placing.{hint_block, in_rank_order, sorted_by_rank, free_blocks, chosen}
-use Rattle.tsd_model.specs.Step.{zeros, with_contents, with_pointer, with_new_blocks}
-use Rattle.tsd_model.specs.declared.requests.Hint.{Hint}
-use Rattle.tsd_model.specs.declared.requests.PlaceKind.{PlaceKind}
-use Rattle.tsd_model.proofs.PairLaws.{holds-with_pair}
-use Rattle.disk_laws.proofs.ChangeLaws.{contents-other, contents-same, AllOf, chosen_are_free}
 use Rattle.disk_laws.proofs.StayLaws.{live-new_blocks}
-use Rattle.disk_laws.proofs.GraphLaws.{has_number-range}
 use Rattle.fs_laws.proofs.CountLaws.{times, times_apart}
 
 clash : (t : Bool) → t ≡ true → t ≡ false → ⊥

@@ -1,15 +1,9 @@
 -- One request, by what came of it.
 use Rattle.std.proofs.Common.{◌≡◌, true, false, refl, Ok, Err}
-use Rattle.image_device.specs.Counts.{Rose}
-use Rattle.tsd_model.specs.declared.requests.Request.{Request}
-use Rattle.tsd_model.specs.declared.replies.Reply.{Reply}
+use Rattle.fs_client.proofs.Common.{Rose, Request, Reply, Rule, DiskView, Counts, IsAskCarriedOut, IsEitherSide, LeavesWorldsOnly, Stays, refusal_of, refusal_in, has_wanted_form, AsksOnce}
 use Rattle.tsd_model.specs.declared.replies.Reply.TheVariants as reply
-use Rattle.tsd_model.specs.declared.replies.Rule.{Rule}
 use Rattle.tsd_model.specs.declared.replies.Rule.TheVariants as rule
 use Rattle.fs_trees.specs.declared.refusal.FsRefusal.TheVariants as no
-use Rattle.fs_port.specs.View.{DiskView}
-use Rattle.fs_port.specs.Calls.{Counts, IsAskCarriedOut, IsEitherSide, LeavesWorldsOnly, Stays}
-use Rattle.fs_client.specs.Asks.{refusal_of, refusal_in, has_wanted_form, AsksOnce}
 use Rattle.fs_client.proofs.RefusedLaws.{is_of_files, other_form}
 
 -- no rule is a fault

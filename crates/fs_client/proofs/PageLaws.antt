@@ -1,14 +1,9 @@
 -- The targets of a block's pairs, page by page.
 use Rattle.std.proofs.Common.{◌≡◌, ℕ, zero, suc, ◌+◌, ◌<◌, ◌≤◌, Bool, true, false, not, cond, ◌&&◌, ◌||◌, ◌==◌, nat_lt, nat_le, List, [], ◌∷◌, length, refl, sym, ◌∙◌, ap, arith}
-use Rattle.std.proofs.lemmas.Bool.{and_parts, and_from, eqb-true, eq-eqb, ltb-true, or_left, or_right}
-use Rattle.std.proofs.lemmas.Bool.Decides.{nat_tests}
-use Rattle.std.proofs.lemmas.List.{length-take, take-append-drop, length-append}
+use Rattle.fs_client.proofs.Common.{and_parts, and_from, eqb-true, eq-eqb, ltb-true, or_left, or_right, nat_tests, length-take, take-append-drop, drop, map, filter, slice_index, list_all, is_pair, holds, is_below_first, is_rising, above_first, next_in}
+use Rattle.std.proofs.lemmas.List.{length-append}
 use Rattle.std.proofs.lemmas.List.Elements.{filter-append}
-use Rattle.std.specs.Prelude.{take, drop, map, filter, slice_index}
-use Rattle.std.specs.List.{list_all}
-use Rattle.tsd_model.specs.Pairs.{is_pair, holds, is_below_first, is_rising}
-use Rattle.tsd_model.proofs.PairLaws.{above_first}
-use Rattle.fs_client.specs.Leftovers.{next_in}
+use Rattle.std.specs.Prelude.{take}
 
 -- ---- lists of numbers that climb
 

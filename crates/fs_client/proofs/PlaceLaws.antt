@@ -1,8 +1,6 @@
 -- A list from an offset on.
 use Rattle.std.proofs.Common.{◌≡◌, ℕ, zero, suc, ◌+◌, ◌<◌, ◌≤◌, true, ◌==◌, List, [], ◌∷◌, length, refl, ◌∙◌, ap, arith}
-use Rattle.std.proofs.lemmas.Bool.{or_left, or_right, eq-eqb}
-use Rattle.std.specs.Prelude.{drop, slice_index}
-use Rattle.tsd_model.specs.World.{has_number}
+use Rattle.fs_client.proofs.Common.{or_left, or_right, eq-eqb, drop, slice_index, has_number}
 
 pub drop_at : (xs : List ℕ) (i : ℕ) → i < length xs → drop i xs ≡ slice_index xs i ∷ drop (i + 1) xs
 drop_at [] i h = absurd (omega arith)

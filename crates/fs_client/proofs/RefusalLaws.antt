@@ -1,37 +1,11 @@
 -- Requests of a client that may write there are refused for want of room alone.
 use Rattle.std.proofs.Common.{◌≡◌, ℕ, ◌+◌, ◌≤◌, Bool, true, false, not, cond, ◌&&◌, nat_lt, nat_le, List, [], ◌∷◌, ◌++◌, length, refl, sym, ◌∙◌, ap, arith, Option, Some, None}
-use Rattle.std.proofs.lemmas.Bool.{and_parts, not-true}
-use Rattle.std.proofs.lemmas.Bool.Decides.{nat_tests}
-use Rattle.std.specs.List.{list_all}
-use Rattle.tsd_model.specs.Geometry.{block_len}
-use Rattle.tsd_model.specs.World.{World, is_live, is_free, free_count}
-use Rattle.tsd_model.specs.Pairs.{holds}
-use Rattle.tsd_model.specs.Sessions.{Sessions, is_open, level_le}
-use Rattle.tsd_model.specs.Attained.{attained}
-use Rattle.tsd_model.specs.Verdict.{Check, first_rule, rules_before_room, room_rules, verdict}
-use Rattle.tsd_model.specs.Valid.{IsValid}
-use Rattle.tsd_model.specs.declared.caps.Shown.{Shown}
-use Rattle.tsd_model.specs.declared.caps.Shown.TheVariants.{Nothing}
-use Rattle.tsd_model.specs.declared.requests.Hint.{Hint}
+use Rattle.fs_client.proofs.Common.{and_parts, not-true, nat_tests, list_all, block_len, World, is_live, is_free, free_count, holds, Sessions, is_open, level_le, attained, Check, first_rule, rules_before_room, room_rules, verdict, IsValid, Shown, Nothing, Hint, Rule, live_below, not_primary, write_is_granted, delete_is_granted, At, first_of, when, FsRefusal, DiskView, state_of, IsValidNow, attains_write, Client, shown_at, write_by, unlink_by, link_by, alloc_by, refusal_of, IsRefused, MayWrite, no_room_in}
 use Rattle.tsd_model.specs.declared.requests.Level.TheVariants as level
 use Rattle.tsd_model.specs.declared.requests.Request.TheVariants as ask
-use Rattle.tsd_model.specs.declared.replies.Rule.{Rule}
 use Rattle.tsd_model.specs.declared.replies.Rule.TheVariants as rule
-use Rattle.disk_laws.proofs.DoomLaws.{live_below, not_primary}
-use Rattle.fs_laws.proofs.GrantedLaws.{write_is_granted, delete_is_granted}
-use Rattle.tsd_model.specs.declared.requests.Hint.TheVariants.{At}
-use Rattle.fs_trees.specs.Refusals.{first_of, when}
-use Rattle.fs_trees.specs.declared.refusal.FsRefusal.{FsRefusal}
 use Rattle.fs_trees.specs.declared.refusal.FsRefusal.TheVariants as no
-use Rattle.fs_port.specs.View.{DiskView, state_of}
-use Rattle.fs_port.specs.Calls.{IsValidNow}
-use Rattle.fs_laws.specs.Ways.{attains_write}
-use Rattle.fs_client.specs.declared.client.Client.{Client}
-use Rattle.fs_client.specs.Client.{shown_at, write_by, unlink_by, link_by, alloc_by}
-use Rattle.fs_client.specs.Asks.{refusal_of, IsRefused}
-use Rattle.fs_client.specs.May.{MayWrite}
 use Rattle.fs_client.proofs.LookLaws.{is_numbered}
-use Rattle.fs_client.specs.Steps.{no_room_in}
 
 -- rules that don't apply are passed by
 passed_by : (cs ds : List Check) → list_all (λ c. not c.applies) cs ≡ true → first_rule (cs ++ ds) ≡ first_rule ds

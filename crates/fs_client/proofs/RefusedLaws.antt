@@ -1,18 +1,8 @@
 -- A reply of another form than was wanted is a refusal by a rule of the disk, and nothing has changed.
 use Rattle.std.proofs.Common.{◌≡◌, Bool, true, false, refl, sym, ◌∙◌, ap, Some, None}
-use Rattle.tsd_model.specs.Verdict.{verdict}
-use Rattle.tsd_model.specs.Step.{State, judged}
-use Rattle.tsd_model.specs.Run.{answer}
-use Rattle.tsd_model.specs.declared.requests.PlaceKind.{PlaceKind}
-use Rattle.tsd_model.specs.declared.requests.Request.{Request}
+use Rattle.fs_client.proofs.Common.{verdict, State, judged, answer, PlaceKind, Request, Reply, refused_answer, DiskView, state_of, steady_there, is_steady, IsAskCarriedOut, refusal_in, has_wanted_form, IsRefused}
 use Rattle.tsd_model.specs.declared.requests.Request.TheVariants as ask
-use Rattle.tsd_model.specs.declared.replies.Reply.{Reply}
 use Rattle.tsd_model.specs.declared.replies.Reply.TheVariants as reply
-use Rattle.disk_laws.proofs.AnswerLaws.{refused_answer}
-use Rattle.fs_port.specs.View.{DiskView, state_of}
-use Rattle.tsd_model.specs.Needs.{is_steady as steady_there, is_steady}
-use Rattle.fs_port.specs.Calls.{IsAskCarriedOut}
-use Rattle.fs_client.specs.Asks.{refusal_in, has_wanted_form, IsRefused}
 
 -- it is one of the six requests that a file system asks
 abbrev pub is_of_files : Request → Bool

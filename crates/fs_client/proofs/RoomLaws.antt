@@ -1,11 +1,7 @@
 -- Where there is room for blocks and pairs, and what is refused where there isn't.
 use Rattle.std.proofs.Common.{◌≡◌, ℕ, ◌+◌, ◌≤◌, Bool, true, false, nat_lt, [], ◌∷◌, length, refl, ◌∙◌, ap, arith, Option, None}
-use Rattle.std.proofs.lemmas.Bool.Decides.{nat_tests}
-use Rattle.tsd_model.specs.World.{World, free_count}
-use Rattle.fs_trees.specs.Refusals.{when, first_of}
-use Rattle.fs_trees.specs.declared.refusal.FsRefusal.{FsRefusal}
+use Rattle.fs_client.proofs.Common.{nat_tests, World, free_count, when, first_of, FsRefusal, no_room_in}
 use Rattle.fs_trees.specs.declared.refusal.FsRefusal.TheVariants as no
-use Rattle.fs_client.specs.Steps.{no_room_in}
 
 pub room_there : (w : World) (b p : ℕ) → b ≤ free_count w → length w.pairs + p ≤ w.geometry.slots → ◌≡◌ {A = Option FsRefusal} (no_room_in w b p) None
 room_there w b p h k =

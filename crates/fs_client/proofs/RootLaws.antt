@@ -1,20 +1,7 @@
 -- The root may be written by what is shown there.
 use Rattle.std.proofs.Common.{◌≡◌, ◌<◌, true, cond, refl, sym, ◌∙◌, ap, subst, inl}
-use Rattle.std.proofs.lemmas.Bool.{eq-eqb}
-use Rattle.std.specs.Prelude.{slice_get}
-use Rattle.tsd_model.specs.Records.{kept_of}
-use Rattle.tsd_model.specs.Sessions.{level_le}
-use Rattle.tsd_model.specs.Attained.{record_level, shown_level}
-use Rattle.tsd_model.specs.declared.caps.Shown.TheVariants.{Nothing, Key}
+use Rattle.fs_client.proofs.Common.{eq-eqb, slice_get, kept_of, level_le, record_level, shown_level, Nothing, Key, attained_where, ShellKind, DiskView, IsDiskSound, IsValidNow, FilesView, IsClientReady, Client, shown_at, MayWrite}
 use Rattle.tsd_model.specs.declared.requests.Level.TheVariants as level
-use Rattle.disk_laws.proofs.AttainedLaws.{attained_where}
-use Rattle.fs_trees.specs.declared.ask.ShellKind.{ShellKind}
-use Rattle.fs_port.specs.View.{DiskView, IsDiskSound}
-use Rattle.fs_port.specs.Calls.{IsValidNow}
-use Rattle.fs_port.specs.Files.{FilesView, IsClientReady}
-use Rattle.fs_client.specs.declared.client.Client.{Client}
-use Rattle.fs_client.specs.Client.{shown_at}
-use Rattle.fs_client.specs.May.{MayWrite}
 
 -- the file system of a client, in either layout
 abbrev pub mounted_as : ShellKind → Client → FilesView

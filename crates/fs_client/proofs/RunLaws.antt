@@ -1,27 +1,7 @@
 -- Calls one after the other, whatever they answer.
 use Rattle.std.proofs.Common.{◌≡◌, ◌≢◌, ℕ, Bool, true, false, ◌&&◌, nat_lt, refl, sym, ◌∙◌, ap, subst, arith, inl, inr, ◌⊎◌, ◌<◌, length, List, [], Option, Some, None, Result, Ok, Err}
-use Rattle.std.specs.Prelude.{IfErr, OnOk, is_some, is_none, slice_get}
-use Rattle.image_device.specs.Counts.{Rose}
-use Rattle.tsd_model.specs.World.{World, contents, is_live, is_free}
-use Rattle.tsd_model.specs.Records.{kept_of}
-use Rattle.tsd_model.specs.Attained.{record_level}
-use Rattle.tsd_model.specs.Sessions.{Fits}
-use Rattle.tsd_model.specs.Valid.{IsValid}
-use Rattle.tsd_model.specs.declared.requests.Request.{Request}
-use Rattle.fs_trees.specs.Layouts.{IsTidy}
-use Rattle.fs_trees.specs.Outside.{OthersStay}
-use Rattle.fs_trees.specs.Refusals.{RoomNeed}
-use Rattle.fs_trees.specs.declared.ask.ShellAsk.{ShellAsk}
-use Rattle.fs_trees.specs.declared.refusal.FsRefusal.{FsRefusal}
+use Rattle.fs_client.proofs.Common.{IfErr, OnOk, is_some, is_none, slice_get, Rose, World, contents, is_live, is_free, kept_of, record_level, Fits, IsValid, Request, IsTidy, OthersStay, RoomNeed, ShellAsk, FsRefusal, DiskView, state_of, Counts, IsLedTo, IsValidNow, LeavesWorldsOnly, Stays, FilesView, IsClientReady, IsEitherTree, IsTreeAlone, IsLeft, KeepsRoom, LeavesTidyWorld, OnAnswer, need_on, both_leave, leaves_more, on_answer, if_fault, both_stay, both_count, led_both, Client, Looked, OnlyLooks, Leads, Went, Steps, Changes, Runs}
 use Rattle.fs_trees.specs.declared.refusal.FsRefusal.TheVariants as no
-use Rattle.fs_port.specs.View.{DiskView, state_of}
-use Rattle.fs_port.specs.Calls.{Counts, IsLedTo, IsValidNow, LeavesWorldsOnly, Stays}
-use Rattle.fs_port.specs.Files.{FilesView, IsClientReady, IsEitherTree, IsTreeAlone, IsLeft, KeepsRoom, LeavesTidyWorld, OnAnswer, need_on}
-use Rattle.fs_port.proofs.RunLaws.{both_leave, leaves_more, on_answer, if_fault, both_stay, both_count, led_both}
-use Rattle.fs_client.specs.declared.client.Client.{Client}
-use Rattle.fs_client.specs.May.{Looked, OnlyLooks}
-use Rattle.fs_client.specs.Steps.{Leads, Went, Steps}
-use Rattle.fs_port.specs.Runs.{Changes, Runs}
 
 -- ---- of any answer
 

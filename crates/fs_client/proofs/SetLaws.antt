@@ -1,9 +1,6 @@
 -- What a set of blocks has, told by a list.
 use Rattle.std.proofs.Common.{◌≡◌, ℕ, ◌<◌, Bool, true, false, not, ◌||◌, ◌==◌, List, [], ◌∷◌, sym, ◌∙◌, ap, arith}
-use Rattle.tsd_model.specs.World.{is_live, has_number}
-use Rattle.disk_laws.proofs.DoomLaws.{live_below}
-use Rattle.fs_port.specs.View.{DiskView}
-use Rattle.fs_port.specs.Calls.{IsValidNow}
+use Rattle.fs_client.proofs.Common.{is_live, has_number, live_below, DiskView, IsValidNow}
 use Rattle.fs_client.specs.Marked.{has_block, HasNone, Gains, Agrees}
 use Rattle.fs_client.specs.declared.block_set.BlockSet.{BlockSet}
 

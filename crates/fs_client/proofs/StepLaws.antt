@@ -1,39 +1,9 @@
 -- One request that changes the world: what it leaves.
 use Rattle.std.proofs.Common.{◌≡◌, ℕ, true, false, List, [], ◌∷◌, refl, sym, ◌∙◌, ap, subst, inl, inr, ◌⊎◌, Option, Some, None, Result, Ok, Err}
-use Rattle.std.specs.Prelude.{is_none}
-use Rattle.tsd_model.specs.World.{World, is_live}
-use Rattle.tsd_model.specs.Sessions.{Fits}
-use Rattle.tsd_model.specs.Verdict.{verdict}
-use Rattle.tsd_model.specs.Valid.{IsValid}
-use Rattle.tsd_model.specs.Step.{judged}
-use Rattle.tsd_model.specs.Run.{answer}
-use Rattle.tsd_model.specs.History.{is_of_session}
-use Rattle.tsd_model.specs.declared.requests.Request.{Request}
+use Rattle.fs_client.proofs.Common.{is_none, World, is_live, Fits, verdict, IsValid, judged, answer, is_of_session, Request, Reply, Rule, refused_answer, answer_valid, answer_fits, run_geometry, OthersStay, is_local, Keeps, outside_stays, named_stays, is_steady, HoldsWrite, writes_through, ways_stay, ways_are_gained, DiskView, state_of, IsAskCarriedOut, IsEitherSide, IsValidNow, LeavesWorldsOnly, leaves_more, led_by, FsRefusal, Client, chosen, At, alloc_by, AsksOnce, has_wanted_form, Leads, Went, Steps}
 use Rattle.tsd_model.specs.declared.requests.Request.TheVariants as ask
-use Rattle.tsd_model.specs.declared.replies.Reply.{Reply}
 use Rattle.tsd_model.specs.declared.replies.Reply.TheVariants as reply
-use Rattle.tsd_model.specs.declared.replies.Rule.{Rule}
-use Rattle.disk_laws.proofs.AnswerLaws.{refused_answer}
-use Rattle.disk_laws.proofs.RunLaws.{answer_valid, answer_fits, run_geometry}
-use Rattle.fs_trees.specs.Outside.{OthersStay}
-use Rattle.fs_laws.specs.Outside.{is_local}
-use Rattle.fs_laws.specs.Stays.{Keeps}
-use Rattle.fs_laws.proofs.OutsideLaws.{outside_stays}
-use Rattle.fs_laws.proofs.NamedLaws.{named_stays}
-use Rattle.tsd_model.specs.Needs.{is_steady}
-use Rattle.fs_laws.specs.Ways.{HoldsWrite, writes_through}
-use Rattle.fs_laws.proofs.WayLaws.{ways_stay, ways_are_gained}
-use Rattle.fs_port.specs.View.{DiskView, state_of}
-use Rattle.fs_port.specs.Calls.{IsAskCarriedOut, IsEitherSide, IsValidNow, LeavesWorldsOnly}
-use Rattle.fs_port.proofs.RunLaws.{leaves_more, led_by}
-use Rattle.fs_trees.specs.declared.refusal.FsRefusal.{FsRefusal}
-use Rattle.fs_client.specs.declared.client.Client.{Client}
-use Rattle.tsd_model.specs.Placing.{chosen}
-use Rattle.tsd_model.specs.declared.requests.Hint.TheVariants.{At}
-use Rattle.fs_client.specs.Client.{alloc_by}
-use Rattle.fs_client.specs.Asks.{AsksOnce, has_wanted_form}
 use Rattle.fs_client.proofs.RefusedLaws.{is_of_files, is_steady_too, same_answer}
-use Rattle.fs_client.specs.Steps.{Leads, Went, Steps}
 
 unformed : (q : Request) (k : Rule) → has_wanted_form q (reply.Refused k) ≡ true → ⊥
 unformed (ask.Read s b shown) k h = cc

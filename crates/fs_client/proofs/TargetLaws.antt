@@ -1,12 +1,7 @@
 -- What a named pair leads to is named, in a tree of chains.
 use Rattle.std.proofs.Common.{◌≡◌, ℕ, true, ◌==◌, List, [], ◌∷◌, sym, ◌∙◌, ap, inl, inr}
-use Rattle.std.proofs.lemmas.Bool.{and_parts, or_cases, or_left, or_right}
-use Rattle.std.specs.Prelude.{flat_map}
-use Rattle.tsd_model.specs.World.{World, has_number}
-use Rattle.tsd_model.specs.Pairs.{holds, is_pair}
-use Rattle.fs_trees.specs.Tree.{is_there}
+use Rattle.fs_client.proofs.Common.{and_parts, or_cases, or_left, or_right, flat_map, World, has_number, holds, is_pair, is_there, by_chains, named_at}
 use Rattle.fs_trees.specs.ChainTree.{ChainFile, Chains, blocks_of, links, chain_blocks, chain_pairs, chain_tree}
-use Rattle.fs_trees.specs.Layouts.{by_chains, named_at}
 use Rattle.fs_trees.specs.declared.ask.ShellKind.TheVariants as kind
 use Rattle.fs_laws.proofs.ChainLaws.{found}
 use Rattle.fs_laws.proofs.ListLaws.{held_append, number_left, number_right}

@@ -1,23 +1,6 @@
 -- What is tidy, and what is left, after deletions of pairs that aren't named.
 use Rattle.std.proofs.Common.{◌≡◌, ℕ, Bool, true, false, ◌==◌, List, [], ◌∷◌, refl, sym}
-use Rattle.std.proofs.lemmas.Bool.{and_parts, or_left}
-use Rattle.tsd_model.specs.World.{World, has_number}
-use Rattle.tsd_model.specs.Pairs.{holds}
-use Rattle.tsd_model.specs.Valid.{IsValid}
-use Rattle.fs_trees.specs.Tree.{is_there}
-use Rattle.fs_trees.specs.Layouts.{Named, tree_at, named_at, IsTidy}
-use Rattle.fs_trees.specs.Outside.{is_under}
-use Rattle.fs_trees.specs.declared.ask.ShellKind.{ShellKind}
-use Rattle.fs_laws.specs.Reading.{SameTree}
-use Rattle.fs_laws.specs.Stays.{IsUnder, hang_from}
-use Rattle.fs_laws.proofs.NamedLaws.{each_named}
-use Rattle.fs_laws.proofs.TreeLaws.{read_from_named}
-use Rattle.fs_laws.proofs.UnderLaws.{each_under, root_under, target_under}
-use Rattle.fs_port.specs.View.{DiskView}
-use Rattle.fs_port.specs.Files.{LeavesTidyWorld, IsTreeAlone, OnlyDeletes}
-use Rattle.fs_client.specs.declared.client.Client.{Client}
-use Rattle.fs_client.specs.Changing.{files_by}
-use Rattle.fs_client.specs.Trimming.{Trimmed, IsTrim, IsClean}
+use Rattle.fs_client.proofs.Common.{and_parts, or_left, World, has_number, holds, IsValid, is_there, Named, tree_at, named_at, IsTidy, is_under, ShellKind, SameTree, IsUnder, hang_from, each_named, read_from_named, each_under, root_under, target_under, DiskView, LeavesTidyWorld, IsTreeAlone, OnlyDeletes, Client, files_by, Trimmed, IsTrim, IsClean}
 use Rattle.fs_client.proofs.RunLaws.{clash_free_live}
 use Rattle.fs_client.proofs.TrimLaws.{freed}
 

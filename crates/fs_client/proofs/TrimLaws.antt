@@ -1,35 +1,9 @@
 -- Pairs that aren't named are deleted, one after the other.
 use Rattle.std.proofs.Common.{◌≡◌, ℕ, ◌<◌, true, false, not, ◌⊎◌, List, refl, sym, ◌∙◌, ap, subst, arith, inl, inr, Result, Ok, Err}
-use Rattle.std.proofs.lemmas.Bool.{and_from}
-use Rattle.std.specs.Prelude.{IfErr, is_some, slice_get}
-use Rattle.tsd_model.specs.World.{World, contents, is_live, has_number}
-use Rattle.tsd_model.specs.Pairs.{holds}
-use Rattle.tsd_model.specs.Records.{kept_of}
-use Rattle.tsd_model.specs.Sessions.{level_le}
-use Rattle.tsd_model.specs.Attained.{record_level, shown_level}
-use Rattle.tsd_model.specs.Valid.{IsValid}
-use Rattle.tsd_model.specs.declared.caps.Shown.{Shown}
-use Rattle.tsd_model.specs.declared.caps.Shown.TheVariants.{Nothing, Key}
+use Rattle.fs_client.proofs.Common.{and_from, IfErr, is_some, slice_get, World, contents, is_live, has_number, holds, kept_of, level_le, record_level, shown_level, IsValid, Shown, Nothing, Key, attained_where, Named, is_under, OthersStay, FsRefusal, is_inside, IsUnder, Keeps, spares, each_named, outside_twice, root_under, target_under, ways_lead_on, DiskView, state_of, IsDiskSound, IsValidNow, Stays, Client, shown_at, unlink_by, MayWrite, Looked, OnlyLooks, dropped, Leads, Went, Steps, IsWay, MayTrim, MayDelete, Trimmed, IsTrim, Trims}
 use Rattle.tsd_model.specs.declared.requests.Level.TheVariants as level
-use Rattle.disk_laws.proofs.AttainedLaws.{attained_where}
-use Rattle.fs_trees.specs.Layouts.{Named}
-use Rattle.fs_trees.specs.Outside.{is_under, OthersStay}
-use Rattle.fs_trees.specs.declared.refusal.FsRefusal.{FsRefusal}
 use Rattle.fs_trees.specs.declared.refusal.FsRefusal.TheVariants as no
-use Rattle.fs_laws.specs.Outside.{is_inside}
-use Rattle.fs_laws.specs.Stays.{IsUnder, Keeps, spares}
-use Rattle.fs_laws.proofs.NamedLaws.{each_named}
-use Rattle.fs_laws.proofs.OutsideLaws.{outside_twice}
-use Rattle.fs_laws.proofs.UnderLaws.{root_under, target_under}
-use Rattle.fs_laws.proofs.WayLaws.{ways_lead_on}
-use Rattle.fs_port.specs.View.{DiskView, state_of, IsDiskSound}
-use Rattle.fs_port.specs.Calls.{IsValidNow, Stays}
-use Rattle.fs_client.specs.declared.client.Client.{Client}
-use Rattle.fs_client.specs.Client.{shown_at, unlink_by}
-use Rattle.fs_client.specs.May.{MayWrite, Looked, OnlyLooks}
 use Rattle.fs_client.proofs.LookLaws.{no_look}
-use Rattle.fs_client.specs.Steps.{dropped, Leads, Went, Steps}
-use Rattle.fs_client.specs.Trimming.{IsWay, MayTrim, MayDelete, Trimmed, IsTrim, Trims}
 use Rattle.fs_client.proofs.RunLaws.{on_ok, ok_of, others_same, runs_look, runs_step, then_runs, runs_as, runs_refused, runs_more}
 use Rattle.fs_client.proofs.DropLaws.{fewer_pairs, same_bytes}
 

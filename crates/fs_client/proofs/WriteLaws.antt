@@ -1,13 +1,6 @@
 -- The world after a write.
 use Rattle.std.proofs.Common.{◌≡◌, ◌⊎◌, ℕ, ◌*◌, ◌≤◌, Bool, true, false, ◌==◌, List, sym, ◌∙◌, ap, subst, arith, inl, inr, Some, refl}
-use Rattle.std.proofs.lemmas.Bool.{eq-eqb, eqb-true}
-use Rattle.std.specs.Prelude.{is_some}
-use Rattle.tsd_model.specs.Geometry.{block_len}
-use Rattle.tsd_model.specs.World.{World, contents, is_live, is_free}
-use Rattle.tsd_model.specs.Valid.{IsValid}
-use Rattle.tsd_model.specs.Step.{filled, written}
-use Rattle.disk_laws.proofs.ChangeLaws.{contents-other, contents-same}
-use Rattle.disk_laws.proofs.DoomLaws.{live_below}
+use Rattle.fs_client.proofs.Common.{eq-eqb, eqb-true, is_some, block_len, World, contents, is_live, is_free, IsValid, filled, written, contents-other, contents-same, live_below}
 use Rattle.fs_client.proofs.RunLaws.{clash_free_live}
 
 -- a block has room for the head of an inode or a cluster

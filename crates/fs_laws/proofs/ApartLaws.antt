@@ -1,15 +1,7 @@
 -- What hangs from one root stays while another is written.
 use Rattle.std.proofs.Common.{◌≡◌, ℕ, ◌<◌, Bool, true, false, refl, sym, ◌∙◌, ap, subst}
-use Rattle.tsd_model.specs.World.{World, is_live, has_number}
-use Rattle.tsd_model.specs.Pairs.{holds}
-use Rattle.tsd_model.specs.Valid.{IsValid}
-use Rattle.fs_trees.specs.Layouts.{tree_at, named_at, IsTidy}
-use Rattle.fs_trees.specs.Outside.{is_under, OthersStay}
-use Rattle.fs_trees.specs.Tree.{is_there}
-use Rattle.fs_trees.specs.declared.ask.ShellKind.{ShellKind}
+use Rattle.fs_laws.proofs.Common.{World, is_live, has_number, holds, IsValid, tree_at, named_at, IsTidy, is_under, OthersStay, is_there, ShellKind, SameTree, IsUnder, Keeps}
 use Rattle.fs_laws.specs.Apart.{AreApart, StaysApart}
-use Rattle.fs_laws.specs.Reading.{SameTree}
-use Rattle.fs_laws.specs.Stays.{IsUnder, Keeps}
 use Rattle.fs_laws.proofs.NamedLaws.{each_named}
 use Rattle.fs_laws.proofs.TreeLaws.{named_is_under, read_from_named}
 use Rattle.fs_laws.proofs.UnderLaws.{each_under, root_under, target_under}

@@ -1,21 +1,9 @@
 -- The tree of chains is read from what it names.
 use Rattle.std.proofs.Common.{◌≡◌, ℕ, zero, suc, ◌<◌, Bool, true, false, ◌&&◌, ◌==◌, nat_le, List, [], ◌∷◌, ◌++◌, length, refl, sym, ◌∙◌, ap, subst, inl, inr, Option, Some, None, append_assoc}
-use Rattle.std.proofs.lemmas.Bool.{eq-eqb, eqb-true, and_parts, and_from, or_cases, or_left, or_right}
-use Rattle.std.specs.Prelude.{is_some, flat_map, map, option_map}
-use Rattle.std.specs.Option.{option_and_then}
-use Rattle.std.specs.List.{list_all}
-use Rattle.tsd_model.specs.Geometry.{block_len}
-use Rattle.tsd_model.specs.World.{World, contents, has_number, are_apart}
-use Rattle.tsd_model.specs.Pairs.{holds, is_pair}
-use Rattle.tsd_model.proofs.PairLaws.{all_of_held}
-use Rattle.fs_trees.specs.Names.{are_distinct}
-use Rattle.fs_trees.specs.Tree.{is_there}
-use Rattle.fs_trees.specs.Fields.{only_if, Entry}
-use Rattle.fs_trees.specs.Cluster.{Cluster, cluster_in, entries_of, bytes_room}
-use Rattle.fs_trees.specs.ChainTree.{Link, cluster_at, before_rest, chain_by_next, next_of, chain_at, blocks_of, links, is_filled, ChainFile, file_of, file_at, all_there, files_of, files_in, Chains, chain_blocks, chain_pairs, names_max, are_right, with_files, with_directory, chains_under, as_tree, chain_tree}
-use Rattle.fs_trees.specs.Layouts.{Named, by_chains, named_at}
+use Rattle.fs_laws.proofs.Common.{eq-eqb, eqb-true, and_parts, and_from, or_cases, or_left, or_right, is_some, flat_map, option_map, option_and_then, list_all, block_len, World, contents, has_number, are_apart, holds, is_pair, all_of_held, are_distinct, is_there, only_if, Entry, Cluster, cluster_in, entries_of, bytes_room, Link, cluster_at, before_rest, chain_by_next, next_of, chain_at, blocks_of, links, is_filled, ChainFile, file_of, file_at, all_there, files_of, files_in, Chains, chain_blocks, chain_pairs, names_max, with_files, with_directory, chains_under, as_tree, chain_tree, Named, by_chains, named_at, is_led_to, are_led_to, hang_from, IsUnder, Keeps}
+use Rattle.std.specs.Prelude.{map}
+use Rattle.fs_trees.specs.ChainTree.{are_right}
 use Rattle.fs_trees.specs.declared.ask.ShellKind.TheVariants as kind
-use Rattle.fs_laws.specs.Stays.{is_led_to, are_led_to, hang_from, IsUnder, Keeps}
 use Rattle.fs_laws.proofs.ListLaws.{number_left, number_right, held_left, held_right, all_held, AreIn, led_by, held_append, in_append, first_in}
 
 -- ---- chains are read from their blocks

@@ -1,15 +1,6 @@
 -- A directory whose block is written anew: the tree is the one with that node in its place.
 use Rattle.std.proofs.Common.{◌≡◌, ℕ, suc, Bool, true, false, not, cond, ◌&&◌, ◌==◌, nat_lt, List, [], ◌∷◌, ◌++◌, refl, sym, ◌∙◌, ap, subst, inl, inr, Option, Some, None, arith}
-use Rattle.std.proofs.lemmas.Bool.{eq-eqb, eqb-true, and_parts, and_from, or_cases, or_right, or_parts}
-use Rattle.std.proofs.lemmas.Bool.Decides.{nat_tests}
-use Rattle.std.specs.Option.{option_and_then}
-use Rattle.tsd_model.specs.Geometry.{block_len}
-use Rattle.tsd_model.specs.World.{World, contents, has_number, are_apart}
-use Rattle.fs_trees.specs.Names.{Name, Path, name_lt}
-use Rattle.fs_trees.specs.Tree.{none, file, dir, Node, nothing, a_file, a_dir, entry, child, at, is_there, before, with_entry, with_child, with_at}
-use Rattle.fs_trees.specs.Fields.{Entry}
-use Rattle.fs_trees.specs.Inode.{Inode, directory, regular, inode_in, block_named, with_listed, without_listed}
-use Rattle.fs_trees.specs.InodeTree.{InodeNode, InodeEntries, inode_at, with_first, entries_by, as_dir, node_by, node_at, inode_blocks}
+use Rattle.fs_laws.proofs.Common.{eq-eqb, eqb-true, and_parts, and_from, or_cases, or_right, or_parts, nat_tests, option_and_then, block_len, World, contents, has_number, are_apart, Name, Path, name_lt, none, file, dir, Node, nothing, a_file, a_dir, entry, child, at, is_there, before, with_entry, with_child, with_at, Entry, Inode, directory, regular, inode_in, block_named, with_listed, without_listed, InodeNode, InodeEntries, inode_at, with_first, entries_by, as_dir, node_by, node_at, inode_blocks}
 use Rattle.fs_laws.proofs.ListLaws.{any-append, number_left, number_right, first_in}
 use Rattle.fs_laws.proofs.InodeLaws.{node_blocks, node_same, root_block}
 

@@ -1,19 +1,6 @@
 -- After a directory's block was written with one entry set or taken out, the tree is the one with that change.
 use Rattle.std.proofs.Common.{◌≡◌, ℕ, zero, suc, ◌+◌, ◌<◌, ◌≤◌, Bool, true, false, not, cond, ◌&&◌, ◌==◌, List, [], ◌∷◌, ◌++◌, length, refl, sym, ◌∙◌, ap, arith, inl, inr, ◌⊎◌, Some}
-use Rattle.std.proofs.lemmas.Bool.{and_parts, and_from, or_cases, eq-eqb, eqb-true, not-true, or_left, or_right}
-use Rattle.std.specs.List.{list_all}
-use Rattle.std.specs.Option.{option_and_then}
-use Rattle.tsd_model.specs.Geometry.{block_len}
-use Rattle.tsd_model.specs.World.{World, contents, has_number, are_apart}
-use Rattle.tsd_model.specs.Pairs.{holds}
-use Rattle.tsd_model.specs.Step.{with_contents}
-use Rattle.tsd_model.proofs.PairLaws.{all_of_held}
-use Rattle.disk_laws.proofs.ChangeLaws.{contents-other, contents-same}
-use Rattle.fs_trees.specs.Names.{Name, Path, path_max}
-use Rattle.fs_trees.specs.Tree.{nothing, a_dir, at, entry, is_there, with_entry, with_child, with_at}
-use Rattle.fs_trees.specs.Fields.{Entry}
-use Rattle.fs_trees.specs.Inode.{Inode, directory, inode_in, with_listed, without_listed}
-use Rattle.fs_trees.specs.InodeTree.{InodeNode, InodeEntries, inode_at, entries_by, node_at, inode_blocks, data_blocks, named_pairs, are_right, tree_of, inode_tree}
+use Rattle.fs_laws.proofs.Common.{and_parts, and_from, or_cases, eq-eqb, eqb-true, not-true, or_left, or_right, list_all, option_and_then, block_len, World, contents, has_number, are_apart, holds, with_contents, all_of_held, contents-other, contents-same, Name, Path, path_max, nothing, a_dir, at, entry, is_there, with_entry, with_child, with_at, Entry, Inode, directory, inode_in, with_listed, without_listed, InodeNode, InodeEntries, inode_at, entries_by, node_at, inode_blocks, data_blocks, named_pairs, are_right, tree_of, inode_tree}
 use Rattle.fs_laws.proofs.ListLaws.{all_held}
 use Rattle.fs_laws.proofs.InodeLaws.{node_blocks, HasRoot, under_is, tree_same}
 use Rattle.fs_laws.proofs.DirectoryLaws.{deeper, block_at, node_away, entry_is_put, entry_is_dropped, with_last}

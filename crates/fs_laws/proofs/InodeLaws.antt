@@ -1,21 +1,8 @@
 -- The tree of inodes is read from what it names.
 use Rattle.std.proofs.Common.{◌≡◌, ℕ, zero, suc, ◌<◌, Bool, true, false, not, cond, ◌&&◌, ◌==◌, List, [], ◌∷◌, ◌++◌, refl, sym, ◌∙◌, ap, subst, inl, inr, Option, Some, None, append_assoc}
-use Rattle.std.proofs.lemmas.Bool.{eq-eqb, and_parts, and_from, or_cases, or_left, or_right}
-use Rattle.std.specs.Prelude.{is_some, map, take, unwrap_or}
-use Rattle.std.specs.Option.{option_and_then}
-use Rattle.std.specs.List.{list_all}
-use Rattle.tsd_model.specs.Geometry.{block_len}
-use Rattle.tsd_model.specs.World.{World, contents, has_number, are_apart}
-use Rattle.tsd_model.specs.Pairs.{holds, is_pair}
-use Rattle.tsd_model.proofs.PairLaws.{all_of_held}
-use Rattle.fs_trees.specs.Names.{Name, path_max}
-use Rattle.fs_trees.specs.Tree.{none, file, dir, nothing, a_file, a_dir, is_there}
-use Rattle.fs_trees.specs.Fields.{Entry}
-use Rattle.fs_trees.specs.Inode.{Inode, directory, regular, inode_in}
-use Rattle.fs_trees.specs.InodeTree.{FileInode, InodeNode, InodeEntries, inode_at, with_first, entries_by, as_dir, node_by, node_at, inode_blocks, data_blocks, named_pairs, are_right, as_root, inodes_under, file_bytes, tree_entries, tree_of, inode_tree}
-use Rattle.fs_trees.specs.Layouts.{Named, by_inodes, named_at}
+use Rattle.fs_laws.proofs.Common.{eq-eqb, and_parts, and_from, or_cases, or_left, or_right, is_some, take, unwrap_or, option_and_then, list_all, block_len, World, contents, has_number, are_apart, holds, is_pair, all_of_held, Name, path_max, none, file, dir, nothing, a_file, a_dir, is_there, Entry, Inode, directory, regular, inode_in, FileInode, InodeNode, InodeEntries, inode_at, with_first, entries_by, as_dir, node_by, node_at, inode_blocks, data_blocks, named_pairs, are_right, as_root, inodes_under, file_bytes, tree_entries, tree_of, inode_tree, Named, by_inodes, named_at, is_led_to, are_led_to, IsUnder, Keeps}
+use Rattle.std.specs.Prelude.{map}
 use Rattle.fs_trees.specs.declared.ask.ShellKind.TheVariants as kind
-use Rattle.fs_laws.specs.Stays.{is_led_to, are_led_to, IsUnder, Keeps}
 use Rattle.fs_laws.proofs.ListLaws.{number_left, number_right, held_left, held_right, all_held, AreIn, led_by, all_led, flat_map_same, held_append, in_append, first_in}
 
 -- ---- the inodes are read from their blocks

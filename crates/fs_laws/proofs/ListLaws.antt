@@ -1,11 +1,6 @@
 -- Laws of lists of blocks and of pairs.
 use Rattle.std.proofs.Common.{◌≡◌, ℕ, Bool, true, false, ◌&&◌, ◌||◌, ◌==◌, ◌⊎◌, List, [], ◌∷◌, ◌++◌, refl, sym, ◌∙◌, ap, subst, inl, inr}
-use Rattle.std.proofs.lemmas.Bool.{eq-eqb, eqb-true, and_parts, and_from, or_cases, or_left, or_right}
-use Rattle.std.specs.Prelude.{flat_map}
-use Rattle.std.specs.List.{list_any, list_all}
-use Rattle.tsd_model.specs.World.{has_number}
-use Rattle.tsd_model.specs.Pairs.{holds, is_pair}
-use Rattle.fs_laws.specs.Stays.{is_led_to, are_led_to}
+use Rattle.fs_laws.proofs.Common.{eq-eqb, eqb-true, and_parts, and_from, or_cases, or_left, or_right, flat_map, list_any, list_all, has_number, holds, is_pair, is_led_to, are_led_to}
 
 pub any-append : {X : Type 0} (test : X → Bool) (xs ys : List X) → list_any test (xs ++ ys) ≡ (list_any test xs || list_any test ys)
 any-append test [] ys = refl

@@ -1,28 +1,8 @@
 -- What the directories of a tree list: names, in their order, and not more than 4,096.
 use Rattle.std.proofs.Common.{◌≡◌, ◌⊎◌, inl, inr, ℕ, zero, suc, ◌≤◌, Bool, true, false, cond, ◌&&◌, ◌==◌, nat_le, List, [], ◌∷◌, ◌++◌, length, map, drop, refl, sym, ◌∙◌, ap, subst, arith, Option, Some, None}
-use Rattle.std.proofs.lemmas.Bool.{and_parts, and_from}
-use Rattle.std.proofs.lemmas.Bool.Decides.{nat_tests}
-use Rattle.std.specs.Prelude.{flat_map, option_map, ⊤}
-use Rattle.std.specs.List.{list_all}
-use Rattle.std.specs.Option.{option_and_then, option_or}
-use Rattle.tsd_model.specs.Geometry.{IsLawful, block_len}
-use Rattle.tsd_model.specs.World.{World, contents, are_apart}
-use Rattle.tsd_model.specs.Pairs.{holds}
+use Rattle.fs_laws.proofs.Common.{and_parts, and_from, nat_tests, flat_map, option_map, ⊤, list_all, option_and_then, option_or, IsLawful, block_len, World, contents, are_apart, holds, Name, Path, path_max, name_lt, is_name, is_below_first_name, are_ascending, are_distinct, Entries, none, file, dir, Node, nothing, a_file, a_dir, entry, child, at, names, names_in, with_entry, before, only_if, begins_with, Entry, entries, entry_names, all_named, numbers, little_number, div_ceil, Inode, magic, data_room, directory, regular, inode_in, of_kind, as_directory, as_regular, ordered, distinct, entries_room, FileInode, InodeNode, InodeEntries, inode_at, with_first, entries_by, as_dir, node_by, node_at, as_root, inodes_under, tree_entries, tree_of, inode_tree, inodes_right, Cluster, entries_of, bytes_room, Link, chain_at, is_filled, ChainFile, chain_bytes, file_of, file_at, all_there, files_of, files_in, Chains, chain_blocks, chain_pairs, names_max, with_files, with_directory, tree_of_files, as_tree, chain_tree, tree_at, ShellKind, ByInodes, ByChains, IsNameListing}
 use Rattle.tsd_model.specs.declared.geometry.Geometry.{Geometry}
-use Rattle.fs_trees.specs.Names.{Name, Path, path_max, name_lt, is_name, is_below_first_name, are_ascending, are_distinct}
-use Rattle.fs_trees.specs.Tree.{Entries, none, file, dir, Node, nothing, a_file, a_dir, entry, child, at, names, names_in, with_entry, before}
-use Rattle.fs_trees.specs.Fields.{only_if, begins_with, Entry, entries, entry_names, all_named, numbers}
-use Rattle.byteorder.specs.Endian.{little_number}
-use Rattle.std.specs.Int.{div_ceil}
-use Rattle.fs_trees.specs.Inode.{Inode, magic, data_room, directory, regular, inode_in, of_kind, as_directory, as_regular, ordered, distinct, entries_room}
-use Rattle.fs_trees.specs.InodeTree.{FileInode, InodeNode, InodeEntries, inode_at, with_first, entries_by, as_dir, node_by, node_at, as_root, inodes_under, tree_entries, tree_of, inode_tree}
-use Rattle.fs_trees.specs.InodeTree.{are_right as inodes_right}
-use Rattle.fs_trees.specs.Cluster.{Cluster, entries_of, bytes_room}
-use Rattle.fs_trees.specs.ChainTree.{Link, chain_at, is_filled, ChainFile, chain_bytes, file_of, file_at, all_there, files_of, files_in, Chains, chain_blocks, chain_pairs, names_max, are_right, with_files, with_directory, tree_of_files, as_tree, chain_tree}
-use Rattle.fs_trees.specs.Layouts.{tree_at}
-use Rattle.fs_trees.specs.declared.ask.ShellKind.{ShellKind}
-use Rattle.fs_trees.specs.declared.ask.ShellKind.TheVariants.{Inode as ByInodes, Chain as ByChains}
-use Rattle.fs_laws.specs.Small.{IsNameListing}
+use Rattle.fs_trees.specs.ChainTree.{are_right}
 use Rattle.fs_laws.proofs.DirectoryLaws.{names_meet}
 
 no_listing : IsNameListing []

@@ -1,29 +1,7 @@
 -- What is named under a root stays.
 use Rattle.std.proofs.Common.{◌≡◌, ℕ, ◌<◌, Bool, true, false, not, ◌&&◌, ◌==◌, List, [], ◌∷◌, refl, sym, ◌∙◌, ap, subst, inl, inr, arith}
-use Rattle.std.proofs.lemmas.Bool.{eq-eqb, eqb-true, and_parts, and_from, or_cases, lt-ltb, not-true, or_left, or_right}
-use Rattle.std.proofs.lemmas.Bool.Decides.{nat_tests}
-use Rattle.std.specs.List.{list_any}
-use Rattle.tsd_model.specs.World.{World, contents, is_live, is_primary, has_number}
-use Rattle.tsd_model.specs.Pairs.{holds, is_pair}
-use Rattle.tsd_model.specs.Reach.{reach, restricted}
-use Rattle.tsd_model.specs.Doomed.{doomed, settle}
-use Rattle.tsd_model.specs.Sessions.{Sessions}
-use Rattle.tsd_model.specs.Valid.{IsValid, IsRaw}
-use Rattle.tsd_model.specs.Step.{State, change, raised_by, without_pointer, with_pointer, with_contents, with_new_blocks, zeros, run_at}
-use Rattle.tsd_model.specs.Placing.{chosen, chosen_run}
-use Rattle.tsd_model.specs.Run.{answer}
-use Rattle.tsd_model.specs.declared.requests.PlaceKind.{PlaceKind}
-use Rattle.tsd_model.specs.declared.requests.Request.{Request}
+use Rattle.fs_laws.proofs.Common.{eq-eqb, eqb-true, and_parts, and_from, or_cases, lt-ltb, not-true, or_left, or_right, nat_tests, list_any, World, contents, is_live, is_primary, has_number, holds, is_pair, reach, restricted, doomed, settle, Sessions, IsValid, IsRaw, State, change, raised_by, without_pointer, with_pointer, with_contents, with_new_blocks, zeros, run_at, chosen, chosen_run, answer, PlaceKind, Request, writes_to, holds-filter, live-restricted, holds-restricted, target_stays, is_doomed, primary_reached, target_reached, raw-without_pointer, only_adds, live-change, holds-change, contents-change, contents-kept, after_answer, Named, is_led_to, are_led_to, hang_from, IsUnder, Keeps, spares}
 use Rattle.tsd_model.specs.declared.requests.Request.TheVariants as ask
-use Rattle.disk_laws.specs.Reached.{writes_to}
-use Rattle.tsd_model.proofs.PairLaws.{holds-filter}
-use Rattle.disk_laws.proofs.DoomLaws.{live-restricted, holds-restricted, target_stays, is_doomed}
-use Rattle.disk_laws.proofs.ReachLaws.{primary_reached, target_reached}
-use Rattle.disk_laws.proofs.ChangeLaws.{raw-without_pointer}
-use Rattle.disk_laws.proofs.StayLaws.{only_adds, live-change, holds-change, contents-change, contents-kept}
-use Rattle.disk_laws.proofs.AnswerLaws.{after_answer}
-use Rattle.fs_trees.specs.Layouts.{Named}
-use Rattle.fs_laws.specs.Stays.{is_led_to, are_led_to, hang_from, IsUnder, Keeps, spares}
 
 clash : (t : Bool) → t ≡ true → t ≡ false → ⊥
 clash t p q = cc

@@ -1,27 +1,7 @@
 -- What stands outside a root stays.
 use Rattle.std.proofs.Common.{◌≡◌, ℕ, zero, suc, ◌<◌, Bool, true, false, not, ◌&&◌, ◌||◌, ◌==◌, List, [], ◌∷◌, length, refl, sym, ◌∙◌, ap, subst, inl, inr, ◌⊎◌, nat_lt, arith}
-use Rattle.std.proofs.lemmas.Bool.{and_parts, and_from, eq-eqb, eqb-true, not-true, ltb-false}
-use Rattle.std.proofs.lemmas.Bool.Decides.{nat_tests}
-use Rattle.std.specs.Prelude.{is_none, is_some}
-use Rattle.tsd_model.specs.World.{World, contents, is_live, is_free, is_primary, has_number, all_blocks}
-use Rattle.tsd_model.specs.Pairs.{holds, is_pair}
-use Rattle.tsd_model.specs.Doomed.{is_led_only_from, hangs_on, doomed_rounds, doomed, settle}
-use Rattle.tsd_model.specs.Placing.{chosen, chosen_run}
-use Rattle.tsd_model.specs.Sessions.{Sessions}
-use Rattle.tsd_model.specs.Valid.{IsValid}
-use Rattle.tsd_model.specs.Step.{State, change, raised_by, without_pointer, with_pointer, with_contents, with_new_blocks, zeros, run_at}
-use Rattle.tsd_model.specs.Run.{answer}
-use Rattle.tsd_model.specs.declared.requests.PlaceKind.{PlaceKind}
-use Rattle.tsd_model.specs.declared.requests.Request.{Request}
+use Rattle.fs_laws.proofs.Common.{and_parts, and_from, eq-eqb, eqb-true, not-true, ltb-false, nat_tests, is_none, is_some, World, contents, is_live, is_free, is_primary, has_number, all_blocks, holds, is_pair, is_led_only_from, hangs_on, doomed_rounds, doomed, settle, chosen, chosen_run, Sessions, IsValid, State, change, raised_by, without_pointer, with_pointer, with_contents, with_new_blocks, zeros, run_at, answer, PlaceKind, Request, writes_to, holds-with_pair, holds-filter, all_of_held, has_number-filter, live-restricted, holds-restricted, AllOf, AllFree, chosen_are_free, chosen_run_is_free, either_pair, only_adds, live-change, contents-change, contents-kept, after_answer, is_under, OthersStay}
 use Rattle.tsd_model.specs.declared.requests.Request.TheVariants as ask
-use Rattle.disk_laws.specs.Reached.{writes_to}
-use Rattle.tsd_model.proofs.PairLaws.{holds-with_pair, holds-filter, all_of_held}
-use Rattle.disk_laws.proofs.GraphLaws.{has_number-filter}
-use Rattle.disk_laws.proofs.DoomLaws.{live-restricted, holds-restricted}
-use Rattle.disk_laws.proofs.ChangeLaws.{AllOf, AllFree, chosen_are_free, chosen_run_is_free, either_pair}
-use Rattle.disk_laws.proofs.StayLaws.{only_adds, live-change, contents-change, contents-kept}
-use Rattle.disk_laws.proofs.AnswerLaws.{after_answer}
-use Rattle.fs_trees.specs.Outside.{is_under, OthersStay}
 use Rattle.fs_laws.specs.Outside.{is_local, is_inside}
 use Rattle.fs_laws.proofs.UnderLaws.{each_under, root_under, target_under}
 

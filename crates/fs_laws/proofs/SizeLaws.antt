@@ -1,26 +1,7 @@
 -- How deep a tree is, and how many entries it has.
 use Rattle.std.proofs.Common.{◌≡◌, ℕ, zero, suc, ◌+◌, ◌<◌, ◌≤◌, Bool, true, false, cond, not, ◌&&◌, ◌||◌, ◌==◌, List, [], ◌∷◌, ◌++◌, length, refl, sym, ◌∙◌, ap, subst, inl, inr, arith, length-append, Option, Some, None}
-use Rattle.std.proofs.lemmas.Bool.{and_parts, and_from, eq-eqb, eqb-true, or_left, or_right}
-use Rattle.std.proofs.lemmas.Bool.Decides.{nat_tests}
-use Rattle.std.specs.Prelude.{⊤, map, nat_le}
-use Rattle.std.specs.List.{list_all}
-use Rattle.tsd_model.specs.Pairs.{holds}
-use Rattle.tsd_model.specs.World.{World, is_live, has_number, are_apart}
-use Rattle.tsd_model.specs.Valid.{IsValid}
-use Rattle.disk_laws.proofs.DoomLaws.{live_below}
-use Rattle.fs_trees.specs.ChainTree.{ChainFile, chain_bytes, chain_pairs, chain_blocks, names_max, as_tree, tree_of_files, chain_tree}
-use Rattle.fs_trees.specs.ChainTree.{are_right as chains_right}
-use Rattle.fs_trees.specs.Fields.{Entry}
-use Rattle.fs_trees.specs.Inode.{Inode, directory, regular, block_named}
-use Rattle.fs_trees.specs.InodeTree.{FileInode, InodeNode, InodeEntries, inode_at, entries_by, as_dir, node_by, node_at, as_root, inode_blocks, data_blocks, named_pairs, tree_entries, tree_of, inode_tree}
-use Rattle.fs_trees.specs.InodeTree.{are_right as inodes_right}
-use Rattle.fs_trees.specs.Layouts.{tree_at, named_at, by_inodes}
-use Rattle.fs_trees.specs.Names.{Name, Path, path_max, name_lt, are_distinct}
-use Rattle.fs_trees.specs.Tree.{Entries, none, file, dir, Node, nothing, a_file, a_dir, entry, child, at, is_there, names, before, with_entry}
-use Rattle.fs_trees.specs.declared.ask.ShellKind.{ShellKind}
-use Rattle.fs_trees.specs.declared.ask.ShellKind.TheVariants.{Inode as ByInodes, Chain as ByChains}
-use Rattle.fs_laws.specs.Small.{entry_count, total_entries}
-use Rattle.fs_laws.specs.Stays.{IsUnder}
+use Rattle.fs_laws.proofs.Common.{and_parts, and_from, eq-eqb, eqb-true, or_left, or_right, nat_tests, ⊤, list_all, holds, World, is_live, has_number, are_apart, IsValid, live_below, ChainFile, chain_bytes, chain_pairs, chain_blocks, names_max, as_tree, tree_of_files, chain_tree, chains_right, Entry, Inode, directory, regular, block_named, FileInode, InodeNode, InodeEntries, inode_at, entries_by, as_dir, node_by, node_at, as_root, inode_blocks, data_blocks, named_pairs, tree_entries, tree_of, inode_tree, inodes_right, tree_at, named_at, by_inodes, Name, Path, path_max, name_lt, are_distinct, Entries, none, file, dir, Node, nothing, a_file, a_dir, entry, child, at, is_there, names, before, with_entry, ShellKind, ByInodes, ByChains, entry_count, total_entries, IsUnder}
+use Rattle.std.specs.Prelude.{map, nat_le}
 use Rattle.fs_laws.proofs.ChainLaws.{found as chains_found}
 use Rattle.fs_laws.proofs.CountLaws.{times, apart_times}
 use Rattle.fs_laws.proofs.DirectoryLaws.{entry_is_read, read_named}

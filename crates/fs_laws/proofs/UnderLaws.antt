@@ -1,17 +1,6 @@
 -- What a root reaches is closed under pairs, and is the least such set.
 use Rattle.std.proofs.Common.{◌≡◌, ℕ, zero, suc, ◌+◌, ◌<◌, ◌≤◌, true, false, cond, ◌&&◌, ◌==◌, List, [], ◌∷◌, length, refl, sym, ◌∙◌, ap, subst, arith, inl, inr}
-use Rattle.std.proofs.lemmas.Bool.{and_parts, and_from, or_cases, eq-eqb, eqb-true, cases_eq, or_left, or_right}
-use Rattle.std.proofs.lemmas.Bool.Decides.{nat_tests}
-use Rattle.std.specs.Prelude.{filter}
-use Rattle.std.specs.List.{list_any, range_with_len}
-use Rattle.tsd_model.specs.Pairs.{holds}
-use Rattle.tsd_model.specs.World.{World, all_blocks, has_number}
-use Rattle.tsd_model.specs.Reach.{reach_round, reach_rounds, reach_from}
-use Rattle.tsd_model.specs.Valid.{IsRaw}
-use Rattle.disk_laws.proofs.GraphLaws.{has_number-filter, length-range, rounds_from, from_more, from_end}
-use Rattle.disk_laws.proofs.DoomLaws.{live_below, in_all}
-use Rattle.disk_laws.proofs.ReachLaws.{leads, leads_stays, leads_grows, found_any}
-use Rattle.fs_trees.specs.Outside.{is_under}
+use Rattle.fs_laws.proofs.Common.{and_parts, and_from, or_cases, eq-eqb, eqb-true, cases_eq, or_left, or_right, nat_tests, filter, list_any, range_with_len, holds, World, all_blocks, has_number, reach_round, reach_rounds, reach_from, IsRaw, has_number-filter, length-range, rounds_from, from_more, from_end, live_below, in_all, leads, leads_stays, leads_grows, found_any, is_under}
 use Rattle.fs_laws.proofs.ListLaws.{led_by}
 
 -- one number of a range

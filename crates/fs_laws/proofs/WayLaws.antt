@@ -1,24 +1,12 @@
 -- How a session that may write a root gets to write what hangs from it.
 use Rattle.std.proofs.Common.{◌≡◌, ℕ, zero, suc, ◌+◌, ◌<◌, ◌≤◌, Bool, true, false, not, ◌&&◌, ◌||◌, ◌==◌, List, [], ◌∷◌, refl, sym, ◌∙◌, ap, subst, arith, inl, inr}
-use Rattle.std.proofs.lemmas.Bool.{and_parts, and_from, or_cases, eqb-true, or_left, or_right}
+use Rattle.fs_laws.proofs.Common.{and_parts, and_from, or_cases, eqb-true, or_left, or_right, list_any, range_with_len, is_live, primary_blocks, holds, level_le, greatest, level_from, Fits, attained_from, is_granted, IsValid, State, answer, Shown, PlaceKind, Request}
 use Rattle.std.specs.Prelude.{map}
-use Rattle.std.specs.List.{list_any, range_with_len}
-use Rattle.tsd_model.specs.World.{is_live, primary_blocks}
-use Rattle.tsd_model.specs.Pairs.{holds}
-use Rattle.tsd_model.specs.Sessions.{level_le, greatest, level_from, Fits}
-use Rattle.tsd_model.specs.Attained.{attained_from}
 use Rattle.tsd_model.specs.Needs.{needs, is_steady}
-use Rattle.tsd_model.specs.Verdict.{is_granted}
-use Rattle.tsd_model.specs.Valid.{IsValid}
-use Rattle.tsd_model.specs.Step.{State}
-use Rattle.tsd_model.specs.Run.{answer}
 use Rattle.tsd_model.specs.History.{is_of_session, is_end_of, is_set_cap_of, attains_at, gives_grant, keeps_grant}
-use Rattle.tsd_model.specs.declared.caps.Shown.{Shown}
 use Rattle.tsd_model.specs.declared.needs.Need.{Need}
 use Rattle.tsd_model.specs.declared.requests.Level.{Level}
 use Rattle.tsd_model.specs.declared.requests.Level.TheVariants as level
-use Rattle.tsd_model.specs.declared.requests.PlaceKind.{PlaceKind}
-use Rattle.tsd_model.specs.declared.requests.Request.{Request}
 use Rattle.tsd_model.specs.declared.requests.Request.TheVariants as ask
 use Rattle.disk_laws.proofs.HeldLaws.{le_greater}
 use Rattle.disk_laws.proofs.AttainedLaws.{attained_where}

@@ -1,18 +1,7 @@
 -- What keeps the counts of the pairs from blocks that aren't doomed.
 use Rattle.std.proofs.Common.{◌≡◌, ℕ, ◌+◌, Bool, true, false, not, cond, ◌&&◌, ◌||◌, ◌==◌, nat_lt, List, [], ◌∷◌, length, Option, Some, None, is_some, is_none, refl, sym, ◌∙◌, ap, subst, arith, inl, inr}
-use Rattle.std.proofs.lemmas.Bool.{eq-eqb, eqb-true, ne_eqb, and_parts, and_right, or_from, or_left, or_right, not-true, both_ways, cases_eq, false_from_ne_true}
-use Rattle.std.proofs.lemmas.List.Elements.{filter_agree}
-use Rattle.tsd_model.specs.Pairs.{is_pair, holds, with_pair, count_to}
-use Rattle.tsd_model.specs.World.{World, contents, is_live, is_free, has_number, are_apart}
-use Rattle.tsd_model.specs.Doomed.{doomed, settle}
-use Rattle.tsd_model.specs.Step.{with_contents, with_pointer, without_pointer, zeros, with_new_blocks}
-use Rattle.tsd_model.proofs.PairLaws.{holds-with_pair}
-use Rattle.disk_laws.proofs.ChangeLaws.{contents-other, new_pair, old_pair}
+use Rattle.graph_laws.proofs.Common.{eq-eqb, eqb-true, ne_eqb, and_parts, and_right, or_from, or_left, or_right, not-true, both_ways, cases_eq, false_from_ne_true, filter_agree, is_pair, holds, with_pair, count_to, World, contents, is_live, is_free, has_number, are_apart, doomed, settle, with_contents, with_pointer, without_pointer, zeros, with_new_blocks, holds-with_pair, contents-other, new_pair, old_pair, count_where, kept_count, doomed_pairs, IsLaidOut, IsRawGraph, EachIsLedTo, count-with_pair}
 use Rattle.graph_laws.proofs.SettleLaws.{none_doomed, led_has_none, none_is_led}
-use Rattle.graph_laws.specs.Counts.{count_where, kept_count, doomed_pairs}
-use Rattle.graph_laws.specs.RawGraph.{IsLaidOut, IsRawGraph}
-use Rattle.graph_laws.specs.Settling.{EachIsLedTo}
-use Rattle.tsd_model.proofs.CountLaws.{count-with_pair}
 use Rattle.graph_laws.proofs.CountLaws.{filter_twice}
 use Rattle.graph_laws.proofs.CommuteLaws.{doomed-with_pointer}
 use Rattle.graph_laws.proofs.MarkingLaws.{count_deleted}

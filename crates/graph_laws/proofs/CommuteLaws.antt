@@ -1,25 +1,8 @@
 -- Changes of a raw world, and the same changes of what it settles to.
 use Rattle.std.proofs.Common.{◌≡◌, ℕ, ◌<◌, Bool, true, false, not, cond, ◌&&◌, ◌||◌, ◌==◌, List, [], ◌∷◌, length, refl, sym, ◌∙◌, ap, subst, ◌⊎◌, inl, inr, Option, Some, None}
-use Rattle.std.proofs.lemmas.Bool.{eqb-true, and_parts, and_cases, and_from, not-true, or_cases, both_ways, cases_Bool, cases_eq, or_left, or_right}
-use Rattle.std.proofs.lemmas.List.{length-set, ext_get_or}
-use Rattle.std.specs.Prelude.{map, filter, slice_set}
-use Rattle.tsd_model.specs.Pairs.{is_pair, holds, with_pair}
-use Rattle.tsd_model.specs.World.{World, contents, is_live, has_number}
-use Rattle.tsd_model.specs.Records.{upgraded, upgraded_record}
-use Rattle.tsd_model.specs.Reach.{reach, restricted, swept}
-use Rattle.tsd_model.specs.Doomed.{doomed, settle}
-use Rattle.tsd_model.specs.Step.{with_contents, with_pointer, without_pointer, with_caps}
-use Rattle.tsd_model.specs.declared.records.Record.{Record}
-use Rattle.tsd_model.proofs.SizeLaws.{contents-restricted}
-use Rattle.tsd_model.proofs.PairLaws.{holds-filter, holds-with_pair, is_rising-filter, is_rising-with_pair, same_tests}
-use Rattle.disk_laws.proofs.DoomLaws.{live_below, live-restricted}
-use Rattle.disk_laws.proofs.ChangeLaws.{contents-other, contents-same, old_pair, either_pair}
-use Rattle.graph_laws.specs.Counts.{stays}
-use Rattle.graph_laws.specs.RawGraph.{IsLaidOut}
-use Rattle.graph_laws.specs.Steps.{with_pairs_that}
+use Rattle.graph_laws.proofs.Common.{eqb-true, and_parts, and_cases, and_from, not-true, or_cases, both_ways, cases_Bool, cases_eq, or_left, or_right, length-set, ext_get_or, map, filter, slice_set, is_pair, holds, with_pair, World, contents, is_live, has_number, upgraded, upgraded_record, reach, restricted, swept, doomed, settle, with_contents, with_pointer, without_pointer, with_caps, Record, contents-restricted, holds-filter, holds-with_pair, is_rising-filter, is_rising-with_pair, same_tests, live_below, live-restricted, contents-other, contents-same, old_pair, either_pair, stays, IsLaidOut, with_pairs_that, doomed_is_live}
 use Rattle.graph_laws.proofs.SameLaws.{same_world, length-restricted}
 use Rattle.graph_laws.proofs.SameGraphLaws.{doomed_by_graph, reach_by_graph, graph-with_contents, graph-of_records}
-use Rattle.disk_laws.proofs.ReclaimLaws.{doomed_is_live}
 use Rattle.graph_laws.proofs.DoomedLaws.{doomed_least_of, doomed_is_no_primary, doomed_from, doomed_in}
 use Rattle.graph_laws.proofs.SettleLaws.{passed, contents-settle, live-settle, holds-settle, length-settle, settle_same, stays_doomed}
 

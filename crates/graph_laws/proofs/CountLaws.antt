@@ -1,16 +1,6 @@
 -- Counts of the pairs, and of the numbers, that pass a test.
 use Rattle.std.proofs.Common.{◌≡◌, ℕ, zero, suc, ◌+◌, ◌<◌, ◌≤◌, Bool, true, false, not, cond, ◌&&◌, ◌||◌, ◌==◌, nat_lt, nat_le, List, [], ◌∷◌, length, refl, sym, ◌∙◌, ap, subst, arith, ◌⊎◌, inl, inr}
-use Rattle.std.proofs.lemmas.Bool.{eq-eqb, eqb-true, ne_eqb, and_parts, and_right, not-true, not-false, both_ways, cases_Bool, cases_eq, false_from_ne_true, or_left, or_right}
-use Rattle.std.proofs.lemmas.Bool.Decides.{nat_tests}
-use Rattle.std.proofs.lemmas.List.Elements.{filter_agree}
-use Rattle.std.specs.Prelude.{filter}
-use Rattle.std.specs.List.{list_all, range_with_len}
-use Rattle.tsd_model.specs.Pairs.{is_pair, holds, is_rising}
-use Rattle.tsd_model.specs.World.{has_number, are_apart}
-use Rattle.tsd_model.proofs.CountLaws.{count-without_pair}
-use Rattle.tsd_model.proofs.PairLaws.{all_of_held, one_fails}
-use Rattle.tsd_model.proofs.SizeLaws.{length-filter_le}
-use Rattle.disk_laws.proofs.GraphLaws.{has_number-filter, has_number-range, length-range}
+use Rattle.graph_laws.proofs.Common.{eq-eqb, eqb-true, ne_eqb, and_parts, and_right, not-true, not-false, both_ways, cases_Bool, cases_eq, false_from_ne_true, or_left, or_right, nat_tests, filter_agree, filter, list_all, range_with_len, is_pair, holds, is_rising, has_number, are_apart, count-without_pair, all_of_held, one_fails, length-filter_le, has_number-filter, has_number-range, length-range}
 
 -- ---- pairs that pass
 

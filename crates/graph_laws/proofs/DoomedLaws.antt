@@ -1,14 +1,6 @@
 -- Which blocks are doomed, by the rule alone: doomed blocks are the least set that has each block that it must.
 use Rattle.std.proofs.Common.{◌≡◌, ℕ, zero, suc, ◌<◌, Bool, true, false, not, ◌&&◌, ◌||◌, ◌==◌, List, length, refl, sym, ◌∙◌, ap, subst, ◌⊎◌, ◌↔◌, inl, inr}
-use Rattle.std.proofs.lemmas.Bool.{eq-eqb, eqb-true, and_parts, and_from, not-true, both_ways, cases_Bool, cases_lt, lt-ltb, ltb-false, false_from_ne_true}
-use Rattle.std.specs.List.{list_all}
-use Rattle.tsd_model.specs.Pairs.{holds}
-use Rattle.tsd_model.specs.World.{World, is_live, is_primary, all_blocks, has_number}
-use Rattle.tsd_model.specs.Doomed.{is_led_only_from, hangs_on, doomed_rounds, doomed}
-use Rattle.disk_laws.proofs.GraphLaws.{has_number-filter}
-use Rattle.tsd_model.proofs.PairLaws.{all_of_held, one_fails}
-use Rattle.disk_laws.proofs.DoomLaws.{is_doomed, not_primary, target_stays, source_stays}
-use Rattle.graph_laws.specs.Counts.{stays}
+use Rattle.graph_laws.proofs.Common.{eq-eqb, eqb-true, and_parts, and_from, not-true, both_ways, cases_Bool, cases_lt, lt-ltb, ltb-false, false_from_ne_true, list_all, holds, World, is_live, is_primary, all_blocks, has_number, is_led_only_from, hangs_on, doomed_rounds, doomed, has_number-filter, all_of_held, one_fails, is_doomed, not_primary, target_stays, source_stays, stays}
 use Rattle.graph_laws.specs.Dooming.{TakesIn}
 
 -- ---- where all pairs to a block come from

@@ -1,18 +1,8 @@
 -- What a deletion dooms besides what was doomed.
 use Rattle.std.proofs.Common.{◌≡◌, ℕ, ◌+◌, Bool, true, false, not, cond, ◌&&◌, ◌||◌, ◌==◌, List, [], ◌∷◌, length, refl, sym, ◌∙◌, ap, subst, arith}
-use Rattle.std.proofs.lemmas.Bool.{and_parts, false_from_ne_true, both_ways, not-true, eqb-true}
-use Rattle.std.proofs.lemmas.List.Elements.{filter_agree}
-use Rattle.std.specs.Prelude.{filter}
-use Rattle.std.specs.List.{range_with_len}
-use Rattle.tsd_model.specs.Pairs.{is_pair, holds}
-use Rattle.tsd_model.specs.World.{World, is_live, has_number}
-use Rattle.tsd_model.specs.Doomed.{doomed, settle}
-use Rattle.tsd_model.specs.Step.{without_pointer}
+use Rattle.graph_laws.proofs.Common.{and_parts, false_from_ne_true, both_ways, not-true, eqb-true, filter_agree, filter, range_with_len, is_pair, holds, World, is_live, has_number, doomed, settle, without_pointer, stays, doomed_pairs, IsLaidOut, doomed_is_live}
 use Rattle.graph_laws.specs.Changes.{IsDoomedBesides}
-use Rattle.graph_laws.specs.Counts.{stays, doomed_pairs}
-use Rattle.graph_laws.specs.RawGraph.{IsLaidOut}
 use Rattle.graph_laws.proofs.CountLaws.{filter_twice}
-use Rattle.disk_laws.proofs.ReclaimLaws.{doomed_is_live}
 use Rattle.graph_laws.proofs.SettleLaws.{live-settle, length-settle, holds-settle}
 use Rattle.graph_laws.proofs.CommuteLaws.{doomed-less}
 use Rattle.graph_laws.proofs.WeightLaws.{doomed_listed}

@@ -1,12 +1,6 @@
 -- Worked examples: what the words answer for a small graph, by computing.
 use Rattle.std.specs.Prelude.{◌≡◌, true, false, [], ◌∷◌, refl}
-use Rattle.tsd_model.specs.World.{World, free_count}
-use Rattle.tsd_model.specs.Reach.{reach, swept}
-use Rattle.tsd_model.specs.Doomed.{doomed, settle}
-use Rattle.tsd_model.specs.Step.{without_pointer, with_pointer}
-use Rattle.graph_laws.specs.Counts.{kept_count, doomed_pairs}
-use Rattle.graph_laws.specs.Graph.{graph}
-use Rattle.graph_laws.specs.Steps.{stepped}
+use Rattle.graph_laws.proofs.Common.{World, free_count, reach, swept, doomed, settle, without_pointer, with_pointer, kept_count, doomed_pairs, graph, stepped}
 
 -- A disk of eight blocks, of which one is primary and 1 to 4 are live too. Blocks 1, 2 and 3 are a ring, block 4 leads to it, and nothing leads to block 4.
 abbrev ring : World

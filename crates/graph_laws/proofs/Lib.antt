@@ -1,3 +1,4 @@
+pub mod Common
 pub mod SameLaws
 pub mod SameGraphLaws
 pub mod DoomedLaws

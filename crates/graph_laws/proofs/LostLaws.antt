@@ -1,16 +1,7 @@
 -- Which blocks are lost after a pair or a block is taken away.
 use Rattle.std.proofs.Common.{◌≡◌, ℕ, ◌≤◌, Bool, true, false, not, ◌&&◌, ◌||◌, ◌==◌, List, [], ◌∷◌, refl, sym, ◌∙◌, ap, subst, ◌⊎◌, ◌↔◌, inl, inr, None}
-use Rattle.std.proofs.lemmas.Bool.{eq-eqb, eqb-true, and_parts, and_cases, both_ways, cases_eq, ne_eqb, not-false, false_from_ne_true}
-use Rattle.std.proofs.lemmas.List.{get_or-set_same, get_or-set_other}
-use Rattle.std.specs.Prelude.{is_some, slice_index_or}
-use Rattle.tsd_model.specs.Pairs.{holds, count_to}
-use Rattle.tsd_model.specs.World.{World, is_live, has_number}
-use Rattle.tsd_model.specs.Step.{without_pointer}
-use Rattle.tsd_model.specs.declared.geometry.Geometry.{Geometry}
-use Rattle.disk_laws.proofs.DoomLaws.{live_below}
-use Rattle.graph_laws.specs.RawGraph.{IsRawGraph}
-use Rattle.graph_laws.specs.Steps.{with_free, without_pointers, stepped, IsStep, IsLost}
-use Rattle.tsd_model.proofs.CountLaws.{none_pass, none_passes}
+use Rattle.graph_laws.proofs.Common.{eq-eqb, eqb-true, and_parts, and_cases, both_ways, cases_eq, ne_eqb, not-false, false_from_ne_true, get_or-set_same, get_or-set_other, slice_index_or, holds, count_to, World, is_live, has_number, without_pointer, Geometry, live_below, IsRawGraph, with_free, without_pointers, stepped, IsStep, IsLost, none_pass, none_passes}
+use Rattle.std.specs.Prelude.{is_some}
 use Rattle.graph_laws.proofs.CountLaws.{led_or_alone}
 use Rattle.graph_laws.proofs.StepLaws.{blocks-without_pointers, geometry-without_pointers, holds-without_pointers, lost-without_pointers}
 

@@ -1,22 +1,9 @@
 -- Marking pair by pair finds exactly the doomed blocks.
 use Rattle.std.proofs.Common.{◌≡◌, ℕ, suc, ◌+◌, ◌<◌, Bool, true, false, not, cond, ◌&&◌, ◌||◌, ◌==◌, List, [], ◌∷◌, length, refl, sym, ◌∙◌, ap, subst, arith, inl, inr}
-use Rattle.std.proofs.lemmas.Bool.{eq-eqb, eqb-true, ne_eqb, and_parts, and_from, and_cases, and_left, and_right, not-true, not-false, both_ways, cases_eq, false_from_ne_true, or_cases, or_left, or_right}
-use Rattle.std.proofs.lemmas.List.Elements.{filter_agree}
-use Rattle.std.specs.Prelude.{filter}
-use Rattle.std.specs.List.{range_with_len}
-use Rattle.tsd_model.specs.Pairs.{is_pair, holds, is_rising, without_pair}
-use Rattle.tsd_model.specs.World.{World, is_live, is_primary, has_number}
-use Rattle.tsd_model.specs.Doomed.{doomed}
-use Rattle.tsd_model.specs.Step.{without_pointer}
-use Rattle.disk_laws.proofs.DoomLaws.{not_primary}
-use Rattle.tsd_model.proofs.PairLaws.{holds-filter, is_pair_ext, is_pair_same, same_tests}
-use Rattle.graph_laws.specs.Counts.{count_where, kept_count, doomed_pairs}
+use Rattle.graph_laws.proofs.Common.{eq-eqb, eqb-true, ne_eqb, and_parts, and_from, and_cases, and_left, and_right, not-true, not-false, both_ways, cases_eq, false_from_ne_true, or_cases, or_left, or_right, filter_agree, filter, range_with_len, is_pair, holds, is_rising, without_pair, World, is_live, is_primary, has_number, doomed, without_pointer, not_primary, holds-filter, is_pair_ext, is_pair_same, same_tests, count_where, kept_count, doomed_pairs, IsLaidOut, IsRawGraph, doomed_is_live, filter_held, none_pass, none_passes, count-without_pair}
 use Rattle.graph_laws.specs.Marking.{IsMarking, IsMarkingBut, IsCountedOff}
-use Rattle.graph_laws.specs.RawGraph.{IsLaidOut, IsRawGraph}
-use Rattle.disk_laws.proofs.ReclaimLaws.{doomed_is_live}
 use Rattle.graph_laws.proofs.DoomedLaws.{doomed_least, doomed_from, doomed_is_no_primary, source_is_doomed}
 use Rattle.graph_laws.proofs.SettleLaws.{stays_doomed}
-use Rattle.tsd_model.proofs.CountLaws.{filter_held, none_pass, none_passes, count-without_pair}
 use Rattle.graph_laws.proofs.CountLaws.{count_but_number, count_but_pair}
 
 -- ---- the steps

@@ -1,20 +1,7 @@
 -- Raw graphs, and what keeps a world raw.
 use Rattle.std.proofs.Common.{◌≡◌, ℕ, zero, suc, ◌<◌, ◌≤◌, ◌⊎◌, Bool, true, List, [], ◌∷◌, length, refl, sym, ◌∙◌, ap, subst, arith, inl, inr, Option, None}
-use Rattle.std.proofs.lemmas.Bool.{and_parts, and_from, both_ways, cases_eq}
-use Rattle.std.proofs.lemmas.List.{get_or-set_other, length-set}
-use Rattle.std.specs.Prelude.{is_some, slice_index_or, slice_set, IfSome}
-use Rattle.std.specs.List.{list_all}
-use Rattle.tsd_model.specs.Geometry.{block_len}
-use Rattle.tsd_model.specs.Pairs.{holds}
-use Rattle.tsd_model.specs.Records.{is_record_of}
-use Rattle.tsd_model.specs.World.{World, contents, is_live}
-use Rattle.tsd_model.specs.Reach.{restricted}
-use Rattle.tsd_model.specs.Valid.{IsRaw}
-use Rattle.tsd_model.proofs.SizeLaws.{length-filter_le}
-use Rattle.tsd_model.proofs.PairLaws.{holds-filter, is_rising-filter}
-use Rattle.disk_laws.proofs.DoomLaws.{live-restricted, holds-restricted}
-use Rattle.graph_laws.specs.RawGraph.{IsLaidOut, IsRawGraph}
-use Rattle.graph_laws.specs.Steps.{with_pairs_that, with_free, IsAlone}
+use Rattle.graph_laws.proofs.Common.{and_parts, and_from, both_ways, cases_eq, get_or-set_other, length-set, slice_index_or, slice_set, IfSome, list_all, block_len, holds, is_record_of, World, contents, is_live, restricted, IsRaw, length-filter_le, holds-filter, is_rising-filter, live-restricted, holds-restricted, IsLaidOut, IsRawGraph, with_pairs_that, with_free, IsAlone}
+use Rattle.std.specs.Prelude.{is_some}
 use Rattle.graph_laws.proofs.SameLaws.{length-restricted}
 
 pub raw_is_laid_out : (w : World) → IsRaw w → IsLaidOut w

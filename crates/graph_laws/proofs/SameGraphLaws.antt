@@ -1,24 +1,9 @@
 -- What depends on the graph of a world alone.
 use Rattle.std.proofs.Common.{◌≡◌, ℕ, zero, suc, ◌<◌, ◌≤◌, Bool, true, false, not, ◌&&◌, ◌||◌, ◌==◌, nat_lt, List, [], ◌∷◌, length, refl, sym, ◌∙◌, ap, subst, inl, inr, Option, None}
-use Rattle.std.proofs.lemmas.Bool.{cases_eq, eq-eqb, ne_eqb, and_right}
-use Rattle.std.proofs.lemmas.List.{get_or-set_other, length-set}
-use Rattle.std.specs.Prelude.{filter, is_some, slice_index_or, slice_set}
-use Rattle.std.specs.List.{range_with_len, list_all, list_any}
-use Rattle.tsd_model.specs.Pairs.{holds, is_rising, without_pair}
-use Rattle.tsd_model.specs.Geometry.{IsLawful}
-use Rattle.tsd_model.specs.World.{World, free_count, is_live, primary_blocks, has_number}
-use Rattle.tsd_model.specs.Reach.{reach_rounds, reach, restricted, swept}
-use Rattle.tsd_model.specs.Doomed.{doomed_rounds, doomed, settle}
-use Rattle.tsd_model.specs.Step.{with_contents, without_pointer}
-use Rattle.tsd_model.specs.declared.geometry.Geometry.{Geometry}
-use Rattle.tsd_model.specs.declared.records.Record.{Record}
+use Rattle.graph_laws.proofs.Common.{cases_eq, eq-eqb, ne_eqb, and_right, get_or-set_other, length-set, filter, slice_index_or, slice_set, range_with_len, list_all, list_any, holds, is_rising, without_pair, IsLawful, World, free_count, is_live, primary_blocks, has_number, reach_rounds, reach, restricted, swept, doomed_rounds, doomed, settle, with_contents, without_pointer, Geometry, Record, live-restricted, stays, kept_count, doomed_pairs, HasGraphOf, AreAsOne, StayAsOne, IsLaidOut, IsRawGraph, with_free, without_pointers, stepped, IsStep, IsLost}
+use Rattle.std.specs.Prelude.{is_some}
 use Rattle.disk_laws.specs.Bytes.{AreLike}
 use Rattle.disk_laws.proofs.ByteLaws.{contents_like, free_count_like}
-use Rattle.disk_laws.proofs.DoomLaws.{live-restricted}
-use Rattle.graph_laws.specs.Counts.{stays, kept_count, doomed_pairs}
-use Rattle.graph_laws.specs.Graph.{HasGraphOf, AreAsOne, StayAsOne}
-use Rattle.graph_laws.specs.RawGraph.{IsLaidOut, IsRawGraph}
-use Rattle.graph_laws.specs.Steps.{with_free, without_pointers, stepped, IsStep, IsLost}
 use Rattle.graph_laws.proofs.SameLaws.{length-restricted}
 
 -- ---- rounds

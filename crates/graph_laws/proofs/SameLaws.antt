@@ -1,13 +1,6 @@
 -- Worlds that hold the same are one.
 use Rattle.std.proofs.Common.{◌≡◌, ℕ, Bool, true, false, cond, ◌&&◌, List, length, refl, sym, ◌∙◌, Option, Some, None, is_some}
-use Rattle.std.proofs.lemmas.List.{ext_get_or}
-use Rattle.std.proofs.lemmas.List.FromFn.{length-map-range_with_len}
-use Rattle.tsd_model.specs.Pairs.{holds, is_rising}
-use Rattle.tsd_model.specs.World.{World, contents, is_live}
-use Rattle.tsd_model.specs.Reach.{restricted}
-use Rattle.tsd_model.proofs.SizeLaws.{contents-restricted}
-use Rattle.disk_laws.proofs.DoomLaws.{holds-restricted}
-use Rattle.tsd_model.proofs.PairLaws.{is_rising-filter, rising_same}
+use Rattle.graph_laws.proofs.Common.{ext_get_or, length-map-range_with_len, holds, is_rising, World, contents, is_live, restricted, contents-restricted, holds-restricted, is_rising-filter, rising_same}
 
 -- ---- worlds
 

@@ -1,21 +1,8 @@
 -- What settling leaves, and which steps it doesn't see.
 use Rattle.std.proofs.Common.{◌≡◌, ℕ, Bool, true, false, not, cond, ◌&&◌, ◌==◌, List, [], ◌∷◌, length, refl, sym, ◌∙◌, ap, subst, inl, inr, Option, None}
-use Rattle.std.proofs.lemmas.Bool.{eq-eqb, and_parts, and_from, and_left, both_ways, cases_Bool, cases_eq, false_from_ne_true, ltb-false, or_left}
-use Rattle.std.proofs.lemmas.List.{length-set}
+use Rattle.graph_laws.proofs.Common.{eq-eqb, and_parts, and_from, and_left, both_ways, cases_Bool, cases_eq, false_from_ne_true, ltb-false, or_left, length-set, holds, is_rising, World, contents, is_live, has_number, doomed, settle, IsRaw, IsValid, contents-restricted, holds-filter, is_rising-filter, same_tests, live-restricted, holds-restricted, settle_is_valid, not_primary, target_stays, source_stays, stays, IsLaidOut, IsRawGraph, EachIsLedTo, with_pairs_that, with_free, IsLost, doomed_is_live}
 use Rattle.std.specs.Prelude.{is_some}
-use Rattle.tsd_model.specs.Pairs.{holds, is_rising}
-use Rattle.tsd_model.specs.World.{World, contents, is_live, has_number}
-use Rattle.tsd_model.specs.Doomed.{doomed, settle}
-use Rattle.tsd_model.specs.Valid.{IsRaw, IsValid}
-use Rattle.tsd_model.proofs.SizeLaws.{contents-restricted}
-use Rattle.tsd_model.proofs.PairLaws.{holds-filter, is_rising-filter, same_tests}
-use Rattle.disk_laws.proofs.DoomLaws.{live-restricted, holds-restricted, settle_is_valid, not_primary, target_stays, source_stays}
-use Rattle.graph_laws.specs.Counts.{stays}
-use Rattle.graph_laws.specs.RawGraph.{IsLaidOut, IsRawGraph}
-use Rattle.graph_laws.specs.Settling.{EachIsLedTo}
-use Rattle.graph_laws.specs.Steps.{with_pairs_that, with_free, IsLost}
 use Rattle.graph_laws.proofs.SameLaws.{length-restricted, restricted_same, restricted_whole}
-use Rattle.disk_laws.proofs.ReclaimLaws.{doomed_is_live}
 use Rattle.graph_laws.proofs.DoomedLaws.{doomed_least, doomed_least_of, doomed_is_no_primary, doomed_from, doomed_in, stays_by_pairs}
 use Rattle.graph_laws.proofs.RawGraphLaws.{graph-restricted, laid_out-with_free, contents-with_free, contents-freed}
 

@@ -1,19 +1,7 @@
 -- Steps of reclamation keep what a raw world settles to.
 use Rattle.std.proofs.Common.{◌≡◌, ℕ, zero, suc, ◌≤◌, Bool, true, false, not, ◌&&◌, ◌||◌, ◌==◌, ◌⊎◌, inl, inr, List, [], ◌∷◌, length, refl, sym, ◌∙◌, ap, subst, arith}
-use Rattle.std.proofs.lemmas.Bool.Decides.{nat_tests}
-use Rattle.std.specs.Prelude.{is_some, slice_index_or, None}
-use Rattle.std.proofs.lemmas.Bool.{ltb-false, eq-eqb, eqb-true, and_parts, not-true, not-false, both_ways, false_from_ne_true, or_left}
-use Rattle.tsd_model.specs.Pairs.{is_pair, holds}
-use Rattle.tsd_model.specs.World.{World, is_live, is_primary, has_number, all_blocks}
-use Rattle.tsd_model.specs.Doomed.{is_led_only_from, hangs_on, doomed_round, doomed_rounds, doomed, settle}
-use Rattle.tsd_model.specs.Step.{without_pointer}
-use Rattle.tsd_model.specs.Valid.{IsRaw}
-use Rattle.tsd_model.specs.declared.geometry.Geometry.{Geometry}
-use Rattle.disk_laws.proofs.GraphLaws.{has_number-filter}
-use Rattle.tsd_model.proofs.PairLaws.{holds-filter}
-use Rattle.disk_laws.proofs.ChangeLaws.{raw-without_pointer}
-use Rattle.graph_laws.specs.RawGraph.{IsLaidOut, IsRawGraph}
-use Rattle.graph_laws.specs.Steps.{without_pointers, stepped, IsStep, IsLost, IsAlone}
+use Rattle.graph_laws.proofs.Common.{nat_tests, slice_index_or, ltb-false, eq-eqb, eqb-true, and_parts, not-true, not-false, both_ways, false_from_ne_true, or_left, is_pair, holds, World, is_live, is_primary, has_number, all_blocks, is_led_only_from, hangs_on, doomed_round, doomed_rounds, doomed, settle, without_pointer, IsRaw, Geometry, has_number-filter, holds-filter, raw-without_pointer, IsLaidOut, IsRawGraph, without_pointers, stepped, IsStep, IsLost, IsAlone}
+use Rattle.std.specs.Prelude.{is_some, None}
 use Rattle.graph_laws.proofs.DoomedLaws.{led_by}
 use Rattle.graph_laws.proofs.RawGraphLaws.{laid_out-with_pairs_that, graph-with_pairs_that, graph-with_free, raw-with_free}
 use Rattle.graph_laws.proofs.SettleLaws.{same_doomed, settle-with_pairs_that, lost_is_doomed, settle-with_free}

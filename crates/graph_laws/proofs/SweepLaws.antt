@@ -1,23 +1,8 @@
 -- Which blocks are reached, by the rule alone, and which steps keep the world on them.
 use Rattle.std.proofs.Common.{◌≡◌, ℕ, zero, suc, ◌+◌, ◌<◌, ◌≤◌, Bool, true, false, not, cond, ◌&&◌, ◌||◌, ◌==◌, nat_lt, nat_le, List, [], ◌∷◌, refl, sym, ◌∙◌, ap, subst, arith, ◌⊎◌, inl, inr, Option, None}
-use Rattle.std.proofs.lemmas.Bool.{eqb-true, and_parts, and_from, both_ways, cases_Bool, cases_eq, cases_lt, false_from_ne_true, not-false, or_cases, or_left, or_right, or_from, and_left, eq-eqb, ne_eqb, ltb-true, ltb-false}
-use Rattle.std.proofs.lemmas.List.{length-set}
-use Rattle.std.specs.Prelude.{map, is_some, slice_index_or}
-use Rattle.tsd_model.specs.Pairs.{is_pair, holds}
-use Rattle.tsd_model.specs.World.{World, contents, is_live, all_blocks, primary_blocks, has_number}
-use Rattle.tsd_model.specs.Reach.{is_led_from, reach_rounds, reach, swept}
-use Rattle.tsd_model.specs.Doomed.{doomed, settle}
-use Rattle.tsd_model.specs.Step.{without_pointer}
-use Rattle.tsd_model.specs.Valid.{IsRaw, IsValid}
-use Rattle.tsd_model.specs.declared.geometry.Geometry.{Geometry}
-use Rattle.disk_laws.proofs.GraphLaws.{has_number-filter, has_number-range}
-use Rattle.tsd_model.proofs.PairLaws.{holds-filter, is_rising-filter, same_tests}
-use Rattle.disk_laws.proofs.DoomLaws.{live-restricted, holds-restricted}
+use Rattle.graph_laws.proofs.Common.{eqb-true, and_parts, and_from, both_ways, cases_Bool, cases_eq, cases_lt, false_from_ne_true, not-false, or_cases, or_left, or_right, or_from, and_left, eq-eqb, ne_eqb, ltb-true, ltb-false, length-set, map, slice_index_or, is_pair, holds, World, contents, is_live, all_blocks, primary_blocks, has_number, is_led_from, reach_rounds, reach, swept, doomed, settle, without_pointer, IsRaw, IsValid, Geometry, has_number-filter, has_number-range, holds-filter, is_rising-filter, same_tests, live-restricted, holds-restricted, stays, graph, IsRawGraph, with_pairs_that, with_free, without_pointers, stepped, IsStep, IsAlone}
+use Rattle.std.specs.Prelude.{is_some}
 use Rattle.disk_laws.proofs.ReachLaws.{found_any, target_reached as raw_target_reached, primary_reached as raw_primary_reached, reached_is_led_to as raw_reached_is_led_to, swept_is_valid}
-use Rattle.graph_laws.specs.Counts.{stays}
-use Rattle.graph_laws.specs.Graph.{graph}
-use Rattle.graph_laws.specs.RawGraph.{IsRawGraph}
-use Rattle.graph_laws.specs.Steps.{with_pairs_that, with_free, without_pointers, stepped, IsStep, IsAlone}
 use Rattle.graph_laws.specs.Sweeping.{FollowsPairs, SweepsAs}
 use Rattle.graph_laws.proofs.SameLaws.{restricted_same, restricted_whole}
 use Rattle.graph_laws.proofs.SameGraphLaws.{reach_by_graph}

@@ -1,21 +1,7 @@
 -- The world that tables tell.
 use Rattle.std.proofs.Common.{◌≡◌, ℕ, zero, suc, ◌<◌, ◌≤◌, Bool, true, false, cond, ◌&&◌, nat_lt, List, [], ◌∷◌, length, refl, sym, ◌∙◌, ap, subst, arith, inl, inr, Some, None}
-use Rattle.std.proofs.lemmas.Bool.{cases_eq, cases_lt, lt-ltb, le-ltb}
-use Rattle.std.proofs.lemmas.List.{get_or-set_same, get_or-set_other, get_or_past, length-set, length-replicate, ext_get_or}
-use Rattle.std.proofs.lemmas.List.FromFn.{length-map-range_with_len, get_or-map-range_with_len}
-use Rattle.std.specs.Prelude.{replicate, is_some, slice_index_or, slice_set, IfSome}
-use Rattle.std.specs.List.{list_all}
-use Rattle.tsd_model.specs.Geometry.{block_len}
-use Rattle.tsd_model.specs.Records.{is_record_of}
-use Rattle.tsd_model.specs.World.{World, contents, is_live}
-use Rattle.tsd_model.specs.Step.{with_contents}
-use Rattle.tsd_model.specs.Valid.{IsRaw}
-use Rattle.tsd_model.specs.declared.geometry.Geometry.{Geometry}
-use Rattle.tsd_model.specs.declared.records.Record.{Record}
-use Rattle.disk_laws.proofs.ChangeLaws.{contents-other, contents-same}
-use Rattle.graph_laws.specs.Graph.{world_with, zeros_in, no_record, graph, HasGraphOf}
-use Rattle.graph_laws.specs.RawGraph.{IsRawGraph}
-use Rattle.graph_laws.specs.Steps.{with_free}
+use Rattle.graph_laws.proofs.Common.{cases_eq, cases_lt, lt-ltb, le-ltb, get_or-set_same, get_or-set_other, get_or_past, length-set, length-replicate, ext_get_or, length-map-range_with_len, get_or-map-range_with_len, replicate, slice_index_or, slice_set, IfSome, list_all, block_len, is_record_of, World, contents, is_live, with_contents, IsRaw, Geometry, Record, contents-other, contents-same, world_with, zeros_in, no_record, graph, HasGraphOf, IsRawGraph, with_free}
+use Rattle.std.specs.Prelude.{is_some}
 use Rattle.graph_laws.proofs.RawGraphLaws.{contents-with_free, contents-freed}
 
 -- ---- its blocks

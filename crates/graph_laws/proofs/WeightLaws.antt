@@ -1,25 +1,10 @@
 -- How much is doomed, and how much less of it each step leaves.
 use Rattle.std.proofs.Common.{◌≡◌, ℕ, zero, suc, ◌+◌, ◌<◌, Bool, true, false, not, cond, ◌&&◌, ◌||◌, ◌==◌, List, [], ◌∷◌, length, refl, sym, ◌∙◌, ap, subst, arith, inl, inr, Option, Some, None}
-use Rattle.std.proofs.lemmas.Bool.{eq-eqb, and_parts, and_from, both_ways, cases_eq, ne_eqb, not-true, and_right, or_left, or_right}
-use Rattle.std.proofs.lemmas.List.{length-set, ext_get_or}
-use Rattle.std.proofs.lemmas.List.FromFn.{length-map-range_with_len, get_or-map-range_with_len}
+use Rattle.graph_laws.proofs.Common.{eq-eqb, and_parts, and_from, both_ways, cases_eq, ne_eqb, not-true, and_right, or_left, or_right, length-set, ext_get_or, length-map-range_with_len, get_or-map-range_with_len, filter_agree, slice_index_or, filter, map, count_by, range_with_len, is_pair, holds, World, contents, is_live, all_blocks, has_number, free_count, are_apart, hangs_on, doomed_rounds, doomed, settle, without_pointer, holds-filter, live_below, kept_count, doomed_pairs, IsLaidOut, with_free, without_pointers, stepped, AreTargets, IsStep, IsLost, filter_held, count-without_pair, doomed_is_live}
 use Rattle.std.proofs.lemmas.List.Filters.{length-filter_both}
 use Rattle.std.proofs.lemmas.List.Sums.{sum_by-set, sum_by-cons}
-use Rattle.std.proofs.lemmas.List.Elements.{filter_agree}
-use Rattle.std.specs.Prelude.{slice_index_or, filter, map, is_none, is_some, count_by}
-use Rattle.std.specs.List.{range_with_len}
-use Rattle.tsd_model.specs.Pairs.{is_pair, holds}
-use Rattle.tsd_model.specs.World.{World, contents, is_live, all_blocks, has_number, free_count, are_apart}
-use Rattle.tsd_model.specs.Doomed.{hangs_on, doomed_rounds, doomed, settle}
-use Rattle.tsd_model.specs.Step.{without_pointer}
-use Rattle.tsd_model.proofs.PairLaws.{holds-filter}
-use Rattle.disk_laws.proofs.DoomLaws.{live_below}
-use Rattle.graph_laws.specs.Counts.{kept_count, doomed_pairs}
-use Rattle.graph_laws.specs.RawGraph.{IsLaidOut}
-use Rattle.graph_laws.specs.Steps.{with_free, without_pointers, stepped, AreTargets, IsStep, IsLost}
-use Rattle.tsd_model.proofs.CountLaws.{filter_held, count-without_pair}
+use Rattle.std.specs.Prelude.{is_none, is_some}
 use Rattle.graph_laws.proofs.CountLaws.{filter_self, count_but_number}
-use Rattle.disk_laws.proofs.ReclaimLaws.{doomed_is_live}
 use Rattle.graph_laws.proofs.SettleLaws.{contents-settle, length-settle, doomed_freed, freed_is_not_doomed, lost_is_doomed}
 use Rattle.graph_laws.proofs.StepLaws.{doomed-without_pointer, doomed-without_pointers, laid_out-without_pointer, laid_out-without_pointers, blocks-without_pointers}
 

@@ -1,16 +1,8 @@
 -- A level of a search, one pair after another.
 use Rattle.std.proofs.Common.{◌≡◌, ℕ, zero, suc, ◌+◌, ◌<◌, Bool, true, false, not, ◌&&◌, ◌||◌, ◌==◌, List, [], ◌∷◌, ◌++◌, length, refl, sym, ◌∙◌, ap, subst, arith, inl, inr, Option, Some, None}
-use Rattle.std.proofs.lemmas.Bool.{or_cases, or_left, or_right, cases_lt, cases_eq, eq-eqb, eqb-true, ne_eqb, both_ways}
-use Rattle.std.proofs.lemmas.Bool.Decides.{nat_tests}
-use Rattle.std.proofs.lemmas.List.{append-nil, get_or-set_same, get_or-set_other}
-use Rattle.std.specs.Prelude.{cond, slice_set, slice_index_or}
-use Rattle.tsd_model.specs.Pairs.{holds}
-use Rattle.tsd_model.specs.Next.{IsNextTarget}
-use Rattle.tsd_model.specs.World.{World, has_number}
+use Rattle.image_audit.proofs.Common.{or_cases, or_left, or_right, cases_lt, cases_eq, eq-eqb, eqb-true, ne_eqb, both_ways, nat_tests, append-nil, get_or-set_same, get_or-set_other, slice_set, slice_index_or, holds, IsNextTarget, World, has_number, Entry, entry_at, is_listed, noted, IsSearching, root_entry, HasRoots, NoneSeen, SeenFrom, SeenTo}
+use Rattle.std.specs.Prelude.{cond}
 use Rattle.reclaim.proofs.HeldLaws.{has-push}
-use Rattle.image_audit.specs.declared.entry.Entry.{Entry}
-use Rattle.image_audit.specs.Entries.{entry_at, is_listed}
-use Rattle.image_audit.specs.Searching.{noted, IsSearching, root_entry, HasRoots, NoneSeen, SeenFrom, SeenTo}
 use Rattle.image_audit.proofs.SearchLaws.{noted_goes_on, level_done}
 
 -- where the same pairs were looked at, the search is the same

@@ -1,3 +1,4 @@
+pub mod Common
 pub mod PathLaws
 pub mod SearchLaws
 pub mod PageLaws

@@ -1,24 +1,15 @@
 -- The line of a block in a certificate, read and spelled; and which block may follow.
 use Rattle.std.proofs.Common.{◌≡◌, ℕ, zero, suc, ◌+◌, ◌<◌, ◌≤◌, true, false, not, cond, ◌==◌, nat_lt, List, [], ◌∷◌, length, take, refl, sym, ◌∙◌, ap, subst, arith, Option, Some, None}
-use Rattle.std.specs.Prelude.{codes, bytes_eq, option_map, unwrap_or, Result, Ok, Err, OnOk, OnErr}
-use Rattle.std.specs.List.{list_all, join_with_byte}
+use Rattle.image_audit.proofs.Common.{codes, bytes_eq, option_map, unwrap_or, Result, Ok, Err, OnOk, OnErr, list_all, join_with_byte, and_from, ltb-true, ltb-false, length-append, length-take, nat_tests, pieces, join-pieces, pieces-join, lacks, Entry, Listing, parent_word, listing_fields, IsListing, IsAdded, ListsNone, IsListingTaken, IsNotTaken, MayFollow, IsNextBlock, keyword, block_in, parent_of, if_last, listing_in, listing_of}
 use Rattle.std.specs.Char.{is_ascii_digit}
-use Rattle.std.proofs.lemmas.Bool.{and_from, ltb-true, ltb-false}
-use Rattle.std.proofs.lemmas.List.{length-append, length-take}
-use Rattle.std.proofs.lemmas.Bool.Decides.{nat_tests}
 use Rattle.std.proofs.lemmas.Slice.Eq.{bytes_eq-Decides}
 use Rattle.tsd_model.specs.declared.requests.Hint.{Hint}
 use Rattle.tsd_model.specs.declared.requests.Hint.TheVariants.{Null, At}
 use Rattle.script_text.specs.Grammar.{Field, Verb, Number, Near, IsNumber, IsHint, IsField, AreFields}
-use Rattle.script_text.specs.Pieces.{pieces}
 use Rattle.script_text.specs.Reading.{reads, num_of, hint_of, Words, ◌>>=◌}
-use Rattle.script_text.proofs.PiecesLaws.{join-pieces, pieces-join, lacks, take_all}
+use Rattle.script_text.proofs.PiecesLaws.{take_all}
 use Rattle.script_text.proofs.SpellingLaws.{bind_some, weaker}
 use Rattle.script_text.proofs.WordLaws.{are_digits, num_is, num_back, hint_is, hint_back}
-use Rattle.image_audit.specs.declared.entry.Entry.{Entry}
-use Rattle.image_audit.specs.declared.listing.Listing.{Listing}
-use Rattle.image_audit.specs.Listing.{parent_word, listing_fields, IsListing, IsAdded, ListsNone, IsListingTaken, IsNotTaken, MayFollow, IsNextBlock}
-use Rattle.image_audit.specs.ListingReading.{keyword, block_in, parent_of, if_last, listing_in, listing_of}
 
 -- ---- what one word says
 

@@ -1,18 +1,12 @@
 -- The targets of a block one after another.
 use Rattle.std.proofs.Common.{◌≡◌, ℕ, zero, suc, ◌+◌, ◌<◌, ◌≤◌, true, false, cond, ◌&&◌, ◌==◌, nat_le, List, [], ◌∷◌, length, take, drop, refl, sym, ◌∙◌, ap, subst, arith, inl, inr, Some, None, drop-cons}
-use Rattle.std.proofs.lemmas.Bool.{or_cases, or_left, or_right, and_parts, and_from, eqb-true, eq-eqb, leb-true, le-leb, both_ways, cases_lt, cases_Bool}
-use Rattle.std.proofs.lemmas.Bool.Decides.{nat_tests}
-use Rattle.std.specs.Prelude.{filter, map, slice_index_or}
-use Rattle.tsd_model.specs.Pairs.{holds, is_pair, is_rising, is_below_first, pair_lt}
-use Rattle.tsd_model.specs.Next.{IsNextTarget}
+use Rattle.image_audit.proofs.Common.{or_cases, or_left, or_right, and_parts, and_from, eqb-true, eq-eqb, leb-true, le-leb, both_ways, cases_lt, cases_Bool, nat_tests, filter, map, slice_index_or, holds, is_pair, is_rising, is_below_first, pair_lt, IsNextTarget, above_first, is_rising-filter, targets_on, left_in, IsPageOf, HasRest}
 use Rattle.tsd_model.specs.Step.{targets_from}
-use Rattle.tsd_model.proofs.PairLaws.{above_first, is_rising-filter}
 use Rattle.pointer_table.proofs.NextLaws.{first_target}
 use Rattle.pointer_table.proofs.SlotLaws.{rising-pairs_in}
 use Rattle.image_world.specs.Tables.{Tables, pairs_of}
 use Rattle.image_world.specs.Raw.{world_with, left_of, blank_of}
 use Rattle.image_audit.specs.declared.targets.Targets.{Targets}
-use Rattle.image_audit.specs.Paging.{targets_on, page_rest as left_in, IsPageOf, HasRest}
 
 -- the pairs that a volume tells ascend
 pub told_rising : (t : Tables) → is_rising (blank_of t).pairs ≡ true

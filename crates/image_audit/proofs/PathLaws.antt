@@ -1,17 +1,7 @@
 -- What is reached is what a path leads to.
 use Rattle.std.proofs.Common.{◌≡◌, ℕ, zero, suc, ◌+◌, ◌-◌, ◌<◌, ◌≤◌, true, ◌&&◌, ◌==◌, List, [], ◌∷◌, length, refl, sym, ◌∙◌, ap, subst, arith, inl, inr}
-use Rattle.std.proofs.lemmas.Bool.{and_parts, and_from, or_cases, eqb-true, or_left, or_right, cases_lt}
-use Rattle.std.specs.Prelude.{filter}
-use Rattle.std.specs.List.{list_any}
-use Rattle.tsd_model.proofs.PairLaws.{same_tests}
-use Rattle.tsd_model.specs.Pairs.{holds, is_pair}
-use Rattle.tsd_model.specs.World.{World, all_blocks, has_number}
-use Rattle.tsd_model.specs.Reach.{is_led_from, reach_round, reach_rounds, reach_from}
-use Rattle.disk_laws.proofs.GraphLaws.{has_number-filter, length-range, rounds_from, from_end}
-use Rattle.disk_laws.proofs.DoomLaws.{live_below, in_all}
+use Rattle.image_audit.proofs.Common.{and_parts, and_from, or_cases, eqb-true, or_left, or_right, cases_lt, filter, list_any, same_tests, holds, is_pair, World, all_blocks, has_number, is_led_from, reach_round, reach_rounds, reach_from, has_number-filter, length-range, rounds_from, from_end, live_below, in_all, IsPath, IsWholeWorld, ReachedByPaths}
 use Rattle.disk_laws.proofs.ReachLaws.{leads, leads_stays, leads_grows, found_any}
-use Rattle.image_audit.specs.Depths.{IsPath}
-use Rattle.image_audit.specs.Laws.{IsWholeWorld, ReachedByPaths}
 
 -- the pair leads to b from one of these blocks
 led : (es : List (ℕ × ℕ)) (from : List ℕ) (a b : ℕ) → holds es a b ≡ true → has_number from a ≡ true → list_any (λ e. (e.1 == b) && has_number from e.0) es ≡ true

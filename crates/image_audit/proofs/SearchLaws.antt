@@ -1,18 +1,8 @@
 -- A search level by level finds depths and parents.
 use Rattle.std.proofs.Common.{◌≡◌, ℕ, zero, suc, ◌<◌, ◌≤◌, Bool, true, false, not, ◌&&◌, ◌||◌, ◌==◌, List, [], ◌∷◌, length, refl, sym, ◌∙◌, ap, subst, arith, inl, inr, ◌⊎◌, Option, Some, None}
-use Rattle.std.proofs.lemmas.Bool.{and_parts, and_from, or_cases, eq-eqb, ne_eqb, eqb-true, or_left, or_right, cases_lt, cases_eq, cases_Bool, both_ways}
-use Rattle.std.specs.Prelude.{unwrap_or, min, cond, is_some, IfSome, slice_index_or}
-use Rattle.tsd_model.specs.Pairs.{holds}
-use Rattle.tsd_model.specs.World.{World, has_number}
-use Rattle.image_audit.specs.declared.entry.Entry.{Entry}
-use Rattle.image_audit.specs.Entries.{entry_at, is_listed}
-use Rattle.image_audit.specs.Depths.{IsPath, IsDepth, IsParent, IsEntryOf}
-use Rattle.tsd_model.specs.Reach.{reach_from}
-use Rattle.tsd_model.proofs.PairLaws.{same_tests}
-use Rattle.image_audit.specs.Depths.{AreReached}
-use Rattle.image_audit.specs.Laws.{IsWholeWorld}
+use Rattle.image_audit.proofs.Common.{and_parts, and_from, or_cases, eq-eqb, ne_eqb, eqb-true, or_left, or_right, cases_lt, cases_eq, cases_Bool, both_ways, unwrap_or, min, is_some, IfSome, slice_index_or, holds, World, has_number, Entry, entry_at, is_listed, IsPath, IsDepth, IsParent, IsEntryOf, reach_from, same_tests, AreReached, IsWholeWorld, lesser, noted, HasDepth, HasDepthTo, IsFirstSeen, IsSearching, IsSearched, root_entry, HasRoots, NoneSeen}
+use Rattle.std.specs.Prelude.{cond}
 use Rattle.image_audit.proofs.PathLaws.{path_of_round, reached_by_path}
-use Rattle.image_audit.specs.Searching.{lesser, noted, HasDepth, HasDepthTo, IsFirstSeen, IsSearching, IsSearched, root_entry, HasRoots, NoneSeen}
 
 pub same_entry : (e f : Entry) → Some e ≡ Some f → e ≡ f
 same_entry e f h = ap (λ o. unwrap_or o e) h

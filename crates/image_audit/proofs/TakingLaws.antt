@@ -1,15 +1,6 @@
 -- The lines of a certificate are taken one after another.
 use Rattle.std.proofs.Common.{◌≡◌, ℕ, zero, suc, ◌+◌, ◌<◌, Bool, true, false, List, [], ◌∷◌, ◌++◌, length, replicate, refl, sym, ◌∙◌, ap, subst, arith, Option, Some, None}
-use Rattle.std.proofs.lemmas.Bool.{both_ways}
-use Rattle.std.proofs.lemmas.List.{append_assoc, append-nil, length-append, length-replicate}
-use Rattle.std.specs.Prelude.{is_some, slice_set, unwrap_or}
-use Rattle.script_text.specs.Pieces.{pieces}
-use Rattle.image_audit.specs.declared.entry.Entry.{Entry}
-use Rattle.image_audit.specs.declared.listing.Listing.{Listing}
-use Rattle.image_audit.specs.Entries.{is_listed}
-use Rattle.image_audit.specs.Laws.{listings_from, AreTaken}
-use Rattle.image_audit.specs.Listing.{IsListing, MayFollow}
-use Rattle.image_audit.specs.ListingReading.{listing_in}
+use Rattle.image_audit.proofs.Common.{both_ways, append_assoc, append-nil, length-append, length-replicate, is_some, slice_set, unwrap_or, pieces, Entry, Listing, is_listed, listings_from, AreTaken, IsListing, MayFollow, listing_in}
 use Rattle.image_audit.proofs.ListingLaws.{line_back}
 
 -- so many places with nothing listed

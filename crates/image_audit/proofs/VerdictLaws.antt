@@ -1,17 +1,6 @@
 -- What a certificate shows that has all three things to show; and that a search's entries show them.
 use Rattle.std.proofs.Common.{◌≡◌, ℕ, zero, suc, ◌+◌, ◌<◌, true, false, ◌&&◌, nat_lt, nat_le, List, refl, sym, ◌∙◌, subst, arith, inl, inr, Option, Some, None}
-use Rattle.std.proofs.lemmas.Bool.{both_ways, cases_Bool, ltb-true}
-use Rattle.std.proofs.lemmas.Bool.Decides.{nat_tests}
-use Rattle.std.specs.Prelude.{is_some, IfSome, MatchBool}
-use Rattle.tsd_model.specs.Reach.{reach}
-use Rattle.tsd_model.specs.World.{World, has_number, is_primary, primary_blocks}
-use Rattle.tsd_model.proofs.PairLaws.{same_tests}
-use Rattle.disk_laws.proofs.GraphLaws.{has_number-range}
-use Rattle.image_audit.specs.declared.entry.Entry.{Entry}
-use Rattle.image_audit.specs.Entries.{entry_at, is_listed}
-use Rattle.image_audit.specs.Depths.{IsPath, IsDepth, IsParent, IsEntryOf, AreReached}
-use Rattle.image_audit.specs.Certificates.{IsPrimaryEntry, HasParent, IsGoodEntry, IsBad, ListsPrimaries, HasGoodEntries, IsClosed}
-use Rattle.image_audit.specs.Laws.{IsWholeWorld}
+use Rattle.image_audit.proofs.Common.{both_ways, cases_Bool, ltb-true, nat_tests, is_some, IfSome, MatchBool, reach, World, has_number, is_primary, primary_blocks, same_tests, has_number-range, Entry, entry_at, is_listed, IsPath, IsDepth, IsParent, IsEntryOf, AreReached, IsPrimaryEntry, HasParent, IsGoodEntry, IsBad, ListsPrimaries, HasGoodEntries, IsClosed, IsWholeWorld}
 use Rattle.image_audit.proofs.PathLaws.{reached_by_path, reached_at_path}
 
 module _ (w : World) (whole : IsWholeWorld w) (few : w.geometry.primaries < w.geometry.blocks) where

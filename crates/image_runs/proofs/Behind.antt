@@ -1,32 +1,13 @@
 -- What lies behind an image, from call to call.
 use Rattle.std.proofs.Common.{◌≡◌, inl, inr, ℕ, ◌+◌, ◌*◌, ◌≤◌, List, [], false, sym, ◌∙◌, ap, subst, arith}
 use Rattle.std.proofs.Math.Nat.{mul-le-mul_left}
-use Rattle.tsd_model.specs.World.{World}
-use Rattle.tsd_model.specs.Geometry.{IsLawful}
-use Rattle.tsd_model.specs.declared.geometry.Geometry.{Geometry}
+use Rattle.image_runs.proofs.Common.{World, IsLawful, Geometry, IsConfined, IsFirm, LeavesOnly, LeavesPart, View, IsLeftInPut, IsSound, joined, weakened, part_at_end, part_confined, total, home, LeavesBehind, behind, size_of_image, AreClosed, Stands, world_of, Tables, tables_of, geometry_left, told_like, aside_then, Core, IsCoreAt, state_on, at_rest, State, IsVolumeAt, Volume, AreSameBehind, LeavesSameBehind, LeavesSectorsBehind, sectors_behind}
 use Rattle.image_device.specs.Image.{Image}
-use Rattle.image_device.specs.Runs.{IsConfined, IsFirm, LeavesOnly, LeavesPart}
-use Rattle.image_device.specs.View.{View, IsLeftInPut, IsSound}
-use Rattle.image_device.proofs.Moments.{joined, weakened}
-use Rattle.image_device.proofs.Parts.{part_at_end, part_confined}
 use Rattle.image_device.proofs.Sets.{or_false}
-use Rattle.image_layout.specs.Areas.{total}
-use Rattle.intent_journal.specs.Home.{home}
 use Rattle.intent_journal.proofs.Opened.{home_of_empty, opened_none}
-use Rattle.image_world.specs.Behind.{LeavesBehind, behind, size_of_image}
-use Rattle.image_world.specs.Fresh.{AreClosed}
-use Rattle.image_world.specs.Stands.{Stands, world_of}
-use Rattle.image_world.specs.Tables.{Tables, tables_of}
-use Rattle.image_world.proofs.WorldLaws.{geometry_left, told_like}
 use Rattle.recovery.specs.Areas.{is_fresh}
-use Rattle.serving.proofs.Aside.{aside_then}
 use Rattle.tsd_core.proofs.BehindLaws.{behind_of_data}
-use Rattle.tsd_core.specs.Core.{Core, IsCoreAt, state_on}
-use Rattle.tsd_model.specs.Run.{at_rest}
-use Rattle.tsd_model.specs.Step.{State}
 use Rattle.volume_laws.specs.Data.{HasSameData}
-use Rattle.volume_laws.specs.Volume.{IsVolumeAt, Volume}
-use Rattle.image_runs.specs.Behind.{AreSameBehind, LeavesSameBehind, LeavesSectorsBehind, sectors_behind}
 use Rattle.image_runs.proofs.Saying.{put_behind}
 
 -- ---- the size of an image

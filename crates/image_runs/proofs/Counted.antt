@@ -1,14 +1,8 @@
 -- What a request did that is counted, by whether its reply was one.
 use Rattle.std.proofs.Common.{◌≡◌, ◌≢◌, ◌+◌, ℕ, Result, Ok, Err, OnOk, IfErr, subst}
-use Rattle.tsd_model.specs.Run.{IsAnswer}
-use Rattle.tsd_model.specs.Step.{State}
-use Rattle.tsd_model.specs.declared.replies.Reply.{Reply}
+use Rattle.image_runs.proofs.Common.{IsAnswer, State, Reply, PlaceKind, Request, Status, IsRequestNext, more_granted, more_refused}
 use Rattle.tsd_model.specs.declared.replies.Reply.TheVariants as replied
-use Rattle.tsd_model.specs.declared.requests.PlaceKind.{PlaceKind}
-use Rattle.tsd_model.specs.declared.requests.Request.{Request}
-use Rattle.tsd_words.specs.declared.status.Status.{Status}
 use Rattle.tsd_words.specs.declared.status.Status.TheVariants as status
-use Rattle.image_runs.specs.Applying.{IsRequestNext, more_granted, more_refused}
 
 pub on_ok : {T E P : Type 0} (r : Result T E) → P → OnOk r P
 on_ok (Ok x) p = p

@@ -1,11 +1,6 @@
 -- A disk that was formatted, and its lines put.
 use Rattle.std.proofs.Common.{◌≡◌, inl, inr, ℕ, List, sym, subst}
-use Rattle.image_device.specs.View.{View, IsPart, IsLeftInPut}
-use Rattle.image_device.specs.Runs.{IsFirm, LeavesOnly}
-use Rattle.image_layout.specs.Image.{Image}
-use Rattle.image_world.specs.Stands.{Stands}
-use Rattle.recovery.specs.Formatting.{IsFormatting}
-use Rattle.volume_laws.specs.Quiet.{IsQuiet}
+use Rattle.image_runs.proofs.Common.{View, IsPart, IsLeftInPut, IsFirm, LeavesOnly, Image, Stands, IsFormatting, IsQuiet}
 use Rattle.tsd_words.specs.declared.commands.Format.{Format}
 use Rattle.image_runs.specs.Format.{IsFormatted, IsLeftOfFormat, world_for, lines_for}
 use Rattle.image_runs.proofs.Saying.{put_over, still_firm}

@@ -1,33 +1,9 @@
 -- A run after formatting, as one from the start.
 use Rattle.std.proofs.Common.{◌≡◌, ◌⊎◌, inl, inr, ℕ, ◌+◌, ◌≤◌, List, [], refl, sym, ◌∙◌, subst, append-nil, arith}
-use Rattle.tsd_model.specs.World.{World}
-use Rattle.tsd_model.specs.declared.requests.PlaceKind.{PlaceKind}
-use Rattle.tsd_model.specs.declared.requests.Request.{Request}
+use Rattle.image_runs.proofs.Common.{World, PlaceKind, Request, View, IsFirm, LeavesOnly, joined, weakened, Image, Stands, IsFormatting, Status, IsPaidFor, HasDebt, Spelling, Placed, Mark, Promptly, mark, ByStatus, Moments, Taking, IsAcknowledged, IsCounted, Voice, disk_service, RunEnds, IsOwed, ImageRan, IsPromptRun, IsJudged, fresh_start, format_writes, FreshEnds, FreshRan, IsPromptFresh, debt, IsQuiet, disk_work}
 use Rattle.image_device.specs.Calls.{Uses}
-use Rattle.image_device.specs.View.{View}
-use Rattle.image_device.specs.Runs.{IsFirm, LeavesOnly}
-use Rattle.image_device.proofs.Moments.{joined, weakened}
-use Rattle.image_layout.specs.Image.{Image}
-use Rattle.image_world.specs.Stands.{Stands}
-use Rattle.recovery.specs.Formatting.{IsFormatting}
-use Rattle.tsd_words.specs.declared.status.Status.{Status}
 use Rattle.tsd_words.specs.declared.status.Status.TheVariants as status
-use Rattle.serving.specs.Costs.{IsPaidFor}
-use Rattle.serving.specs.Debts.{HasDebt}
-use Rattle.serving.specs.Input.{Spelling}
-use Rattle.serving.specs.ModelRules.{Placed}
-use Rattle.serving.specs.Prompt.{Mark, Promptly, mark}
-use Rattle.serving.specs.Ran.{ByStatus, Moments, Taking}
-use Rattle.serving.specs.Runs.{IsAcknowledged}
-use Rattle.serving.specs.Service.{IsCounted}
-use Rattle.serving.specs.Voice.{Voice}
-use Rattle.image_runs.specs.Served.{disk_service, RunEnds, IsOwed, ImageRan, IsPromptRun}
-use Rattle.image_runs.specs.Opened.{IsJudged}
 use Rattle.image_world.proofs.FaultLaws.{no_fault}
-use Rattle.image_runs.specs.Fresh.{fresh_start, format_writes, FreshEnds, FreshRan, IsPromptFresh}
-use Rattle.image_world.specs.Debt.{debt}
-use Rattle.volume_laws.specs.Quiet.{IsQuiet}
-use Rattle.image_runs.specs.Server.{disk_work}
 use Rattle.image_runs.proofs.Started.{paid_from, paid_nothing}
 
 -- what formatting leaves, or what a run after it leaves

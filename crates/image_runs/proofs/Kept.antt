@@ -1,16 +1,7 @@
 -- The placement of a run is the one that it began with.
 use Rattle.std.proofs.Common.{◌≡◌, ℕ, List, [], ◌∷◌, sym, ◌∙◌, ap, subst}
-use Rattle.tsd_model.specs.Step.{State}
-use Rattle.tsd_model.specs.declared.requests.PlaceKind.{PlaceKind}
-use Rattle.tsd_model.specs.declared.requests.Request.{Request}
-use Rattle.tsd_words.specs.declared.status.Status.{Status}
+use Rattle.image_runs.proofs.Common.{State, PlaceKind, Request, Status, Spelling, Placed, Ran, ByStatus, Moments, Taking, Run, Served, IsCutOff, Voice, spoken, disk_rules, disk_work}
 use Rattle.tsd_words.specs.declared.status.Status.TheVariants as status
-use Rattle.serving.specs.Input.{Spelling}
-use Rattle.serving.specs.ModelRules.{Placed}
-use Rattle.serving.specs.Ran.{Ran, ByStatus, Moments, Taking}
-use Rattle.serving.specs.Runs.{Run, Served, IsCutOff}
-use Rattle.serving.specs.Voice.{Voice, spoken}
-use Rattle.image_runs.specs.Server.{disk_rules, disk_work}
 
 -- no request changes in which order free blocks are taken
 pub kind_stays : (v : Voice) (s : Placed) (qs : List Request) (xs : List (List ℕ)) (t : Placed) → Run (spoken disk_rules v) s qs xs t → t.kind ≡ s.kind

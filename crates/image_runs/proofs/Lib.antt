@@ -1,3 +1,4 @@
+pub mod Common
 pub mod StepForm
 pub mod Serving
 pub mod Kept

@@ -1,25 +1,7 @@
 -- What a crash leaves of a load, request by request.
 use Rattle.std.proofs.Common.{◌≡◌, inl, inr, ℕ, ◌+◌, ◌≤◌, true, List, refl, sym, ◌∙◌, ap, subst, arith}
-use Rattle.std.proofs.lemmas.Bool.{eqb-true}
-use Rattle.tsd_model.specs.World.{World}
-use Rattle.tsd_model.specs.Step.{State}
-use Rattle.tsd_model.specs.Verdict.{is_begin}
-use Rattle.tsd_model.specs.declared.requests.PlaceKind.{PlaceKind}
-use Rattle.tsd_model.specs.declared.requests.Request.{Request}
+use Rattle.image_runs.proofs.Common.{eqb-true, World, State, is_begin, PlaceKind, Request, View, IsSound, IsFirm, started, joined, weakened, firm_image, Image, IsGood, Stands, world_of, seed_request, IsAnswer, next_world, LeavesEither, LeavesWorld, world_on, loaded, LeavesRun}
 use Rattle.tsd_model.specs.declared.replies.Reply.TheVariants as replied
-use Rattle.image_device.specs.View.{View, IsSound}
-use Rattle.image_device.specs.Runs.{IsFirm}
-use Rattle.image_device.proofs.Moments.{started, joined, weakened, firm_image}
-use Rattle.image_layout.specs.Image.{Image}
-use Rattle.image_world.specs.Faults.{IsGood}
-use Rattle.image_world.specs.Stands.{Stands, world_of}
-use Rattle.load_gen.specs.Requests.{seed_request}
-use Rattle.tsd_model.specs.Run.{IsAnswer}
-use Rattle.tsd_core.specs.Applying.{next_world}
-use Rattle.volume_laws.specs.Moments.{LeavesEither, LeavesWorld}
-use Rattle.volume_laws.specs.Volume.{world_on}
-use Rattle.image_runs.specs.Load.{loaded}
-use Rattle.image_runs.specs.Applying.{LeavesRun}
 use Rattle.image_runs.proofs.Requests.{loaded_more, starved_begins, begin_world, seed_begins}
 
 -- the world after some of so many requests

@@ -1,28 +1,9 @@
 -- A load over an image, from its opening to its line.
 use Rattle.std.proofs.Common.{◌≡◌, ◌⊎◌, inl, inr, ℕ, ◌≤◌, List, length, refl, sym, ◌∙◌, ap, subst, arith}
 use Rattle.std.specs.Prelude.{Result, Ok, Err, OnOk, IfErr}
-use Rattle.tsd_model.specs.World.{World, free_count}
-use Rattle.tsd_model.specs.Step.{State}
-use Rattle.tsd_model.specs.declared.requests.PlaceKind.{PlaceKind}
-use Rattle.disk_laws.proofs.ByteLaws.{free_count_like}
-use Rattle.image_device.specs.View.{View, IsPart, IsLeftInPut}
-use Rattle.image_device.specs.Runs.{IsFirm, LeavesOnly}
-use Rattle.image_device.proofs.Moments.{joined, weakened}
-use Rattle.image_layout.specs.Image.{Image}
-use Rattle.image_world.specs.Faults.{IsGood}
-use Rattle.image_world.specs.Stands.{Stands, world_of}
-use Rattle.recovery.specs.Opening.{StandAlike}
-use Rattle.tsd_words.specs.declared.status.Status.{Status}
+use Rattle.image_runs.proofs.Common.{World, free_count, State, PlaceKind, free_count_like, View, IsPart, IsLeftInPut, IsFirm, LeavesOnly, joined, weakened, Image, IsGood, Stands, world_of, StandAlike, Status, Core, IsCoreAt, state_on, told_world, IsQuiet, at_volume, like_at, line_of, load_words, IsJudged, IsUnopened, IsStopped, HasLoaded, IsLeftOfLoad, IsLoadDone, IsLoadedBy, granted_count, load_line, loaded, loaded_replies, refused_count, HasApplied, IsSummary, LeavesRun}
 use Rattle.tsd_words.specs.declared.status.Status.TheVariants as status
-use Rattle.tsd_core.specs.Core.{Core, IsCoreAt, state_on, told_world}
-use Rattle.volume_laws.specs.Quiet.{IsQuiet}
-use Rattle.tsd_core.proofs.AtLaws.{at_volume, like_at}
-use Rattle.tsd_words.specs.Lines.{line_of, load_words}
 use Rattle.tsd_words.specs.declared.lines.Summary.{Summary}
-use Rattle.image_runs.specs.Opened.{IsJudged, IsUnopened}
-use Rattle.image_runs.specs.Sending.{IsStopped}
-use Rattle.image_runs.specs.Load.{HasLoaded, IsLeftOfLoad, IsLoadDone, IsLoadedBy, granted_count, load_line, loaded, loaded_replies, refused_count}
-use Rattle.image_runs.specs.Applying.{HasApplied, IsSummary, LeavesRun}
 use Rattle.image_runs.proofs.Saying.{put_over, still_firm}
 use Rattle.image_runs.proofs.Upgraded.{alike_of}
 

@@ -1,27 +1,10 @@
 -- Why an image wasn't opened, as a status, and the state of a disk that was.
 use Rattle.std.proofs.Common.{◌≡◌, ◌∙◌, ap, sym, subst, refl, arith}
 use Rattle.std.specs.Prelude.{ℕ, List, Result, Ok, Err, IfErr}
-use Rattle.tsd_model.specs.World.{World}
-use Rattle.tsd_model.specs.Sessions.{Sessions, no_sessions, fitted}
-use Rattle.tsd_model.specs.Step.{State}
-use Rattle.tsd_model.specs.Run.{at_rest}
-use Rattle.image_layout.specs.Areas.{sweep_flag}
-use Rattle.image_layout.specs.Image.{Image, says_open}
-use Rattle.image_device.specs.View.{View, IsSound}
-use Rattle.image_device.specs.Runs.{PutsAll}
-use Rattle.intent_journal.specs.Home.{home}
-use Rattle.image_world.specs.Faults.{IsGood}
-use Rattle.image_world.specs.Stands.{world_of}
-use Rattle.image_world.specs.Tables.{header_on, tables_of}
+use Rattle.image_runs.proofs.Common.{World, Sessions, no_sessions, fitted, State, at_rest, sweep_flag, Image, says_open, View, IsSound, PutsAll, home, IsGood, world_of, header_on, tables_of, IsForeign, IsImageFault, IsOpening, IsSpared, IsUntouched, OpenFault, Status, Core, state_on, told_world, IsJudged, IsNotImage, IsUnopened, status_of, IsStopped}
 use Rattle.intent_journal.specs.Crash.{IsTheSame}
-use Rattle.recovery.specs.Opening.{IsForeign, IsImageFault, IsOpening, IsSpared, IsUntouched}
-use Rattle.recovery.specs.declared.fault.OpenFault.{OpenFault}
 use Rattle.recovery.specs.declared.fault.OpenFault.TheVariants as opening
-use Rattle.tsd_words.specs.declared.status.Status.{Status}
 use Rattle.tsd_words.specs.declared.status.Status.TheVariants as status
-use Rattle.tsd_core.specs.Core.{Core, state_on, told_world}
-use Rattle.image_runs.specs.Opened.{IsJudged, IsNotImage, IsUnopened, status_of}
-use Rattle.image_runs.specs.Sending.{IsStopped}
 use Rattle.image_runs.proofs.Saying.{put_behind}
 
 -- the flag of a sweep, in the tables and on the image

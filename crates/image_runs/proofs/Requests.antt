@@ -1,26 +1,14 @@
 -- One request more of a load.
 use Rattle.std.proofs.Common.{◌≡◌, ◌≢◌, ℕ, ◌+◌, ◌/◌, ◌%◌, ◌==◌, Bool, true, false, not, List, [], ◌∷◌, ◌++◌, refl, sym, ◌∙◌, ap, arith}
-use Rattle.std.specs.Prelude.{Option, Some, None, count_by, cond, if◌then◌else◌}
+use Rattle.image_runs.proofs.Common.{count_by, if◌then◌else◌, World, State, Outcome, step, judged, is_begin, verdict, answer, starved, after, replies, at_rest, CapPair, Geometry, PlaceKind, Request, Reply, Rule, seed_request, request_of_words, request_of_kind, shown_at, stream_word, window, words_place, requests_of, loaded, loaded_replies, is_refused, granted_count, refused_count, HasApplied, IsRequestNext, more_granted, more_refused}
+use Rattle.std.specs.Prelude.{Option, Some, None, cond}
 use Rattle.std.proofs.lemmas.List.Sums.{sum_by_push}
 use Rattle.std.proofs.lemmas.List.FromFn.{map-range_with_len_more}
-use Rattle.tsd_model.specs.World.{World}
-use Rattle.tsd_model.specs.Step.{State, Outcome, step, judged}
-use Rattle.tsd_model.specs.Verdict.{is_begin, verdict}
-use Rattle.tsd_model.specs.Run.{answer, starved, after, replies, at_rest}
-use Rattle.tsd_model.specs.declared.caps.CapPair.{CapPair}
 use Rattle.tsd_model.specs.declared.caps.Shown.{Shown}
-use Rattle.tsd_model.specs.declared.geometry.Geometry.{Geometry}
-use Rattle.tsd_model.specs.declared.requests.PlaceKind.{PlaceKind}
-use Rattle.tsd_model.specs.declared.requests.Request.{Request}
 use Rattle.tsd_model.specs.declared.requests.Request.TheVariants as ask
-use Rattle.tsd_model.specs.declared.replies.Reply.{Reply}
 use Rattle.tsd_model.specs.declared.replies.Reply.TheVariants as replied
-use Rattle.tsd_model.specs.declared.replies.Rule.{Rule}
 use Rattle.rand_chacha.specs.ChaCha.{key_of}
 use Rattle.cap_store.specs.Seeds.{seed_pairs}
-use Rattle.load_gen.specs.Requests.{seed_request, request_of_words, request_of_kind, shown_at, stream_word, window, words_place}
-use Rattle.image_runs.specs.Load.{requests_of, loaded, loaded_replies, is_refused, granted_count, refused_count}
-use Rattle.image_runs.specs.Applying.{HasApplied, IsRequestNext, more_granted, more_refused}
 
 -- ---- runs
 

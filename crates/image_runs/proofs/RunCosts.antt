@@ -1,17 +1,9 @@
 -- What a run costs, by the pairs that its requests remove.
 use Rattle.std.proofs.Common.{◌≡◌, ℕ, suc, ◌+◌, ◌*◌, ◌≤◌, All, List, [], ◌∷◌, length, length-append, sym, ◌∙◌, ap, subst, arith}
-use Rattle.tsd_model.specs.Step.{State}
-use Rattle.tsd_model.specs.Valid.{IsValid}
-use Rattle.tsd_model.specs.declared.requests.Request.{Request}
+use Rattle.image_runs.proofs.Common.{State, IsValid, Request, costs, first_cost, IsPaidFor, Placed, Run, Voice, spoken, cost_in, disk_rules, disk_work}
 use Rattle.disk_laws.proofs.RunLaws.{answer_valid}
-use Rattle.serving.specs.Costs.{costs, first_cost, IsPaidFor}
-use Rattle.serving.specs.ModelRules.{Placed}
-use Rattle.serving.specs.Runs.{Run}
-use Rattle.serving.specs.Voice.{Voice, spoken}
 use Rattle.tsd_core.specs.Costs.{removed_by}
-use Rattle.tsd_core.specs.Work.{cost_in}
 use Rattle.tsd_core.proofs.PairCosts.{costs_by_pairs}
-use Rattle.image_runs.specs.Server.{disk_rules, disk_work}
 use Rattle.image_runs.specs.Laws.{removed_in, first_removed}
 
 -- one request more

@@ -1,18 +1,8 @@
 -- A line that is put once all work is done.
 use Rattle.std.proofs.Common.{◌≡◌, inl, inr, ℕ, Bool, ◌-◌, List, ◌++◌, length, refl, sym, ◌∙◌, ap, subst}
-use Rattle.tsd_model.specs.World.{World, free_count}
-use Rattle.tsd_model.specs.declared.geometry.Geometry.{Geometry}
+use Rattle.image_runs.proofs.Common.{World, free_count, Geometry, free_count_like, View, IsPart, IsSound, IsLeftInPut, IsFirm, LeavesOnly, joined, weakened, leaves_now, firm_image, Image, StandAlike, Status, clean_line, clean_words, line_of, ProperFrontWasSent, IsStopped}
 use Rattle.disk_laws.specs.Bytes.{AreLike}
-use Rattle.disk_laws.proofs.ByteLaws.{free_count_like}
-use Rattle.image_device.specs.View.{View, IsPart, IsSound, IsLeftInPut}
-use Rattle.image_device.specs.Runs.{IsFirm, LeavesOnly}
-use Rattle.image_device.proofs.Moments.{joined, weakened, leaves_now, firm_image}
-use Rattle.image_layout.specs.Image.{Image}
-use Rattle.recovery.specs.Opening.{StandAlike}
-use Rattle.tsd_words.specs.declared.status.Status.{Status}
 use Rattle.tsd_words.specs.declared.status.Status.TheVariants as status
-use Rattle.tsd_words.specs.Lines.{clean_line, clean_words, line_of}
-use Rattle.image_runs.specs.Sending.{ProperFrontWasSent, IsStopped}
 use Rattle.image_runs.specs.Check.{HasChecked, IsFinding, IsCheckFound, IsSaying}
 
 -- ---- what a crash leaves

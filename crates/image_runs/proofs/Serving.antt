@@ -1,34 +1,9 @@
 -- What the core promises, as a serving loop asks it.
 use Rattle.std.proofs.Common.{◌≡◌, ◌↔◌, ◌<◌, ◌≤◌, ◌+◌, ◌||◌, ℕ, Bool, true, false, cond, refl, sym, ◌∙◌, ap, subst, inl, inr, arith, Option, Some, None}
-use Rattle.std.proofs.lemmas.Bool.{or_left}
-use Rattle.std.specs.Prelude.{Result, Ok, Err, IfOk, OnOk, IsTrue, is_none}
-use Rattle.tsd_model.specs.ReplyForm.{HasForm, is_refusal}
-use Rattle.tsd_model.specs.Step.{step, Outcome, State}
-use Rattle.tsd_model.specs.Verdict.{is_granted, verdict}
-use Rattle.tsd_model.specs.declared.replies.Reply.{Reply}
-use Rattle.tsd_model.specs.declared.replies.Rule.{Rule}
-use Rattle.tsd_model.specs.declared.requests.PlaceKind.{PlaceKind}
-use Rattle.tsd_model.specs.declared.requests.Request.{Request}
+use Rattle.image_runs.proofs.Common.{or_left, IfOk, IsTrue, is_none, HasForm, is_refusal, step, Outcome, State, is_granted, verdict, Reply, Rule, PlaceKind, Request, View, IsSound, LeavesOnly, weakened, Image, world_of, world_valid, IsAnswer, debt, owed, LeavesEither, Volume, Works, StandsBeforeOrAfter, AreCounted, Placed, Core, FitsReads, IsCoreAt, state_on, asks_nothing, next_world, write_limit, disk_rules, limit_with, placed_on, writes_before}
+use Rattle.std.specs.Prelude.{Result, Ok, Err, OnOk}
 use Rattle.tsd_model.specs.declared.requests.Request.TheVariants as ask
 use Rattle.disk_laws.proofs.AnswerLaws.{refused_answer}
-use Rattle.image_device.specs.View.{View, IsSound}
-use Rattle.image_device.specs.Runs.{LeavesOnly}
-use Rattle.image_device.proofs.Moments.{weakened}
-use Rattle.image_layout.specs.Image.{Image}
-use Rattle.image_world.specs.Stands.{world_of}
-use Rattle.image_world.proofs.WorldLaws.{world_valid}
-use Rattle.tsd_model.specs.Run.{IsAnswer}
-use Rattle.image_world.specs.Debt.{debt, owed}
-use Rattle.volume_laws.specs.Moments.{LeavesEither}
-use Rattle.volume_laws.specs.Volume.{Volume}
-use Rattle.volume_laws.specs.Writes.{Works}
-use Rattle.serving.specs.Handling.{StandsBeforeOrAfter}
-use Rattle.serving.specs.Handling.{CountsRise as AreCounted}
-use Rattle.serving.specs.ModelRules.{Placed}
-use Rattle.tsd_core.specs.Core.{Core, FitsReads, IsCoreAt, state_on}
-use Rattle.tsd_core.specs.Applying.{asks_nothing, next_world}
-use Rattle.tsd_core.specs.Work.{write_limit}
-use Rattle.image_runs.specs.Server.{disk_rules, limit_with, placed_on, writes_before}
 use Rattle.image_runs.proofs.StepForm.{step_form}
 
 pub counted_in : (v w : View) → Works v w → AreCounted v w

@@ -1,38 +1,10 @@
 -- A disk that was opened, and a run from there as one from the start.
 use Rattle.std.proofs.Common.{◌≡◌, inl, inr, ℕ, ◌≤◌, Bool, true, false, List, [], refl, sym, ◌∙◌, ap, subst, append-nil, arith}
 use Rattle.std.specs.Prelude.{All}
-use Rattle.tsd_model.specs.World.{World}
-use Rattle.tsd_model.specs.Step.{State}
-use Rattle.tsd_model.specs.Run.{at_rest}
-use Rattle.tsd_model.specs.declared.requests.PlaceKind.{PlaceKind}
-use Rattle.tsd_model.specs.declared.requests.Request.{Request}
-use Rattle.image_device.specs.View.{View}
-use Rattle.image_device.specs.Runs.{IsFirm, LeavesOnly}
-use Rattle.image_device.proofs.Moments.{joined, weakened, leaves_both}
-use Rattle.image_layout.specs.Image.{Image}
-use Rattle.intent_journal.specs.Home.{home}
-use Rattle.image_world.specs.Stands.{Stands, world_of}
-use Rattle.image_world.specs.Tables.{tables_of}
-use Rattle.recovery.specs.Opening.{StandAlike}
-use Rattle.volume_laws.specs.Quiet.{IsQuiet}
-use Rattle.image_world.specs.Faults.{IsGood}
-use Rattle.tsd_words.specs.declared.status.Status.{Status}
+use Rattle.image_runs.proofs.Common.{World, State, at_rest, PlaceKind, Request, View, IsFirm, LeavesOnly, joined, weakened, leaves_both, Image, home, Stands, world_of, tables_of, StandAlike, IsQuiet, IsGood, Status, IsPaidFor, HasDebt, Spelling, Placed, Mark, Promptly, ByStatus, AskedBy, IsAcknowledged, IsCounted, Voice, Core, state_on, debt, disk_work, placed_on, IsUnopened, IsJudged, IsNotImage, disk_service, start_of, IsAtEase, IsOwed, RunEnds}
 use Rattle.tsd_words.specs.declared.status.Status.TheVariants as status
-use Rattle.serving.specs.Costs.{IsPaidFor}
-use Rattle.serving.specs.Debts.{HasDebt}
-use Rattle.serving.specs.Input.{Spelling}
-use Rattle.serving.specs.ModelRules.{Placed}
-use Rattle.serving.specs.Prompt.{Mark, Promptly}
-use Rattle.serving.specs.Ran.{Ends as Served, ByStatus, AskedBy}
-use Rattle.serving.specs.Runs.{IsAcknowledged}
-use Rattle.serving.specs.Service.{IsCounted}
-use Rattle.serving.specs.Voice.{Voice}
+use Rattle.serving.specs.Ran.{Ends as Served}
 use Rattle.serving.specs.Work.{used}
-use Rattle.tsd_core.specs.Core.{Core, state_on}
-use Rattle.image_world.specs.Debt.{debt}
-use Rattle.image_runs.specs.Server.{disk_work, placed_on}
-use Rattle.image_runs.specs.Opened.{IsUnopened, IsJudged, IsNotImage}
-use Rattle.image_runs.specs.Served.{disk_service, start_of, IsAtEase, IsOwed, RunEnds}
 
 -- a disk beside a placement
 pub placed_at : (kind : PlaceKind) (c : Core) (x : Image) (w : World) → state_on c x ≡ at_rest w → placed_on kind c x ≡ record { kind = kind; state = at_rest w }

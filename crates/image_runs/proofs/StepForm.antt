@@ -1,23 +1,12 @@
 -- The reply of a step has a form that lines and frames can send.
 use Rattle.std.proofs.Common.{◌≡◌, ℕ, suc, ◌≤◌, true, false, cond, not, nat_lt, List, [], ◌∷◌, length, refl, sym, ◌∙◌, ap, subst, arith, Option, Some, None}
-use Rattle.std.proofs.lemmas.Bool.{ltb-false, or_parts}
-use Rattle.std.proofs.lemmas.List.{length-take}
-use Rattle.std.specs.Prelude.{unwrap_or, is_some, IfSome}
-use Rattle.tsd_model.specs.Geometry.{block_len}
-use Rattle.tsd_model.specs.World.{World, contents, is_live, free_count, has_number}
+use Rattle.image_runs.proofs.Common.{ltb-false, or_parts, length-take, unwrap_or, is_some, IfSome, block_len, World, contents, is_live, free_count, has_number, Sessions, IsSized, is_empty, verdict, HasForm, State, change, judged, raised_by, step, run_at, without_pointer, PlaceKind, Request}
 use Rattle.tsd_model.specs.Reach.{reach, swept}
 use Rattle.tsd_model.specs.Doomed.{doomed, settle}
 use Rattle.tsd_model.specs.Rank.{rank_of}
 use Rattle.tsd_model.specs.Placing.{hint_block, in_rank_order, sorted_by_rank, free_blocks, chosen, chosen_run, runs, first_block}
-use Rattle.tsd_model.specs.Sessions.{Sessions}
-use Rattle.tsd_model.specs.Valid.{IsSized}
-use Rattle.tsd_model.specs.Verdict.{is_empty, verdict}
-use Rattle.tsd_model.specs.ReplyForm.{HasForm}
-use Rattle.tsd_model.specs.Step.{State, change, judged, raised_by, step, run_at, without_pointer}
 use Rattle.tsd_model.specs.declared.replies.Reply.TheVariants as reply
 use Rattle.tsd_model.specs.declared.requests.Hint.{Hint}
-use Rattle.tsd_model.specs.declared.requests.PlaceKind.{PlaceKind}
-use Rattle.tsd_model.specs.declared.requests.Request.{Request}
 use Rattle.tsd_model.specs.declared.requests.Request.TheVariants as ask
 use Rattle.disk_laws.proofs.ChangeLaws.{chosen_are_free, chosen_run_is_free}
 use Rattle.disk_laws.proofs.GraphLaws.{length-range}

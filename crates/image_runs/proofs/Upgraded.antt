@@ -1,24 +1,9 @@
 -- A disk that was opened and upgraded, and its line put.
 use Rattle.std.proofs.Common.{◌≡◌, ◌⊎◌, inl, inr, ℕ, List, sym, ◌∙◌, ap, subst, ◌≤◌}
 use Rattle.std.specs.Prelude.{Result, Ok, Err, IfErr, OnOk}
-use Rattle.image_device.specs.Counts.{CountsFault, CountsFaultOf, Rose}
-use Rattle.tsd_model.specs.World.{World}
+use Rattle.image_runs.proofs.Common.{CountsFault, CountsFaultOf, Rose, World, zeros, View, IsPart, IsLeftInPut, LeavesOnly, joined, weakened, Image, IsGood, AreClosed, Stands, world_of, StandAlike, Status, LeavesEither, Volume, IsVolumeAt, world_on, upgrade_line, IsJudged, IsUnopened}
 use Rattle.tsd_model.specs.Records.{upgraded}
-use Rattle.image_device.specs.Image.{zeros}
-use Rattle.image_device.specs.View.{View, IsPart, IsLeftInPut}
-use Rattle.image_device.specs.Runs.{LeavesOnly}
-use Rattle.image_device.proofs.Moments.{joined, weakened}
-use Rattle.image_layout.specs.Image.{Image}
-use Rattle.image_world.specs.Faults.{IsGood}
-use Rattle.image_world.specs.Fresh.{AreClosed}
-use Rattle.image_world.specs.Stands.{Stands, world_of}
-use Rattle.recovery.specs.Opening.{StandAlike}
-use Rattle.tsd_words.specs.declared.status.Status.{Status}
 use Rattle.tsd_words.specs.declared.status.Status.TheVariants as status
-use Rattle.volume_laws.specs.Moments.{LeavesEither}
-use Rattle.volume_laws.specs.Volume.{Volume, IsVolumeAt, world_on}
-use Rattle.tsd_words.specs.Lines.{upgrade_line}
-use Rattle.image_runs.specs.Opened.{IsJudged, IsUnopened}
 use Rattle.image_runs.specs.Upgrade.{HasUpgraded, IsLeftOfUpgrade, IsUpgradeOf, IsUpgraded}
 use Rattle.image_runs.proofs.Saying.{put_over, still_firm}
 

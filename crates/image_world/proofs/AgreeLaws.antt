@@ -1,26 +1,9 @@
 -- Images that agree where it matters.
 use Rattle.std.proofs.Common.{◌≡◌, ℕ, ◌<◌, Bool, true, false, inl, inr, ◌||◌, refl, sym, ◌∙◌, ap, subst, arith}
-use Rattle.std.specs.Prelude.{◌↔◌}
-use Rattle.std.proofs.lemmas.Bool.{cases_Bool}
-use Rattle.std.proofs.lemmas.Bool.Decides.{nat_tests}
-use Rattle.tsd_model.specs.World.{World}
-use Rattle.tsd_model.specs.declared.geometry.Geometry.{Geometry}
-use Rattle.image_device.specs.View.{View}
+use Rattle.image_world.proofs.Common.{◌↔◌, cases_Bool, nat_tests, World, Geometry, View, header_sector, format_gate, data_start, header_of, data_sector, Image, says_open, is_bit_set, IsBefore, IsTheSame, home, is_journal, AgreeBut, has_valid_records, AreAlike, ReadAlike, AreUnused, debt, IsFormatGateOpen, HasJournal, HasHeader, IsGood, world_of, Stands, header_on}
 use Rattle.image_device.specs.Runs.{IsFirm}
-use Rattle.image_layout.specs.Areas.{header_sector, format_gate, data_start}
-use Rattle.image_layout.specs.Header.{header_of}
-use Rattle.image_layout.specs.Offsets.{data_sector}
-use Rattle.image_layout.specs.Image.{Image, says_open, is_bit_set}
-use Rattle.intent_journal.specs.Crash.{IsBefore, IsTheSame}
-use Rattle.intent_journal.specs.Home.{home, is_journal, AgreeBut}
-use Rattle.intent_journal.specs.Records.{has_valid_records}
 use Rattle.intent_journal.proofs.Gates.{valid_same}
 use Rattle.intent_journal.proofs.Uses.{home_unlawful, home_alike, journal_alike}
-use Rattle.image_world.specs.Alike.{AreAlike, ReadAlike, AreUnused}
-use Rattle.image_world.specs.Debt.{debt}
-use Rattle.image_world.specs.Faults.{IsFormatGateOpen, HasJournal, HasHeader, IsGood}
-use Rattle.image_world.specs.Stands.{world_of, Stands}
-use Rattle.image_world.specs.Tables.{header_on}
 use Rattle.image_world.proofs.AreaLaws.{same_marks}
 use Rattle.image_world.proofs.DebtLaws.{debt_alike}
 use Rattle.image_world.proofs.StandLaws.{stands_alike}

@@ -1,27 +1,9 @@
 -- Each image has an answer of the tests.
 use Rattle.std.proofs.Common.{◌≡◌, ◌≢◌, ℕ, ◌≤◌, true, false, inl, inr, Bool, ◌⊎◌, ◌==◌, not, List, [], ◌∷◌, take, refl, sym, ◌∙◌, arith, Ok, Err}
-use Rattle.std.proofs.lemmas.Bool.{cases_Bool, cases_eq, cases_lt, both_ways}
-use Rattle.std.proofs.lemmas.Bool.Decides.{nat_tests}
-use Rattle.tsd_model.specs.declared.geometry.Geometry.{Geometry}
-use Rattle.tsd_model.specs.Geometry.{IsLawful}
-use Rattle.tsd_model.specs.Pairs.{holds}
-use Rattle.tsd_model.specs.World.{World}
-use Rattle.image_layout.specs.declared.fault.ImageFault.{ImageFault}
+use Rattle.image_world.proofs.Common.{cases_Bool, cases_eq, cases_lt, both_ways, nat_tests, Geometry, IsLawful, holds, World, ImageFault, header_sector, format_gate, magic, header_of, IsVersion, IsSectors, IsPrimaries, IsFirstBad, IsHeaderReading, Image, says_open, is_bit_set, stored_count, source_field, target_field, home, has_valid_records, pairs_in, stored_slot, is_bad_at, HasNoBad, IsRepeatedOn, rising-pairs_in, holds_from_slot, HasHeader, HasNoRepeated, HasPrimaries, HasEnds, are_marked, found_count, AreRight, IsTableFault, IsGood, IsFirstFault, world_of, Stands, header_on, slots_on}
 use Rattle.image_layout.specs.declared.fault.ImageFault.TheVariants as fault
 use Rattle.image_layout.specs.declared.fault.HeaderFault.{HeaderFault}
 use Rattle.image_layout.specs.declared.fault.HeaderFault.TheVariants.{Magic, Version, Field}
-use Rattle.image_layout.specs.Areas.{header_sector, format_gate}
-use Rattle.image_layout.specs.Header.{magic, header_of, IsVersion, IsSectors, IsPrimaries, IsFirstBad, IsHeaderReading}
-use Rattle.image_layout.specs.Image.{Image, says_open, is_bit_set, stored_count, source_field, target_field}
-use Rattle.intent_journal.specs.Home.{home}
-use Rattle.intent_journal.specs.Records.{has_valid_records}
-use Rattle.pointer_table.specs.Slots.{pairs_in}
-use Rattle.pointer_table.specs.Sectors.{stored_slot}
-use Rattle.pointer_table.specs.Loading.{is_bad_at, HasNoBad, IsRepeatedOn}
-use Rattle.pointer_table.proofs.SlotLaws.{rising-pairs_in, holds_from_slot}
-use Rattle.image_world.specs.Faults.{HasHeader, HasNoRepeated, HasPrimaries, HasEnds, are_marked, found_count, AreRight, IsTableFault, IsGood, IsFirstFault}
-use Rattle.image_world.specs.Stands.{world_of, Stands}
-use Rattle.image_world.specs.Tables.{header_on, slots_on}
 use Rattle.image_world.proofs.AreaLaws.{slots_stored}
 use Rattle.image_world.proofs.LeastLaws.{least_below, least_pair, repeated_or_not}
 

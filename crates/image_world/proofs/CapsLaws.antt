@@ -1,14 +1,12 @@
 -- A failed loading of the counts or of the records, told by the fault that the loading of the tables makes of it.
 use Rattle.std.proofs.Common.{◌≡◌, ℕ, refl, Ok, Err, Result}
 use native.Mathlib.Omega.{arith}
-use Rattle.std.specs.Prelude.{IsErrOf}
-use Rattle.image_device.specs.Counts.{Rose}
+use Rattle.image_world.proofs.Common.{IsErrOf, Rose, LoadFault}
 use Rattle.cap_store.specs.declared.fault.LoadFault.{LoadFault as CapFault}
 use Rattle.cap_store.specs.declared.fault.LoadFault.TheVariants as cap_fault
 use Rattle.ref_counts.specs.declared.fault.LoadFault.{LoadFault as CountFault}
 use Rattle.ref_counts.specs.declared.fault.LoadFault.TheVariants as count_fault
 use Rattle.image_world.specs.LoadFaults.{of_counts, of_caps}
-use Rattle.image_world.specs.declared.fault.LoadFault.{LoadFault}
 use Rattle.image_world.specs.declared.fault.LoadFault.TheVariants as fault
 
 module _ {T S : Type 0} where

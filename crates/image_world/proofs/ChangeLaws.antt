@@ -1,17 +1,8 @@
 -- Changes of tables, and the changes of the world that they are.
 use Rattle.std.proofs.Common.{◌≡◌, ℕ, true, false, inl, inr, cond, List, refl, sym, ◌∙◌}
-use Rattle.std.specs.Prelude.{map, slice_set}
-use Rattle.std.proofs.lemmas.Bool.{cases_Bool}
-use Rattle.tsd_model.specs.Doomed.{settle}
-use Rattle.tsd_model.specs.Reach.{swept}
-use Rattle.tsd_model.specs.Records.{upgraded_record, upgraded}
-use Rattle.tsd_model.specs.Step.{with_caps}
-use Rattle.tsd_model.specs.World.{World}
+use Rattle.image_world.proofs.Common.{map, slice_set, cases_Bool, settle, swept, upgraded_record, upgraded, with_caps, World, settle-of_records, swept-of_records, world_with, left_of, Tables}
 use Rattle.tsd_model.specs.declared.records.Record.{Record}
-use Rattle.graph_laws.proofs.CommuteLaws.{settle-of_records, swept-of_records}
 use Rattle.image_world.specs.Changes.{with_records, upgraded_tables}
-use Rattle.image_world.specs.Raw.{world_with, left_of}
-use Rattle.image_world.specs.Tables.{Tables}
 
 -- other records, and another version, are passed on to what is left
 pub left_of_records : (t : Tables) (w : World) (version : ℕ) (rs : List Record) → left_of t (record w { version = version; records = rs }) ≡ record (left_of t w) { version = version; records = rs }

@@ -1,14 +1,9 @@
 -- The number of pairs to a block, counted slot by slot.
 use Rattle.std.proofs.Common.{◌≡◌, ℕ, zero, suc, ◌+◌, ◌<◌, ◌≤◌, false, cond, ◌==◌, List, [], ◌∷◌, length, take, get_or, set, refl, sym, ◌∙◌, ap, arith, inl, inr}
 use Rattle.std.proofs.Common.{Option, Some, None}
-use Rattle.std.proofs.lemmas.Bool.{cases_eq, false_from_ne_true, eq-eqb, ne_eqb}
-use Rattle.std.proofs.lemmas.List.{get_or-set_same, get_or-set_other, length-take, take_all}
+use Rattle.image_world.proofs.Common.{cases_eq, false_from_ne_true, eq-eqb, ne_eqb, get_or-set_same, get_or-set_other, length-take, take_all, holds, count_to, slot_at, pairs_in, AreApart, slot_from_holds, leads_to, slots_to}
 use Rattle.std.proofs.lemmas.List.Sums.{sum_by-cons, count_by_more_no, count_by_more_yes, count_by-le-length}
-use Rattle.tsd_model.specs.Pairs.{holds, count_to}
 use Rattle.tsd_model.proofs.CountLaws.{count-with_pair}
-use Rattle.pointer_table.specs.Slots.{slot_at, pairs_in}
-use Rattle.pointer_table.proofs.SlotLaws.{AreApart, slot_from_holds}
-use Rattle.image_world.specs.Tests.{leads_to, slots_to}
 
 -- ---- where no pair stands twice, slots and pairs give one number
 

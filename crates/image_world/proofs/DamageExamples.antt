@@ -1,28 +1,9 @@
 -- Worked examples: which fault the damaged images have, by computing.
 use Rattle.std.proofs.Common.{◌≡◌, ℕ, zero, suc, ◌<◌, ◌==◌, ◌&&◌, ◌||◌, ◌⊎◌, not, Bool, true, false, inl, inr, List, [], ◌∷◌, ◌++◌, refl, sym, ◌∙◌, ap, subst, arith}
 use Rattle.std.proofs.Common.{Option, Some, None}
-use Rattle.std.specs.Prelude.{slice_index}
-use Rattle.std.specs.List.{list_all, list_any}
-use Rattle.std.proofs.lemmas.Bool.{cases_eq, and_parts}
-use Rattle.std.proofs.lemmas.Bool.Decides.{nat_tests}
-use Rattle.tsd_model.specs.declared.geometry.Geometry.{Geometry}
-use Rattle.tsd_model.specs.Geometry.{IsLawful}
-use Rattle.tsd_model.specs.Pairs.{pair_lt}
-use Rattle.tsd_model.proofs.PairLaws.{all_of_held}
-use Rattle.image_device.specs.Image.{put_at}
+use Rattle.image_world.proofs.Common.{slice_index, list_all, list_any, cases_eq, and_parts, nat_tests, Geometry, IsLawful, pair_lt, all_of_held, put_at, header_bytes, Image, is_bit_set, stored_count, descriptor_bytes, home, open_records, has_valid_records, is_bad_at, HasNoBad, is_at, slot_at, pairs_in, holds-pairs_in, holds_from_slot, HasNoRepeated, HasPrimaries, HasEnds, are_marked, found_count, IsGood, IsFirstFault, slots_on}
 use Rattle.image_layout.specs.declared.fault.HeaderFault.TheVariants as why
 use Rattle.image_layout.specs.declared.fault.ImageFault.TheVariants as fault
-use Rattle.image_layout.specs.Header.{header_bytes}
-use Rattle.image_layout.specs.Image.{Image, is_bit_set, stored_count}
-use Rattle.intent_journal.specs.Descriptor.{descriptor_bytes}
-use Rattle.intent_journal.specs.Home.{home}
-use Rattle.intent_journal.specs.Records.{open_records, has_valid_records}
-use Rattle.pointer_table.specs.Loading.{is_bad_at, HasNoBad}
-use Rattle.pointer_table.specs.Scanning.{is_at}
-use Rattle.pointer_table.specs.Slots.{slot_at, pairs_in}
-use Rattle.pointer_table.proofs.SlotLaws.{holds-pairs_in, holds_from_slot}
-use Rattle.image_world.specs.Faults.{HasNoRepeated, HasPrimaries, HasEnds, are_marked, found_count, IsGood, IsFirstFault}
-use Rattle.image_world.specs.Tables.{slots_on}
 use Rattle.image_world.proofs.AreaLaws.{slots_stored}
 use Rattle.image_world.proofs.Examples.{size, slot, allocated, poked}
 

@@ -1,17 +1,9 @@
 -- What tables tell of the debt of an image.
 use Rattle.std.proofs.Common.{◌≡◌, ℕ, ◌+◌, List, length, sym, ap}
-use Rattle.tsd_model.specs.World.{World}
+use Rattle.image_world.proofs.Common.{World, told_has_graph, Image, home, AreAlike, graph_in, owed, debt, HasHeader, world_with, data_on, raw_of, Tables, pairs_of, tables_of}
 use Rattle.graph_laws.specs.Counts.{doomed_size}
 use Rattle.graph_laws.specs.Graph.{HasGraphOf}
 use Rattle.graph_laws.proofs.SameGraphLaws.{doomed_by_graph, doomed_pairs_by_graph}
-use Rattle.graph_laws.proofs.ToldLaws.{told_has_graph}
-use Rattle.image_layout.specs.Image.{Image}
-use Rattle.intent_journal.specs.Home.{home}
-use Rattle.image_world.specs.Alike.{AreAlike}
-use Rattle.image_world.specs.Debt.{graph_in, owed, debt}
-use Rattle.image_world.specs.Faults.{HasHeader}
-use Rattle.image_world.specs.Raw.{world_with, data_on, raw_of}
-use Rattle.image_world.specs.Tables.{Tables, pairs_of, tables_of}
 use Rattle.image_world.proofs.AlikeLaws.{alike_tables}
 
 -- whatever the bytes are

@@ -1,12 +1,7 @@
 -- The least pair with an end that isn't live, one slot more.
 use Rattle.std.proofs.Common.{◌≡◌, ◌⊎◌, ℕ, ◌+◌, ◌≤◌, Bool, true, false, cond, inl, inr, List, refl, sym, ◌∙◌, ap, arith}
 use Rattle.std.proofs.Common.{Option, Some, None}
-use Rattle.std.proofs.lemmas.Bool.{cases_lt, both_ways}
-use Rattle.std.proofs.lemmas.Bool.Decides.{nat_tests}
-use Rattle.tsd_model.specs.Pairs.{pair_lt}
-use Rattle.pointer_table.specs.Slots.{slot_at}
-use Rattle.pointer_table.specs.Scanning.{lesser_pair}
-use Rattle.image_world.specs.Tests.{are_live, loose_in, IsLooseBefore, IsLeastLoose}
+use Rattle.image_world.proofs.Common.{cases_lt, both_ways, nat_tests, pair_lt, slot_at, lesser_pair, are_live, loose_in, IsLooseBefore, IsLeastLoose}
 
 -- a pair that isn't below a lesser one isn't below
 not_below : (f e g : ℕ × ℕ) → pair_lt f e ≡ false → pair_lt g e ≡ true → pair_lt f g ≡ false

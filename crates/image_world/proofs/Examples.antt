@@ -2,20 +2,7 @@
 use Rattle.std.proofs.Common.{◌≡◌, ℕ, ◌-◌, ◌==◌, if◌then◌else◌, true, List, [], ◌∷◌, ◌++◌, length, refl}
 use Rattle.std.proofs.Common.{Some, None}
 use Rattle.std.specs.Prelude.{replicate}
-use Rattle.tsd_model.specs.declared.caps.CapPair.{CapPair}
-use Rattle.tsd_model.specs.declared.geometry.Geometry.{Geometry}
-use Rattle.tsd_model.specs.Run.{fresh_world}
-use Rattle.tsd_model.specs.Step.{with_new_blocks, with_contents}
-use Rattle.tsd_model.specs.World.{World}
-use Rattle.image_device.specs.Image.{zeros, put_at}
-use Rattle.image_layout.specs.Header.{header_bytes}
-use Rattle.image_layout.specs.Image.{Image, gate_bytes}
-use Rattle.intent_journal.specs.Descriptor.{descriptor_bytes}
-use Rattle.intent_journal.specs.Records.{open_records}
-use Rattle.image_world.specs.Debt.{debt}
-use Rattle.image_world.specs.Tables.{tables_of}
-use Rattle.image_world.specs.Raw.{world_with, left_of}
-use Rattle.image_world.specs.Stands.{world_of}
+use Rattle.image_world.proofs.Common.{CapPair, Geometry, fresh_world, with_new_blocks, with_contents, World, zeros, put_at, header_bytes, Image, gate_bytes, descriptor_bytes, open_records, debt, tables_of, world_with, left_of, world_of}
 
 -- ---- images
 

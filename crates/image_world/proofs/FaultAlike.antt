@@ -1,17 +1,7 @@
 -- Images that agree have the same first fault.
 use Rattle.std.proofs.Common.{ℕ, sym, ◌∙◌, subst, arith, Err}
-use Rattle.std.specs.Prelude.{◌↔◌}
-use Rattle.tsd_model.specs.declared.geometry.Geometry.{Geometry}
-use Rattle.tsd_model.specs.Geometry.{IsLawful}
-use Rattle.image_layout.specs.declared.fault.ImageFault.{ImageFault}
+use Rattle.image_world.proofs.Common.{◌↔◌, Geometry, IsLawful, ImageFault, IsHeaderReading, Image, home, HasNoBad, IsLeastBadSlot, IsLeastRepeated, ReadAlike, IsLeastPrimary, IsLeastEnd, IsLeastCount, IsTableFault, IsDamaged, IsFirstFault, header_on}
 use Rattle.image_layout.specs.declared.fault.ImageFault.TheVariants as fault
-use Rattle.image_layout.specs.Header.{IsHeaderReading}
-use Rattle.image_layout.specs.Image.{Image}
-use Rattle.intent_journal.specs.Home.{home}
-use Rattle.pointer_table.specs.Loading.{HasNoBad, IsLeastBadSlot, IsLeastRepeated}
-use Rattle.image_world.specs.Alike.{ReadAlike}
-use Rattle.image_world.specs.Faults.{IsLeastPrimary, IsLeastEnd, IsLeastCount, IsTableFault, IsDamaged, IsFirstFault}
-use Rattle.image_world.specs.Tables.{header_on}
 use Rattle.image_world.proofs.AgreeLaws.{agree_back}
 use Rattle.image_world.proofs.AlikeLaws.{alike_header}
 use Rattle.image_world.proofs.AreaLaws.{SameAreas, same_marks, same_stored_counts, same_sources, same_targets}

@@ -1,19 +1,8 @@
 -- No two answers of the tests hold together.
 use Rattle.std.proofs.Common.{◌≡◌, ℕ, true, inl, inr, refl, sym, ◌∙◌, ap}
-use Rattle.std.proofs.lemmas.Bool.{cases_order, both_ways}
-use Rattle.tsd_model.specs.declared.geometry.Geometry.{Geometry}
+use Rattle.image_world.proofs.Common.{cases_order, both_ways, Geometry, ImageFault, header_sector, format_gate, none_wrong, one_why, Image, says_open, is_bit_set, stored_count, source_field, target_field, home, has_valid_records, is_bad_slot, is_bad_at, HasNoBad, IsLeastBadSlot, IsLeastRepeated, HasPrimaries, HasEnds, HasCounts, AreRight, are_marked, found_count, IsLeastPrimary, IsLeastEnd, IsLeastCount, IsTableFault, IsGood, IsFirstFault, header_on}
 use Rattle.tsd_model.proofs.PlaceLaws.{same_pair}
-use Rattle.image_layout.specs.declared.fault.ImageFault.{ImageFault}
 use Rattle.image_layout.specs.declared.fault.ImageFault.TheVariants as fault
-use Rattle.image_layout.specs.Areas.{header_sector, format_gate}
-use Rattle.image_layout.proofs.ReadingLaws.{none_wrong}
-use Rattle.image_layout.proofs.ReadingLaws.{one_fault as one_why}
-use Rattle.image_layout.specs.Image.{Image, says_open, is_bit_set, stored_count, source_field, target_field}
-use Rattle.intent_journal.specs.Home.{home}
-use Rattle.intent_journal.specs.Records.{has_valid_records}
-use Rattle.pointer_table.specs.Loading.{is_bad_slot, is_bad_at, HasNoBad, IsLeastBadSlot, IsLeastRepeated}
-use Rattle.image_world.specs.Faults.{HasPrimaries, HasEnds, HasCounts, AreRight, are_marked, found_count, IsLeastPrimary, IsLeastEnd, IsLeastCount, IsTableFault, IsGood, IsFirstFault}
-use Rattle.image_world.specs.Tables.{header_on}
 
 -- ---- a test that passes has no fault
 bad_there : (x : Image) (g : Geometry) (k s t : ℕ) → IsLeastBadSlot x g k s t → is_bad_at x g k ≡ true

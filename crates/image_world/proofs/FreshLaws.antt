@@ -1,42 +1,12 @@
 -- A disk that was formatted stands for a fresh world.
 use Rattle.std.proofs.Common.{◌⊎◌, ◌≡◌, ℕ, zero, suc, ◌+◌, ◌-◌, ◌*◌, ◌<◌, ◌≤◌, true, false, inl, inr, Bool, cond, not, ◌&&◌, nat_lt, List, [], ◌∷◌, ◌++◌, length, length-append, replicate, refl, sym, ◌∙◌, ap, subst, arith}
 use Rattle.std.proofs.Common.{Option, Some, None}
-use Rattle.std.specs.Prelude.{map, filter, is_some, slice_index_or}
-use Rattle.std.specs.List.{range_with_len}
-use Rattle.std.proofs.lemmas.Bool.{cases_lt, cases_Bool}
-use Rattle.std.proofs.lemmas.Bool.Decides.{nat_tests}
-use Rattle.std.proofs.lemmas.List.{length-replicate, length-map, get_or_append_left, get_or-append_right, get_or-replicate, get_or_past, ext_get_or, replicate-append-replicate}
-use Rattle.std.proofs.lemmas.List.FromFn.{length-map-range_with_len, get_or-map-range_with_len}
-use Rattle.tsd_model.specs.declared.geometry.Geometry.{Geometry}
-use Rattle.tsd_model.specs.declared.caps.CapPair.{CapPair}
-use Rattle.tsd_model.specs.Geometry.{IsLawful, block_len}
-use Rattle.tsd_model.specs.Pairs.{count_to, holds}
-use Rattle.tsd_model.specs.Records.{kept}
-use Rattle.tsd_model.specs.Run.{fresh_world}
-use Rattle.tsd_model.specs.World.{World, contents, is_live, is_primary, all_blocks, has_number}
-use Rattle.tsd_model.specs.Reach.{blocks_that, restricted}
-use Rattle.tsd_model.specs.Doomed.{is_led_only_from, hangs_on, doomed_round, doomed_rounds, settle}
-use Rattle.image_device.specs.Image.{zeros}
-use Rattle.image_layout.specs.Image.{Image, says_open, sector_bytes, data_bytes}
-use Rattle.image_layout.specs.Offsets.{data_sector}
-use Rattle.intent_journal.specs.Home.{home}
-use Rattle.intent_journal.specs.Records.{open_records}
+use Rattle.image_world.proofs.Common.{map, filter, is_some, slice_index_or, range_with_len, cases_lt, cases_Bool, nat_tests, length-replicate, length-map, get_or_append_left, get_or-append_right, get_or-replicate, get_or_past, ext_get_or, replicate-append-replicate, length-map-range_with_len, get_or-map-range_with_len, Geometry, CapPair, IsLawful, block_len, count_to, holds, kept, fresh_world, World, contents, is_live, is_primary, all_blocks, has_number, blocks_that, restricted, is_led_only_from, hangs_on, doomed_round, doomed_rounds, settle, zeros, Image, says_open, sector_bytes, data_bytes, data_sector, home, open_records, is_marked_in, IsFormatGateOpen, HasJournal, slots_start, no_pairs, empty_sector, empty_table, written_slots, fresh_at, fresh_map, written_bits, HasTables, AreSound, Tables, tables_of, world_with, left_of, world_of, Stands}
 use Rattle.intent_journal.proofs.Opened.{opened_none, home_of_empty}
-use Rattle.block_alloc.specs.LiveMap.{is_live as is_marked_in}
-use Rattle.image_world.specs.Faults.{IsFormatGateOpen, HasJournal}
-use Rattle.image_layout.specs.Areas.{slots_start}
 use Rattle.pointer_table.specs.Fresh.{fresh_slots}
-use Rattle.pointer_table.proofs.FreshLaws.{no_pairs, empty_sector}
-use Rattle.pointer_table.proofs.FreshLaws.{fresh_table as empty_table, written_stored as written_slots}
 use Rattle.ref_counts.proofs.Written.{fresh as zero_counts}
 use Rattle.block_alloc.specs.Fresh.{fresh_live}
-use Rattle.block_alloc.proofs.FreshLaws.{fresh_at}
-use Rattle.block_alloc.proofs.FreshLaws.{fresh_table as fresh_map, written_stored as written_bits}
 use Rattle.image_world.specs.Fresh.{fresh_tables, IsWrittenFresh, AreFreshSectors}
-use Rattle.image_world.specs.Sound.{HasTables, AreSound}
-use Rattle.image_world.specs.Tables.{Tables, tables_of}
-use Rattle.image_world.specs.Raw.{world_with, left_of}
-use Rattle.image_world.specs.Stands.{world_of, Stands}
 use Rattle.image_world.proofs.AlikeLaws.{same_contents}
 use Rattle.image_world.proofs.SoundLaws.{has_one, tables_good}
 

@@ -1,13 +1,7 @@
 -- The least of what passes a test, or that nothing does.
 use Rattle.std.proofs.Common.{◌≡◌, ℕ, zero, suc, ◌<◌, true, false, inl, inr, Bool, ◌⊎◌, ◌&&◌, ◌||◌, nat_lt, List, [], ◌∷◌, refl, sym, ◌∙◌, ap, subst, arith}
 use Rattle.std.proofs.Common.{Option}
-use Rattle.std.proofs.lemmas.Bool.{cases_Bool, cases_eq, cases_lt, and_parts, and_from, both_ways, false_from_ne_true}
-use Rattle.std.proofs.lemmas.Bool.Decides.{nat_tests}
-use Rattle.tsd_model.specs.Pairs.{is_pair, holds, pair_lt, is_below_first, is_rising}
-use Rattle.tsd_model.proofs.PairLaws.{is_pair_ext, lt_trans, lt_itself, above_first, holds_first}
-use Rattle.pointer_table.specs.Scanning.{is_at}
-use Rattle.pointer_table.specs.Slots.{IsRepeated}
-use Rattle.pointer_table.proofs.SlotLaws.{is_at_same, is_at_some}
+use Rattle.image_world.proofs.Common.{cases_Bool, cases_eq, cases_lt, and_parts, and_from, both_ways, false_from_ne_true, nat_tests, is_pair, holds, pair_lt, is_below_first, is_rising, is_pair_ext, lt_trans, lt_itself, above_first, holds_first, is_at, IsRepeated, is_at_same, is_at_some}
 
 -- ---- numbers
 pub record Least (test : ℕ → Bool) (n : ℕ) : Type 0 where

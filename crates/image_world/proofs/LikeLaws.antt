@@ -1,17 +1,7 @@
 -- What is left of a world whose blocks get other bytes.
 use Rattle.std.proofs.Common.{◌≡◌, ℕ, ◌<◌, true, false, inl, inr, cond, List, length, refl, sym, ◌∙◌, ap}
-use Rattle.std.specs.Prelude.{is_some}
-use Rattle.std.proofs.lemmas.Bool.{cases_lt, and_parts}
-use Rattle.tsd_model.specs.World.{World, is_live, has_number}
-use Rattle.tsd_model.specs.Reach.{reach, swept}
-use Rattle.tsd_model.specs.Doomed.{settle}
-use Rattle.tsd_model.specs.Step.{with_contents}
-use Rattle.disk_laws.specs.Bytes.{AreLike}
+use Rattle.image_world.proofs.Common.{is_some, cases_lt, and_parts, World, is_live, has_number, reach, swept, settle, with_contents, AreLike, live_below, live-restricted, settled_live, settle-with_contents, swept-with_contents, Tables, world_with, left_of}
 use Rattle.disk_laws.proofs.LikeLaws.{settle_like, swept_like}
-use Rattle.disk_laws.proofs.DoomLaws.{live_below, live-restricted}
-use Rattle.graph_laws.proofs.CommuteLaws.{settled_live, settle-with_contents, swept-with_contents}
-use Rattle.image_world.specs.Tables.{Tables}
-use Rattle.image_world.specs.Raw.{world_with, left_of}
 use Rattle.image_world.proofs.RawLaws.{live_with, contents_past, blocks_with}
 
 pub left_like : (t : Tables) (v w : World) → AreLike v w → AreLike (left_of t v) (left_of t w)

@@ -1,7 +1,6 @@
 -- Lists made by number.
 use Rattle.std.proofs.Common.{◌≡◌, ℕ, ◌<◌, arith}
-use Rattle.std.specs.Prelude.{map}
-use Rattle.std.specs.List.{range_with_len}
+use Rattle.image_world.proofs.Common.{map, range_with_len}
 use Rattle.tsd_model.proofs.RangeLaws.{map_range_alike}
 
 pub same_below : {X : Type 0} (f h : ℕ → X) (n : ℕ) → ((k : ℕ) → k < n → f k ≡ h k) → map f (range_with_len 0 n) ≡ map h (range_with_len 0 n)

@@ -1,27 +1,12 @@
 -- From the four loadings and the tests to the tables.
 use Rattle.std.proofs.Common.{◌≡◌, ℕ, ◌<◌, sym, ◌∙◌, ap, subst}
 use Rattle.std.proofs.Common.{Err}
-use Rattle.tsd_model.specs.declared.geometry.Geometry.{Geometry}
-use Rattle.image_layout.specs.declared.header.Header.{Header}
-use Rattle.image_layout.specs.Header.{IsVersion}
-use Rattle.image_layout.specs.Image.{Image}
-use Rattle.pointer_table.specs.Loading.{IsLoaded}
-use Rattle.pointer_table.specs.Sectors.{IsStored as AreSlots}
-use Rattle.pointer_table.specs.Table.{Table as Pointers, IsTable as IsPointers}
-use Rattle.ref_counts.specs.Stored.{IsStored as AreCounts}
-use Rattle.ref_counts.specs.Table.{Table as Counts, IsTable as IsCounts}
-use Rattle.block_alloc.specs.LiveMap.{LiveMap, IsTable as IsMap}
-use Rattle.block_alloc.specs.Stored.{IsStored as AreBits}
+use Rattle.image_world.proofs.Common.{Geometry, Header, IsVersion, Image, IsLoaded, AreSlots, Pointers, IsPointers, AreCounts, Counts, IsCounts, LiveMap, IsMap, AreBits, AreKept, IsTableFault, LoadFault, AreRead, IsTesting, TablesAgree}
 use Rattle.cap_store.specs.Store.{IsTable as IsStore}
-use Rattle.cap_store.specs.Stored.{IsStored as AreKept}
 use Rattle.image_world.specs.declared.tables.ImageTables.{ImageTables}
 use Rattle.image_world.specs.Loaded.{DoFit, AreStored}
-use Rattle.image_world.specs.Faults.{IsTableFault}
-use Rattle.image_world.specs.declared.fault.LoadFault.{LoadFault}
 use Rattle.image_world.specs.declared.fault.LoadFault.TheVariants as fault
 use Rattle.image_world.specs.Loading.{AnswersTables}
-use Rattle.image_world.specs.Testing.{AreRead, IsTesting}
-use Rattle.image_world.specs.Tests.{TablesAgree}
 
 -- three tables of one size, read from one image
 pub are_read : (g : Geometry) (p : Pointers) (m : LiveMap) (c : Counts) (x y z : Image) → p.geometry ≡ g → c.geometry ≡ g → IsLoaded x g p → y ≡ x → z ≡ x

@@ -1,25 +1,7 @@
 -- Where the tests pass, sectors say a raw world.
 use Rattle.std.proofs.Common.{◌≡◌, ℕ, zero, suc, ◌+◌, ◌*◌, ◌<◌, ◌≤◌, true, false, inl, inr, Bool, cond, List, length, length-append, refl, sym, ◌∙◌, ap, subst, arith}
 use Rattle.std.proofs.Common.{Some, None}
-use Rattle.std.specs.Prelude.{map, is_some, IfSome}
-use Rattle.std.specs.List.{range_with_len, list_all}
-use Rattle.std.proofs.lemmas.Bool.{cases_lt, and_from, and_parts}
-use Rattle.std.proofs.lemmas.List.FromFn.{length-map-range_with_len}
-use Rattle.tsd_model.specs.Geometry.{block_len}
-use Rattle.tsd_model.specs.Records.{is_of_version, is_record_of}
-use Rattle.tsd_model.specs.World.{contents, is_live}
-use Rattle.tsd_model.specs.Valid.{IsRaw}
-use Rattle.image_device.specs.Image.{IsSector}
-use Rattle.image_layout.specs.Header.{IsVersion}
-use Rattle.image_layout.specs.Image.{Image, is_bit_set, sector_bytes}
-use Rattle.pointer_table.proofs.SlotLaws.{rising-pairs_in, length-pairs_in_le}
-use Rattle.pointer_table.specs.Sectors.{stored_slot}
-use Rattle.block_alloc.specs.LiveMap.{is_live as is_marked_in}
-use Rattle.cap_store.specs.Stored.{kept_as, stored_record}
-use Rattle.image_world.specs.Faults.{HasHeader, AreRight}
-use Rattle.graph_laws.proofs.ToldLaws.{blocks-world_with, contents-world_with, contents_past-world_with}
-use Rattle.image_world.specs.Tables.{Tables, header_on, slots_on, pairs_of, tables_of}
-use Rattle.image_world.specs.Raw.{world_with, data_on, raw_of}
+use Rattle.image_world.proofs.Common.{map, is_some, IfSome, range_with_len, list_all, cases_lt, and_from, and_parts, length-map-range_with_len, block_len, is_of_version, is_record_of, contents, is_live, IsRaw, IsSector, IsVersion, Image, is_bit_set, sector_bytes, rising-pairs_in, length-pairs_in_le, stored_slot, is_marked_in, kept_as, stored_record, HasHeader, AreRight, blocks-world_with, contents-world_with, contents_past-world_with, Tables, header_on, slots_on, pairs_of, tables_of, world_with, data_on, raw_of}
 use Rattle.image_world.proofs.AlikeLaws.{live_is}
 use Rattle.image_world.proofs.StandLaws.{pair_within}
 

@@ -1,32 +1,7 @@
 -- Tables that sectors have, and the tests.
 use Rattle.std.proofs.Common.{◌≡◌, ℕ, ◌-◌, ◌<◌, true, false, inl, inr, cond, ◌&&◌, ◌==◌, refl, sym, ◌∙◌, ap, subst, arith}
 use Rattle.std.proofs.Common.{Some, None, Ok}
-use Rattle.std.specs.Prelude.{map}
-use Rattle.std.specs.List.{range_with_len}
-use Rattle.std.proofs.lemmas.Bool.{cases_lt, cases_eq}
-use Rattle.std.proofs.lemmas.Bool.Decides.{nat_tests}
-use Rattle.std.proofs.lemmas.List.FromFn.{length-map-range_with_len}
-use Rattle.tsd_model.specs.declared.geometry.Geometry.{Geometry}
-use Rattle.tsd_model.specs.Pairs.{count_to, holds}
-use Rattle.image_layout.specs.declared.header.Header.{Header}
-use Rattle.image_layout.specs.Areas.{header_sector, sweep_flag}
-use Rattle.image_layout.specs.Header.{IsHeaderReading}
-use Rattle.image_layout.specs.Image.{Image, says_open, is_bit_set, stored_count, source_field, target_field}
-use Rattle.intent_journal.specs.Home.{home}
-use Rattle.pointer_table.specs.Slots.{slot_at, pairs_in}
-use Rattle.pointer_table.specs.Table.{MayBeHeld}
-use Rattle.pointer_table.specs.Sectors.{slot_of, stored_slot}
-use Rattle.pointer_table.specs.Loading.{is_bad_slot}
-use Rattle.pointer_table.proofs.LoadingLaws.{one_table, stored_elsewhere}
-use Rattle.pointer_table.proofs.LoadLaws.{good_slot}
-use Rattle.pointer_table.proofs.SlotLaws.{some_inside}
-use Rattle.ref_counts.proofs.StoredLaws.{one_table as one_counts, same_sectors as same_counts}
-use Rattle.block_alloc.proofs.StoredLaws.{one_map, same_sectors as same_bits}
-use Rattle.cap_store.specs.Stored.{stored_record}
-use Rattle.cap_store.proofs.StoredLaws.{one_store, same_sectors as same_records}
-use Rattle.image_world.specs.Faults.{IsFormatGateOpen, HasJournal, HasHeader, AreRight, IsGood}
-use Rattle.image_world.specs.Sound.{HasTables, AreSound}
-use Rattle.image_world.specs.Tables.{Tables, pairs_of, header_on, slots_on, tables_as, tables_of}
+use Rattle.image_world.proofs.Common.{map, range_with_len, cases_lt, cases_eq, nat_tests, length-map-range_with_len, Geometry, count_to, holds, Header, header_sector, sweep_flag, IsHeaderReading, Image, says_open, is_bit_set, stored_count, source_field, target_field, home, slot_at, pairs_in, MayBeHeld, slot_of, stored_slot, is_bad_slot, one_table, stored_elsewhere, good_slot, some_inside, one_counts, same_counts, one_map, same_bits, stored_record, one_store, same_records, IsFormatGateOpen, HasJournal, HasHeader, AreRight, IsGood, HasTables, AreSound, Tables, pairs_of, header_on, slots_on, tables_as, tables_of}
 use Rattle.image_world.proofs.AreaLaws.{SameAreas, live_stored, slots_stored, counts_stored, records_stored}
 use Rattle.image_world.proofs.StandLaws.{pair_within}
 

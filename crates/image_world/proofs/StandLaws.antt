@@ -1,25 +1,7 @@
 -- Which images stand for a world depends on the sectors that matter.
 use Rattle.std.proofs.Common.{◌≡◌, ℕ, ◌<◌, true, ◌&&◌, sym, ◌∙◌, ap, subst, arith}
 use Rattle.std.proofs.Common.{None, Ok}
-use Rattle.std.proofs.lemmas.List.FromFn.{length-map-range_with_len, get_or-map-range_with_len}
-use Rattle.tsd_model.specs.declared.geometry.Geometry.{Geometry}
-use Rattle.tsd_model.specs.Geometry.{IsLawful}
-use Rattle.tsd_model.specs.Pairs.{count_to, holds}
-use Rattle.tsd_model.specs.World.{World}
-use Rattle.image_layout.specs.Header.{IsHeaderReading, header_of}
-use Rattle.image_layout.specs.Image.{Image, source_field, target_field}
-use Rattle.intent_journal.specs.Home.{home}
-use Rattle.pointer_table.specs.Slots.{pairs_in}
-use Rattle.pointer_table.specs.Table.{MayBeHeld}
-use Rattle.pointer_table.specs.Sectors.{stored_slot}
-use Rattle.pointer_table.specs.Loading.{is_bad_slot, is_bad_at, HasNoBad, IsRepeatedOn}
-use Rattle.pointer_table.proofs.LoadLaws.{good_slot}
-use Rattle.pointer_table.proofs.SlotLaws.{slot_from_holds}
-use Rattle.image_world.specs.Alike.{AreAlike}
-use Rattle.image_world.specs.Faults.{IsFormatGateOpen, HasJournal, HasHeader, HasNoRepeated, HasPrimaries, HasEnds, are_marked, found_count, AreRight, IsGood}
-use Rattle.image_world.specs.Tables.{header_on, slots_on}
-use Rattle.image_world.specs.Raw.{left_of}
-use Rattle.image_world.specs.Stands.{world_of, Stands}
+use Rattle.image_world.proofs.Common.{length-map-range_with_len, get_or-map-range_with_len, Geometry, IsLawful, count_to, holds, World, IsHeaderReading, header_of, Image, source_field, target_field, home, pairs_in, MayBeHeld, stored_slot, is_bad_slot, is_bad_at, HasNoBad, IsRepeatedOn, good_slot, slot_from_holds, AreAlike, IsFormatGateOpen, HasJournal, HasHeader, HasNoRepeated, HasPrimaries, HasEnds, are_marked, found_count, AreRight, IsGood, header_on, slots_on, left_of, world_of, Stands}
 use Rattle.image_world.proofs.Lists.{same_below}
 use Rattle.image_world.proofs.AreaLaws.{SameAreas, same_marks, same_slots, same_stored_counts, same_sources, same_targets}
 use Rattle.image_world.proofs.AlikeLaws.{alike_header, alike_tables, alike_raw}

@@ -1,21 +1,7 @@
 -- Tests on tables in memory, and those of an image that has the tables.
 use Rattle.std.proofs.Common.{◌≡◌, ℕ, ◌<◌, ◌&&◌, true, List, sym, ◌∙◌, ap, subst, arith}
 use Rattle.std.proofs.Common.{Some, None, inl, inr}
-use Rattle.std.specs.Prelude.{slice_index}
-use Rattle.std.proofs.lemmas.Bool.{cases_Bool}
-use Rattle.tsd_model.specs.declared.geometry.Geometry.{Geometry}
-use Rattle.tsd_model.specs.Pairs.{holds, count_to}
-use Rattle.image_layout.specs.Image.{Image}
-use Rattle.pointer_table.specs.Slots.{slot_at, pairs_in}
-use Rattle.pointer_table.specs.Table.{Table as Pointers, pairs, IsTable}
-use Rattle.pointer_table.proofs.LoadingLaws.{one_table}
-use Rattle.pointer_table.proofs.SlotLaws.{holds_from_slot, slot_from_holds}
-use Rattle.ref_counts.specs.Table.{Table as Counts}
-use Rattle.block_alloc.specs.LiveMap.{LiveMap}
-use Rattle.image_world.specs.Faults.{are_marked, HasPrimaries, HasEnds, AreRight, IsLeastEnd, IsLeastCount}
-use Rattle.image_world.specs.Tables.{slots_on}
-use Rattle.image_world.specs.Tests.{are_live, PrimariesLive, EndsLive, IsLeastLoose, AreFound, IsLeastWrong, TablesAgree}
-use Rattle.image_world.specs.Testing.{AreRead}
+use Rattle.image_world.proofs.Common.{slice_index, cases_Bool, Geometry, holds, count_to, Image, slot_at, pairs_in, Pointers, pairs, IsTable, one_table, holds_from_slot, slot_from_holds, Counts, LiveMap, are_marked, HasPrimaries, HasEnds, AreRight, IsLeastEnd, IsLeastCount, slots_on, are_live, PrimariesLive, EndsLive, IsLeastLoose, AreFound, IsLeastWrong, TablesAgree, AreRead}
 
 -- ---- ends in memory
 

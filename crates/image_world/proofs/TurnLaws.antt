@@ -1,30 +1,10 @@
 -- Batches that turn tables into others.
 use Rattle.std.proofs.Common.{◌≡◌, ℕ, ◌<◌, ◌≤◌, ◌==◌, Bool, true, false, List, [], ◌∷◌, refl, sym, ◌∙◌, ap, subst, arith}
 use Rattle.std.proofs.Common.{Ok}
-use Rattle.std.proofs.lemmas.Bool.Decides.{nat_tests}
-use Rattle.tsd_model.specs.declared.geometry.Geometry.{Geometry}
-use Rattle.image_device.specs.Image.{put_at}
-use Rattle.image_device.specs.View.{View}
-use Rattle.image_layout.specs.Areas.{header_sector, format_gate, sweep_flag, data_start}
-use Rattle.image_layout.specs.Header.{IsHeaderReading}
-use Rattle.image_layout.specs.Offsets.{data_sector}
-use Rattle.image_layout.specs.Image.{Image, says_open, data_bytes, gate_bytes}
-use Rattle.image_layout.specs.declared.offset.Patch.{Patch}
-use Rattle.intent_journal.specs.Crash.{IsAfter}
-use Rattle.intent_journal.specs.Home.{home, overlaid, is_journal, AgreeBut}
-use Rattle.intent_journal.proofs.Overlays.{put_here, put_elsewhere}
-use Rattle.image_world.specs.Faults.{HasJournal, IsGood}
-use Rattle.image_world.specs.Raw.{world_with, left_of, data_on, raw_of}
-use Rattle.image_world.specs.Sound.{HasTables, AreSound}
-use Rattle.image_world.specs.Stands.{world_of}
-use Rattle.image_world.specs.Tables.{Tables, tables_of}
+use Rattle.image_world.proofs.Common.{nat_tests, Geometry, put_at, View, header_sector, format_gate, sweep_flag, data_start, IsHeaderReading, data_sector, Image, says_open, data_bytes, gate_bytes, Patch, IsAfter, home, overlaid, is_journal, AgreeBut, put_here, put_elsewhere, HasJournal, IsGood, world_with, left_of, data_on, raw_of, HasTables, AreSound, world_of, Tables, tables_of, stored_elsewhere, same_counts, same_bits, same_records}
 use Rattle.image_world.specs.Turns.{Turns, IsTurned}
 use Rattle.image_world.proofs.AgreeLaws.{formatted_by}
 use Rattle.image_world.proofs.AlikeLaws.{same_data, same_contents}
-use Rattle.pointer_table.proofs.LoadingLaws.{stored_elsewhere}
-use Rattle.ref_counts.proofs.StoredLaws.{same_sectors as same_counts}
-use Rattle.block_alloc.proofs.StoredLaws.{same_sectors as same_bits}
-use Rattle.cap_store.proofs.StoredLaws.{same_sectors as same_records}
 use Rattle.image_world.proofs.SoundLaws.{tables_had, has_one, had_elsewhere, tables_good}
 use Rattle.image_world.proofs.WrittenLaws.{above_journal}
 

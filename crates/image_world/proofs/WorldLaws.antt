@@ -1,24 +1,10 @@
 -- The world for which an image stands.
 use Rattle.std.proofs.Common.{◌≡◌, ℕ, ◌==◌, true, false, inl, inr, cond, List, [], ◌∷◌, suc, refl, sym, ◌∙◌, subst, arith}
 use Rattle.std.proofs.Common.{Some}
-use Rattle.std.specs.Prelude.{Contains, slice_get}
-use Rattle.std.proofs.lemmas.Bool.{cases_Bool}
-use Rattle.tsd_model.specs.World.{World}
-use Rattle.tsd_model.specs.Valid.{IsRaw, IsValid}
-use Rattle.disk_laws.specs.Bytes.{AreLike}
-use Rattle.disk_laws.proofs.DoomLaws.{settle_is_valid}
+use Rattle.image_world.proofs.Common.{Contains, slice_get, cases_Bool, World, IsRaw, IsValid, AreLike, settle_is_valid, IsSector, put_at, Image, Patch, home, overlaid, JournalRecord, patches_of, open_records, overlaid_append, put_here, put_elsewhere, world_with, left_of, blank_of, zeros_of, data_on, raw_of, world_of, Stands, Tables, tables_of}
 use Rattle.graph_laws.proofs.SweepLaws.{sweeps_to_valid}
-use Rattle.image_device.specs.Image.{IsSector, put_at}
-use Rattle.image_layout.specs.Image.{Image}
-use Rattle.image_layout.specs.declared.offset.Patch.{Patch}
 use Rattle.intent_journal.specs.Batch.{IsBatch}
-use Rattle.intent_journal.specs.Home.{home, overlaid}
-use Rattle.intent_journal.specs.Records.{JournalRecord, patches_of, open_records}
 use Rattle.intent_journal.proofs.OpenedRing.{opened_ring}
-use Rattle.intent_journal.proofs.Overlays.{overlaid_append, put_here, put_elsewhere}
-use Rattle.image_world.specs.Raw.{world_with, left_of, blank_of, zeros_of, data_on, raw_of}
-use Rattle.image_world.specs.Stands.{world_of, Stands}
-use Rattle.image_world.specs.Tables.{Tables, tables_of}
 use Rattle.image_world.proofs.LikeLaws.{left_like, tables_like}
 use Rattle.image_world.proofs.RawLaws.{raw_is_raw}
 

@@ -1,27 +1,9 @@
 -- Bytes in the sectors of a live block are the bytes of that block.
 use Rattle.std.proofs.Common.{◌≡◌, ◌≢◌, ℕ, zero, suc, ◌+◌, ◌*◌, ◌<◌, ◌≤◌, true, false, inl, inr, cond, List, ◌++◌, length, take, drop, refl, sym, ◌∙◌, ap, subst, arith}
 use Rattle.std.proofs.Common.{Option, Some, None, Ok}
-use Rattle.std.proofs.Math.ListN.{drop_of_length-le}
-use Rattle.std.proofs.lemmas.Bool.Decides.{nat_tests}
-use Rattle.std.specs.Prelude.{slice_set, slice_index_or}
-use Rattle.std.proofs.lemmas.Bool.{cases_eq}
-use Rattle.std.proofs.lemmas.List.{drop-drop, take-append-drop, length-set, ext_get_or, get_or-set_same, get_or-set_other}
-use Rattle.tsd_model.specs.declared.geometry.Geometry.{Geometry}
-use Rattle.tsd_model.specs.Geometry.{block_len}
-use Rattle.tsd_model.specs.World.{World, contents, is_live}
-use Rattle.tsd_model.specs.Step.{with_contents}
-use Rattle.image_layout.specs.Areas.{header_sector, data_start}
-use Rattle.image_layout.specs.Offsets.{data_sector}
+use Rattle.image_world.proofs.Common.{drop_of_length-le, nat_tests, slice_set, slice_index_or, cases_eq, drop-drop, take-append-drop, length-set, ext_get_or, get_or-set_same, get_or-set_other, Geometry, block_len, World, contents, is_live, with_contents, header_sector, data_start, data_sector, Image, sector_bytes, data_bytes, is_marked_in, home, is_journal, IsHeaderReading, header_of, IsFormatGateOpen, HasJournal, HasHeader, AreRight, world_of, Stands, Tables, header_on, tables_of, world_with, left_of, data_on, raw_of}
 use Rattle.image_layout.proofs.ThingLaws.{parts_apart}
-use Rattle.image_layout.specs.Image.{Image, sector_bytes, data_bytes}
-use Rattle.block_alloc.specs.LiveMap.{is_live as is_marked_in}
 use Rattle.image_world.specs.Written.{IsWritten}
-use Rattle.intent_journal.specs.Home.{home, is_journal}
-use Rattle.image_layout.specs.Header.{IsHeaderReading, header_of}
-use Rattle.image_world.specs.Faults.{IsFormatGateOpen, HasJournal, HasHeader, AreRight}
-use Rattle.image_world.specs.Stands.{world_of, Stands}
-use Rattle.image_world.specs.Tables.{Tables, header_on, tables_of}
-use Rattle.image_world.specs.Raw.{world_with, left_of, data_on, raw_of}
 use Rattle.image_world.proofs.AlikeLaws.{same_data, tables_alike}
 use Rattle.image_world.proofs.AreaLaws.{SameAreas}
 use Rattle.image_world.proofs.StandLaws.{right_alike}

@@ -1,37 +1,15 @@
 -- A file that was read: its blocks and their bytes.
 use Rattle.std.proofs.Common.{◌≡◌, ℕ, zero, suc, ◌+◌, ◌-◌, ◌*◌, ◌/◌, ◌%◌, ◌<◌, ◌≤◌, true, false, ◌==◌, List, [], ◌∷◌, length, refl, sym, ◌∙◌, ap, subst, arith, inl, inr, Option, Some, None, Ok}
-use Rattle.std.proofs.lemmas.Bool.{eq-eqb, and_from, or_cases, or_left, or_right}
+use Rattle.inode_walks.proofs.Common.{eq-eqb, and_from, or_cases, or_left, or_right, div-add-mod, div-lt_iff_lt-mul, mul_comm, map, is_some, drop, unwrap_or, flat_map, slice_index, IfSome, block_len, contents, has_number, holds, is_pair, Path, a_file, at, is_there, numbers, FileInode, inode_at, node_at, inodes_under, file_bytes, inode_tree, ways_lead_on, tree-at, DiskView, state_of, IsValidNow, Stays, Client, shown_at, MayWrite, Looked, OnlyLooks, may_again, said, inode_of, block_len_of, body_of, blocks_said, is_directory, amount_said, Found, tree_under, StandsAsRead, IsStanding, IsOpenNow, StandsAtPath, node_pairs, part, bytes_at, bytes_said}
 use Rattle.std.proofs.lemmas.Grind.{div_ceil_times}
-use Rattle.std.proofs.Math.Nat.{div-add-mod, div-lt_iff_lt-mul, mul_comm}
-use Rattle.std.specs.Prelude.{map, is_some, take, drop, unwrap_or, flat_map, slice_index, IfSome}
+use Rattle.std.specs.Prelude.{take}
 use Rattle.std.specs.Int.{div_ceil}
-use Rattle.tsd_model.specs.Geometry.{block_len}
-use Rattle.tsd_model.specs.World.{contents, has_number}
-use Rattle.tsd_model.specs.Pairs.{holds, is_pair}
-use Rattle.fs_trees.specs.Names.{Path}
-use Rattle.fs_trees.specs.Tree.{a_file, at, is_there}
-use Rattle.fs_trees.specs.Fields.{numbers}
 use Rattle.fs_trees.specs.Inode as tree
-use Rattle.fs_trees.specs.InodeTree.{FileInode, inode_at, node_at, inodes_under, file_bytes, inode_tree}
 use Rattle.fs_trees.specs.InodeTree as inodes
-use Rattle.fs_laws.proofs.WayLaws.{ways_lead_on}
-use Rattle.fs_laws.proofs.MapLaws.{tree-at}
-use Rattle.fs_port.specs.View.{DiskView, state_of}
-use Rattle.fs_port.specs.Calls.{IsValidNow, Stays}
-use Rattle.fs_client.specs.declared.client.Client.{Client}
-use Rattle.fs_client.specs.Client.{shown_at}
-use Rattle.fs_client.specs.May.{MayWrite, Looked, OnlyLooks}
-use Rattle.fs_client.proofs.LookLaws.{may_again}
 use Rattle.inode_layout.specs.declared.inode.Inode.{Inode}
 use Rattle.inode_layout.specs.declared.kind.InodeKind.{InodeKind}
 use Rattle.inode_layout.specs.declared.kind.InodeKind.TheVariants.{Directory, Regular}
 use Rattle.inode_layout.specs.Kinds.{items_for}
-use Rattle.inode_layout.specs.Block.{said, inode_of, block_len_of, body_of}
-use Rattle.inode_layout.specs.Said.{blocks_said, is_directory, amount_said}
-use Rattle.inode_walks.specs.declared.finding.Found.{Found}
-use Rattle.inode_walks.specs.Asking.{tree_under}
-use Rattle.inode_walks.specs.Finding.{StandsAsRead, IsStanding, IsOpenNow, StandsAtPath, node_pairs}
-use Rattle.inode_walks.specs.Reading.{part, bytes_at, bytes_said}
 use Rattle.inode_walks.proofs.WalkLaws.{file_node}
 use Rattle.inode_walks.proofs.ReadLaws.{block_long}
 use Rattle.inode_walks.proofs.PartLaws.{one_of_row, row_length, part_of_part}

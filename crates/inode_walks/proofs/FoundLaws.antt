@@ -1,24 +1,10 @@
 -- What was found at a path, and what isn't a file or a directory there.
 use Rattle.std.proofs.Common.{◌≡◌, ℕ, suc, ◌-◌, ◌<◌, ◌≤◌, get_or, true, false, subst, arith, List, [], ◌∷◌, ◌++◌, length, take, refl, sym, ◌∙◌, ap, Option, Some, None}
-use Rattle.tsd_model.specs.World.{World}
-use Rattle.fs_trees.specs.Names.{Name, Path}
-use Rattle.fs_trees.specs.Tree.{Tree, none, file, dir, nothing, a_file, a_dir, entry, at, is_file, is_dir, names, names_in}
-use Rattle.fs_trees.specs.Fields.{Entry, entry_names}
-use Rattle.fs_trees.specs.Inode.{block_named}
+use Rattle.inode_walks.proofs.Common.{World, Name, Path, Tree, none, file, dir, nothing, a_file, a_dir, entry, at, is_file, is_dir, names, names_in, Entry, entry_names, block_named, InodeNode, InodeEntries, entries_by, node_at, with_first, tree_entries, inode_tree, first_of, when, directory_of, lost_on_the_way, no_file, no_dir, FsRefusal, DiskView, Client, inode_of, blocks_said, is_directory, amount_said, entries_said, entry_said, Found, tree_under, StandsAtPath, IsLookup, not_found, no_file_found, no_directory_found}
 use Rattle.fs_trees.specs.Inode as tree
-use Rattle.fs_trees.specs.InodeTree.{InodeNode, InodeEntries, entries_by, node_at, with_first, tree_entries, inode_tree}
 use Rattle.fs_trees.specs.InodeTree as inodes
-use Rattle.fs_trees.specs.Refusals.{first_of, when, directory_of, lost_on_the_way, no_file, no_dir}
-use Rattle.fs_trees.specs.declared.refusal.FsRefusal.{FsRefusal}
 use Rattle.fs_trees.specs.declared.refusal.FsRefusal.TheVariants as no
-use Rattle.fs_port.specs.View.{DiskView}
-use Rattle.fs_client.specs.declared.client.Client.{Client}
-use Rattle.inode_layout.specs.Block.{inode_of}
-use Rattle.inode_layout.specs.Said.{blocks_said, is_directory, amount_said, entries_said, entry_said}
-use Rattle.inode_walks.specs.declared.finding.Found.{Found}
 use Rattle.inode_walks.specs.declared.finding.Lookup.{Lookup}
-use Rattle.inode_walks.specs.Asking.{tree_under}
-use Rattle.inode_walks.specs.Finding.{StandsAtPath, IsLookup, not_found, no_file_found, no_directory_found}
 use Rattle.fs_client.specs.Changing.{lookup_refusal}
 use Rattle.inode_walks.proofs.WalkLaws.{file_node, dir_node}
 use Rattle.inode_walks.proofs.FileLaws.{file_said, tree_there}

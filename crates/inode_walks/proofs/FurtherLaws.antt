@@ -1,27 +1,7 @@
 -- From a directory to what a name is in it.
 use Rattle.std.proofs.Common.{◌≡◌, ◌≢◌, ℕ, zero, suc, true, List, ◌∷◌, refl, sym, ◌∙◌, ap, subst, Option, Some, None, Result, Ok, Err}
-use Rattle.std.specs.Prelude.{is_some, IfOk, IfErr, OnOk}
-use Rattle.tsd_model.specs.Geometry.{block_len}
-use Rattle.tsd_model.specs.World.{World}
-use Rattle.tsd_model.specs.Pairs.{holds}
-use Rattle.fs_laws.specs.Ways.{HoldsWrite}
-use Rattle.fs_laws.proofs.WayLaws.{ways_lead_on}
-use Rattle.fs_laws.proofs.DirectoryLaws.{read_named}
-use Rattle.fs_trees.specs.Names.{Name, Path}
-use Rattle.fs_trees.specs.Tree.{nothing, child, is_there}
-use Rattle.fs_trees.specs.Fields.{Entry}
-use Rattle.fs_trees.specs.Inode.{Inode, directory, regular, block_named}
-use Rattle.fs_trees.specs.InodeTree.{InodeNode, inode_at, node_by, node_at}
-use Rattle.fs_trees.specs.declared.refusal.FsRefusal.{FsRefusal}
+use Rattle.inode_walks.proofs.Common.{is_some, IfOk, IfErr, OnOk, block_len, World, holds, HoldsWrite, ways_lead_on, read_named, Name, Path, nothing, child, is_there, Entry, Inode, directory, regular, block_named, InodeNode, inode_at, node_by, node_at, FsRefusal, DiskView, state_of, IsValidNow, Client, shown_at, MayWrite, Looked, inode_of, block_len_of, Found, node_pairs, StandsAsRead, IsOpenNow, IsFurther, node_tree, not_found, named_block, block_said}
 use Rattle.fs_trees.specs.declared.refusal.FsRefusal.TheVariants as no
-use Rattle.fs_port.specs.View.{DiskView, state_of}
-use Rattle.fs_port.specs.Calls.{IsValidNow}
-use Rattle.fs_client.specs.declared.client.Client.{Client}
-use Rattle.fs_client.specs.Client.{shown_at}
-use Rattle.fs_client.specs.May.{MayWrite, Looked}
-use Rattle.inode_layout.specs.Block.{inode_of, block_len_of}
-use Rattle.inode_walks.specs.declared.finding.Found.{Found}
-use Rattle.inode_walks.specs.Finding.{node_pairs, StandsAsRead, IsOpenNow, IsFurther, node_tree, not_found, named_block, block_said}
 use Rattle.inode_walks.proofs.WalkLaws.{block_is, node_block, file_node, dir_node, child_node, child_pair, child_pairs, named_is_there, in_a_dir, in_a_file, nothing_there}
 
 -- what is read has an inode

@@ -1,13 +1,9 @@
 -- Parts of lists, and of the bytes of blocks in a row.
 use Rattle.std.proofs.Common.{◌≡◌, ℕ, zero, suc, ◌+◌, ◌-◌, ◌*◌, ◌<◌, ◌≤◌, ◌==◌, true, false, nat_le, List, [], ◌∷◌, ◌++◌, length, min, refl, sym, ◌∙◌, ap, arith, length-append}
-use Rattle.std.proofs.lemmas.Bool.{eq-eqb, or_left, or_right}
+use Rattle.inode_walks.proofs.Common.{eq-eqb, or_left, or_right, mul-suc, drop-drop, drop-take, drop, flat_map, slice_index, has_number, part}
 use Rattle.std.proofs.lemmas.Bool.Decides.{nat_tests}
-use Rattle.std.proofs.Math.Nat.{mul-suc}
 use Rattle.std.proofs.Math.Seq.{take-add, take-append_seam, drop-append-add}
-use Rattle.std.proofs.lemmas.List.{drop-drop, drop-take}
-use Rattle.std.specs.Prelude.{take, drop, flat_map, slice_index}
-use Rattle.tsd_model.specs.World.{has_number}
-use Rattle.inode_walks.specs.Reading.{part}
+use Rattle.std.specs.Prelude.{take}
 
 -- a part, and what follows it
 pub part_more : (xs : List ℕ) (i j k : ℕ) → i ≤ j → j ≤ k → part xs i j ++ part xs j k ≡ part xs i k

@@ -1,22 +1,11 @@
 -- An inode that is read from its block.
 use Rattle.std.proofs.Common.{◌≡◌, ℕ, ◌≤◌, Bool, true, false, ◌*◌, ◌⊎◌, List, length, refl, sym, ◌∙◌, ap, subst, arith, inl, inr, Option, Some, None, Result, Ok, Err}
-use Rattle.std.specs.Prelude.{is_some, IfSome, IfOk, IfErr, OnOk, OnErr}
+use Rattle.inode_walks.proofs.Common.{is_some, IfSome, IfOk, IfErr, OnOk, OnErr, block_len, World, contents, only_if, inode_at, inode_of, block_len_of, said_in, is_in_order, in_order, FsRefusal, DiskView, OnlyLooks, looks_as, looks_but_refuses, Found}
 use Rattle.std.specs.Option.{option_and_then}
-use Rattle.tsd_model.specs.Geometry.{block_len}
-use Rattle.tsd_model.specs.World.{World, contents}
 use Rattle.tsd_model.specs.Valid.{IsValid}
-use Rattle.fs_trees.specs.Fields.{only_if}
 use Rattle.fs_trees.specs.Inode as tree
-use Rattle.fs_trees.specs.InodeTree.{inode_at}
-use Rattle.inode_layout.specs.Block.{inode_of, block_len_of}
-use Rattle.inode_layout.specs.Said.{said_in, is_in_order, in_order}
 use Rattle.inode_layout.proofs.SaidLaws.{in_two_steps}
-use Rattle.fs_trees.specs.declared.refusal.FsRefusal.{FsRefusal}
 use Rattle.fs_trees.specs.declared.refusal.FsRefusal.TheVariants as no
-use Rattle.fs_port.specs.View.{DiskView}
-use Rattle.fs_client.specs.May.{OnlyLooks}
-use Rattle.fs_client.proofs.LookLaws.{looks_as, looks_but_refuses}
-use Rattle.inode_walks.specs.declared.finding.Found.{Found}
 
 -- a block of a valid world has the length of all
 pub block_full : (w : World) (b : ℕ) (bytes : List ℕ) → IsValid w → contents w b ≡ Some bytes → length bytes ≡ block_len w.geometry

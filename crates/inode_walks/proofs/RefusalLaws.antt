@@ -1,15 +1,10 @@
 -- The refusals of asks that read, by what a walk finds.
 use Rattle.std.proofs.Common.{◌≡◌, ℕ, true, List, [], ◌∷◌, refl, ◌∙◌, ap, Option, Some, None}
 use Rattle.tsd_model.specs.declared.geometry.Geometry.{Geometry}
-use Rattle.fs_trees.specs.Names.{Path}
-use Rattle.fs_trees.specs.Tree.{Tree, nothing, a_file, a_dir, entry, at, is_there, bytes_in, names_in}
-use Rattle.fs_trees.specs.Answer.{bytes, listed, refused}
-use Rattle.fs_trees.specs.Refusals.{RoomNeed, first_of, not_mounted, lost_on_the_way, missing, no_file, no_dir, refusal}
+use Rattle.inode_walks.proofs.Common.{Path, Tree, nothing, a_file, a_dir, entry, at, is_there, bytes_in, names_in, bytes, listed, refused, RoomNeed, first_of, not_mounted, lost_on_the_way, missing, no_file, no_dir, refusal, FsRefusal, not_found, no_file_found, no_directory_found}
 use Rattle.fs_trees.specs.Step.{outcome, judged, tree_step}
 use Rattle.fs_trees.specs.declared.ask.ShellAsk.TheVariants as ask
 use Rattle.fs_trees.specs.declared.ask.ShellKind.TheVariants.{Inode}
-use Rattle.fs_trees.specs.declared.refusal.FsRefusal.{FsRefusal}
-use Rattle.inode_walks.specs.Finding.{not_found, no_file_found, no_directory_found}
 
 -- what isn't found is refused so, whatever else would be
 pub refused_by : (t : Tree) (p : Path) (e : FsRefusal) (rest : List (Option FsRefusal)) → not_found t p ≡ Some e → first_of (lost_on_the_way t p ∷ missing t p ∷ rest) ≡ Some e

@@ -1,29 +1,11 @@
 -- What a reading ask answers, by what was found.
 use Rattle.std.proofs.Common.{◌≡◌, ◌≢◌, ℕ, ◌+◌, ◌≤◌, true, false, List, [], length, take, min, sym, ◌∙◌, ap, subst, arith, Option, Some, None, Result, Ok, Err}
-use Rattle.std.proofs.lemmas.List.{length-take-le}
+use Rattle.inode_walks.proofs.Common.{length-take-le, IfErr, OnOk, free_count, Name, Path, Tree, at, is_there, bytes_in, names_in, entry_names, inode_tree, Answer, bytes, listed, FsRefusal, DiskView, IsValidNow, Answers, TellsSize, TellsPart, TellsNext, Client, inode_of, block_len_of, is_directory, amount_said, entries_said, next_said, Found, tree_under, mounted_by, StandsAtPath, no_file_found, no_directory_found, part, bytes_said}
 use Rattle.std.proofs.Math.ListN.{drop_of_length-le}
-use Rattle.std.specs.Prelude.{IfErr, OnOk}
-use Rattle.tsd_model.specs.World.{free_count}
-use Rattle.fs_trees.specs.Names.{Name, Path}
-use Rattle.fs_trees.specs.Tree.{Tree, at, is_there, bytes_in, names_in}
-use Rattle.fs_trees.specs.Fields.{entry_names}
-use Rattle.fs_trees.specs.InodeTree.{inode_tree}
-use Rattle.fs_trees.specs.Answer.{Answer, bytes, listed}
 use Rattle.fs_trees.specs.Needs.{need_of}
 use Rattle.fs_trees.specs.declared.ask.ShellAsk.TheVariants as ask
 use Rattle.fs_trees.specs.declared.ask.ShellKind.TheVariants.{Inode}
-use Rattle.fs_trees.specs.declared.refusal.FsRefusal.{FsRefusal}
 use Rattle.fs_trees.specs.declared.refusal.FsRefusal.TheVariants as no
-use Rattle.fs_port.specs.View.{DiskView}
-use Rattle.fs_port.specs.Calls.{IsValidNow}
-use Rattle.fs_port.specs.Files.{Answers, TellsSize, TellsPart, TellsNext}
-use Rattle.fs_client.specs.declared.client.Client.{Client}
-use Rattle.inode_layout.specs.Block.{inode_of, block_len_of}
-use Rattle.inode_layout.specs.Said.{is_directory, amount_said, entries_said, next_said}
-use Rattle.inode_walks.specs.declared.finding.Found.{Found}
-use Rattle.inode_walks.specs.Asking.{tree_under, mounted_by}
-use Rattle.inode_walks.specs.Finding.{StandsAtPath, no_file_found, no_directory_found}
-use Rattle.inode_walks.specs.Reading.{part, bytes_said}
 use Rattle.inode_walks.proofs.RefusalLaws.{cat_refused, cat_answered, ls_refused, ls_answered}
 use Rattle.inode_walks.proofs.FileLaws.{file_is, row_is_long, tree_there}
 use Rattle.inode_walks.proofs.FoundLaws.{dir_said, names_there}

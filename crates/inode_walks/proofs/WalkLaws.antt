@@ -1,23 +1,11 @@
 -- What stands under a root, and one name further.
 use Rattle.std.proofs.Common.{◌≡◌, ℕ, zero, suc, true, false, cond, ◌==◌, List, [], ◌∷◌, ◌++◌, refl, sym, ◌∙◌, ap, subst, Option, Some, None}
-use Rattle.std.proofs.lemmas.Bool.{and_parts, and_from, or_left, or_right, eq-eqb}
-use Rattle.std.specs.Prelude.{map, ⊤}
+use Rattle.inode_walks.proofs.Common.{and_parts, and_from, or_left, or_right, eq-eqb, map, ⊤, World, are_apart, holds, is_pair, Name, Path, path_max, name_lt, Entries, none, file, dir, nothing, a_file, a_dir, entry, child, is_there, Entry, Inode, directory, regular, block_named, InodeNode, InodeEntries, FileInode, inode_at, with_first, entries_by, as_dir, node_by, node_at, inode_blocks, named_pairs, inodes_under, tree_of, inode_tree, FsRefusal, read_named, entry_is_read, tree-at, node_pairs, not_found}
 use Rattle.std.specs.List.{list_all}
-use Rattle.tsd_model.specs.World.{World, are_apart}
-use Rattle.tsd_model.specs.Pairs.{holds, is_pair}
 use Rattle.tsd_model.proofs.PairLaws.{all_of_held}
-use Rattle.fs_trees.specs.Names.{Name, Path, path_max, name_lt}
-use Rattle.fs_trees.specs.Tree.{Entries, none, file, dir, nothing, a_file, a_dir, entry, child, is_there}
-use Rattle.fs_trees.specs.Fields.{Entry}
-use Rattle.fs_trees.specs.Inode.{Inode, directory, regular, block_named}
-use Rattle.fs_trees.specs.InodeTree.{InodeNode, InodeEntries, FileInode, inode_at, with_first, entries_by, as_dir, node_by, node_at, inode_blocks, named_pairs, inodes_under, tree_of, inode_tree}
-use Rattle.fs_trees.specs.declared.refusal.FsRefusal.{FsRefusal}
 use Rattle.fs_trees.specs.declared.refusal.FsRefusal.TheVariants as no
-use Rattle.fs_laws.proofs.DirectoryLaws.{read_named, entry_is_read}
 use Rattle.fs_laws.proofs.InodeLaws.{found, under_is}
 use Rattle.fs_laws.proofs.ListLaws.{held_left, held_right}
-use Rattle.fs_laws.proofs.MapLaws.{tree-at}
-use Rattle.inode_walks.specs.Finding.{node_pairs, not_found}
 
 -- ---- what is named in a directory is pointed to
 

@@ -1,31 +1,14 @@
 -- A walk by names: what holds after so many of them.
 use Rattle.std.proofs.Common.{◌≡◌, ℕ, zero, suc, ◌+◌, ◌<◌, ◌≤◌, true, List, [], ◌∷◌, ◌++◌, length, refl, sym, ◌∙◌, ap, subst, inl, arith, Option, Some, None, Ok}
-use Rattle.std.proofs.lemmas.Bool.{eq-eqb}
-use Rattle.std.specs.Prelude.{is_some, take, drop, slice_index_or, slice_get, cond}
-use Rattle.tsd_model.specs.Geometry.{block_len}
-use Rattle.tsd_model.specs.Pairs.{holds}
+use Rattle.inode_walks.proofs.Common.{eq-eqb, is_some, drop, slice_index_or, slice_get, block_len, holds, HoldsWrite, shown_at, inode_of, block_len_of, World, Name, Path, path_max, nothing, a_file, a_dir, child, at, is_there, InodeNode, inode_at, node_at, inodes_under, inode_tree, FsRefusal, DiskView, state_of, IsDiskSound, Stays, Client, MayWrite, Looked, OnlyLooks, Found, MayAsk, tree_under, StandsAsRead, IsFurther, IsOpenNow, StandsAtPath, node_pairs, node_tree, not_found}
+use Rattle.std.specs.Prelude.{take, cond}
 use Rattle.tsd_model.specs.Records.{kept_of}
 use Rattle.tsd_model.specs.Sessions.{level_le}
 use Rattle.tsd_model.specs.Attained.{record_level, shown_level}
 use Rattle.tsd_model.specs.declared.caps.Shown.TheVariants.{Nothing, Key}
 use Rattle.tsd_model.specs.declared.requests.Level.TheVariants as level
 use Rattle.disk_laws.proofs.AttainedLaws.{attained_where}
-use Rattle.fs_laws.specs.Ways.{HoldsWrite}
-use Rattle.fs_client.specs.Client.{shown_at}
-use Rattle.inode_layout.specs.Block.{inode_of, block_len_of}
-use Rattle.tsd_model.specs.World.{World}
-use Rattle.fs_trees.specs.Names.{Name, Path, path_max}
-use Rattle.fs_trees.specs.Tree.{nothing, a_file, a_dir, child, at, is_there}
-use Rattle.fs_trees.specs.InodeTree.{InodeNode, inode_at, node_at, inodes_under, inode_tree}
 use Rattle.fs_trees.specs.InodeTree as inodes
-use Rattle.fs_trees.specs.declared.refusal.FsRefusal.{FsRefusal}
-use Rattle.fs_port.specs.View.{DiskView, state_of, IsDiskSound}
-use Rattle.fs_port.specs.Calls.{Stays}
-use Rattle.fs_client.specs.declared.client.Client.{Client}
-use Rattle.fs_client.specs.May.{MayWrite, Looked, OnlyLooks}
-use Rattle.inode_walks.specs.declared.finding.Found.{Found}
-use Rattle.inode_walks.specs.Asking.{MayAsk, tree_under}
-use Rattle.inode_walks.specs.Finding.{StandsAsRead, IsFurther, IsOpenNow, StandsAtPath, node_pairs, node_tree, not_found}
 use Rattle.inode_walks.proofs.WalkLaws.{tree_child, is_found, root_stands}
 use Rattle.inode_walks.proofs.FurtherLaws.{there_is_inode}
 

@@ -1,19 +1,6 @@
 -- Bodies that are written and read one after another.
 use Rattle.std.proofs.Common.{◌≡◌, ◌≢◌, inl, inr, ℕ, zero, suc, ◌+◌, ◌<◌, ◌≤◌, ◌==◌, true, false, List, [], ◌∷◌, ◌++◌, length, map, get_or, sym, ◌∙◌, ap, subst, arith, append_assoc, Some}
-use Rattle.std.specs.List.{range_with_len, slice_get}
-use Rattle.std.proofs.lemmas.Bool.{cases_eq, or_left, or_parts}
-use Rattle.std.proofs.lemmas.Bool.Decides.{nat_tests}
-use Rattle.std.proofs.lemmas.List.{get_or-map}
-use Rattle.std.proofs.lemmas.List.FromFn.{map-range_with_len_more, length-map-range_with_len, length-range_with_len, get_or-range_with_len}
-use Rattle.image_device.specs.Calls.{Touches}
-use Rattle.image_device.specs.Image.{Image}
-use Rattle.image_device.specs.View.{View}
-use Rattle.image_layout.specs.Ring.{body_sector, descriptor_sector}
-use Rattle.image_layout.specs.declared.offset.Patch.{Patch}
-use Rattle.intent_journal.specs.Descriptor.{count_in, home_in, homes_in, is_valid}
-use Rattle.intent_journal.specs.Records.{descriptor_of, record_at}
-use Rattle.tsd_model.proofs.RangeLaws.{map_range_alike}
-use Rattle.intent_journal.specs.Closing.{is_body_of, is_in_record}
+use Rattle.intent_journal.proofs.Common.{range_with_len, slice_get, cases_eq, or_left, or_parts, nat_tests, get_or-map, map-range_with_len_more, length-map-range_with_len, length-range_with_len, get_or-range_with_len, Touches, Image, View, body_sector, descriptor_sector, Patch, count_in, home_in, homes_in, is_valid, descriptor_of, record_at, map_range_alike, is_body_of, is_in_record}
 
 -- the patch at an index
 pub got : (ps : List Patch) (k : ℕ) (d p : Patch) → slice_get ps k ≡ Some p → get_or ps k d ≡ p

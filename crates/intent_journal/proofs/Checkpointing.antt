@@ -4,24 +4,7 @@
 -- the homes hold the bodies, it makes no difference whether the records still lie over them. So gate 0 may be torn: read as
 -- open the same records are open, and read as closed none is. Behind a closed gate 0 no other gate is read.
 use Rattle.std.proofs.Common.{◌≡◌, ◌≢◌, ◌⊎◌, inl, inr, ℕ, ◌<◌, ◌==◌, ◌&&◌, nat_le, Bool, true, false, cond, IsTrue, List, [], refl, sym, ◌∙◌, ap, subst, arith}
-use Rattle.std.specs.List.{list_all}
-use Rattle.std.proofs.lemmas.Bool.{cases_Bool, cases_eq, ne_eqb, and_right, and_left, false_from_ne_true, and_parts, leb-true, both_ways}
-use Rattle.image_device.specs.Image.{Image}
-use Rattle.image_device.specs.Runs.{IsConfined, IsFirm, LeavesOnly}
-use Rattle.image_device.specs.View.{View, IsLeftWithin}
-use Rattle.image_device.proofs.Moments.{joined, weakened}
-use Rattle.image_device.proofs.Sets.{or_false, or_false_left, or_false_right}
-use Rattle.image_layout.specs.Image.{says_open, gate_bytes}
-use Rattle.image_layout.specs.Ring.{records, gate_sector, descriptor_sector, body_sector}
-use Rattle.image_layout.specs.declared.offset.Patch.{Patch}
-use Rattle.intent_journal.specs.Batch.{has_home, homes_of}
-use Rattle.intent_journal.specs.Closing.{IsListed, is_listed_open}
-use Rattle.intent_journal.specs.Crash.{IsBefore}
-use Rattle.intent_journal.specs.Home.{home, overlaid, is_journal, AgreeBut}
-use Rattle.intent_journal.specs.Homes.{is_lawful_home}
-use Rattle.intent_journal.specs.Records.{JournalRecord, patches_of, is_gate_open}
-use Rattle.intent_journal.specs.Ring.{IsRingAt}
-use Rattle.intent_journal.specs.Written.{ClosesGates}
+use Rattle.intent_journal.proofs.Common.{list_all, cases_Bool, cases_eq, ne_eqb, and_right, and_left, false_from_ne_true, and_parts, leb-true, both_ways, Image, IsConfined, IsFirm, LeavesOnly, View, IsLeftWithin, joined, weakened, or_false, or_false_left, or_false_right, says_open, gate_bytes, records, gate_sector, descriptor_sector, body_sector, Patch, has_home, homes_of, IsListed, is_listed_open, IsBefore, home, overlaid, is_journal, AgreeBut, is_lawful_home, JournalRecord, patches_of, is_gate_open, IsRingAt, ClosesGates}
 use Rattle.intent_journal.proofs.Gates.{IsAlike, opened_same, valid_same}
 use Rattle.intent_journal.proofs.Opened.{opened_none, opened_lawful, home_of_empty}
 use Rattle.intent_journal.proofs.Overlays.{overlaid_alike, overlaid_twice, lawful_apart}

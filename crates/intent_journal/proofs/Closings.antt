@@ -1,12 +1,6 @@
 -- Gates that are closed one after another.
 use Rattle.std.proofs.Common.{◌≡◌, ◌≢◌, inl, inr, ℕ, zero, suc, ◌+◌, ◌*◌, ◌<◌, ◌≤◌, ◌==◌, ◌&&◌, nat_le, Bool, true, false, List, length, set, sym, ◌∙◌, ap, arith, add-one}
-use Rattle.std.proofs.lemmas.Bool.{cases_Bool, cases_eq, cond-false, and_right}
-use Rattle.std.proofs.lemmas.Bool.Decides.{nat_tests}
-use Rattle.std.proofs.lemmas.List.{get_or-set_same, get_or-set_other}
-use Rattle.image_device.specs.Image.{Image}
-use Rattle.image_layout.specs.Ring.{records, gate_sector}
-use Rattle.intent_journal.specs.Closing.{is_listed_open, later_open, one_if}
-use Rattle.intent_journal.specs.Records.{is_gate_open}
+use Rattle.intent_journal.proofs.Common.{cases_Bool, cases_eq, cond-false, and_right, nat_tests, get_or-set_same, get_or-set_other, Image, records, gate_sector, is_listed_open, later_open, one_if, is_gate_open}
 
 pub later_open_more : (gates : List Bool) (i : ℕ) → 1 ≤ i → later_open gates (i + 1) ≡ later_open gates i + one_if (is_listed_open gates i)
 later_open_more gates zero h = absurd (omega arith)

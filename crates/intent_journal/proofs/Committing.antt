@@ -3,25 +3,7 @@
 -- While the record is written its gate is closed, so nothing that is written is read. Once it is on the disk its gate alone
 -- decides whether the batch counts: read as closed it doesn't, and read as open all of it does.
 use Rattle.std.proofs.Common.{◌≡◌, ◌≢◌, inl, inr, ℕ, ◌+◌, ◌<◌, ◌≤◌, ◌==◌, nat_lt, Bool, true, false, List, [], ◌∷◌, ◌++◌, length, Some, sym, ◌∙◌, ap, subst, arith}
-use Rattle.std.specs.List.{slice_get}
-use Rattle.std.proofs.lemmas.Bool.{cases_Bool, ne_eqb, eqb-false, ltb-false, or_parts}
-use Rattle.std.proofs.lemmas.List.{length_push}
-use Rattle.image_device.specs.Image.{Image}
-use Rattle.image_device.specs.Runs.{IsConfined, IsFirm, LeavesOnly}
-use Rattle.image_device.specs.View.{View, IsLeftNow, IsLeftWithin}
-use Rattle.image_device.proofs.Moments.{joined, weakened}
-use Rattle.image_device.proofs.Sets.{or_false, or_false_left, or_false_right}
-use Rattle.image_layout.specs.Image.{says_open, gate_bytes}
-use Rattle.image_layout.specs.Ring.{records, bodies, gate_sector, descriptor_sector, body_sector}
-use Rattle.image_layout.specs.declared.offset.Patch.{Patch}
-use Rattle.intent_journal.specs.Batch.{IsBatch, homes_of}
-use Rattle.intent_journal.specs.Closing.{is_in_record}
-use Rattle.intent_journal.specs.Crash.{IsBefore, IsAfter, IsBeforeOrAfter}
-use Rattle.intent_journal.specs.Descriptor.{descriptor_bytes}
-use Rattle.intent_journal.specs.Home.{home, overlaid, is_journal, AgreeBut}
-use Rattle.intent_journal.specs.Records.{JournalRecord, patches_of, open_records, is_gate_open, has_valid_records}
-use Rattle.intent_journal.specs.Ring.{IsRing, IsRingAt, is_full_for}
-use Rattle.intent_journal.specs.Written.{IsRecordWritten}
+use Rattle.intent_journal.proofs.Common.{slice_get, cases_Bool, ne_eqb, eqb-false, ltb-false, or_parts, length_push, Image, IsConfined, IsFirm, LeavesOnly, View, IsLeftNow, IsLeftWithin, joined, weakened, or_false, or_false_left, or_false_right, says_open, gate_bytes, records, bodies, gate_sector, descriptor_sector, body_sector, Patch, IsBatch, homes_of, is_in_record, IsBefore, IsAfter, IsBeforeOrAfter, descriptor_bytes, home, overlaid, is_journal, AgreeBut, JournalRecord, patches_of, open_records, is_gate_open, has_valid_records, IsRing, IsRingAt, is_full_for, IsRecordWritten}
 use Rattle.intent_journal.proofs.Bodies.{got_within}
 use Rattle.intent_journal.proofs.Gates.{opened_same, valid_same}
 use Rattle.intent_journal.proofs.Opened.{SameUsed, opened_kept, opened_more}

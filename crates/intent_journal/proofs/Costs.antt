@@ -1,10 +1,6 @@
 -- How many homes a batch adds to a ring, and what its commit costs.
 use Rattle.std.proofs.Common.{◌≡◌, ℕ, suc, ◌+◌, ◌*◌, ◌≤◌, ◌==◌, ◌||◌, true, false, cond, inl, inr, List, [], ◌∷◌, ◌++◌, length, length-append, refl, ap, subst, arith}
-use Rattle.std.proofs.lemmas.Bool.{cases_Bool}
-use Rattle.image_layout.specs.declared.offset.Patch.{Patch}
-use Rattle.intent_journal.specs.Batch.{has_home}
-use Rattle.intent_journal.specs.Records.{JournalRecord, patches_of}
-use Rattle.intent_journal.specs.Ring.{last_patches, distinct_homes, is_full_for, committed, checkpoint_writes, commit_writes}
+use Rattle.intent_journal.proofs.Common.{cases_Bool, Patch, has_home, JournalRecord, patches_of, last_patches, distinct_homes, is_full_for, committed, checkpoint_writes, commit_writes}
 use Rattle.intent_journal.proofs.Parts.{patches_push}
 use Rattle.intent_journal.proofs.Replaying.{lasts_most}
 

@@ -1,20 +1,10 @@
 -- What is written into a descriptor, and what is read there.
 use Rattle.std.proofs.Common.{◌≡◌, ◌≢◌, ℕ, zero, suc, ◌+◌, ◌*◌, ◌-◌, ◌^◌, ◌<◌, ◌≤◌, ◌&&◌, nat_le, Bool, true, List, [], ◌∷◌, ◌++◌, length, map, take, drop, replicate, get_or, refl, sym, ◌∙◌, ap, arith, append_assoc, add-one, zero-add, Some, option_map}
-use Rattle.std.specs.List.{list_all, slice_get, flat_map, range_with_len}
+use Rattle.intent_journal.proofs.Common.{list_all, slice_get, range_with_len, take-suc, take-append_seam, drop-append-add, nat_tests, drop-replicate, length-take-le, flat_map-append, little_from, little_bytes, Patch, bodies, are_apart, is_lawful_home, homes_of, IsBatch, count_in, home_in, homes_in, is_valid, descriptor_bytes}
+use Rattle.std.specs.List.{flat_map}
 use Rattle.std.proofs.Math.Nat.{suc-add}
-use Rattle.std.proofs.Math.Seq.{take-suc, take-append_seam, drop-append-add}
-use Rattle.std.proofs.lemmas.Bool.Decides.{nat_tests}
-use Rattle.std.proofs.lemmas.List.{drop-replicate, length-take-le}
-use Rattle.std.proofs.lemmas.Grind.{flat_map-append}
 use Rattle.std.proofs.lemmas.Option.{slice_get-map}
-use Rattle.byteorder.specs.Endian.{little_from, little_bytes}
 use Rattle.byteorder.specs.Numbers.{little_from-cons, little_number-reads_back}
-use Rattle.image_layout.specs.declared.offset.Patch.{Patch}
-use Rattle.image_layout.specs.Ring.{bodies}
-use Rattle.tsd_model.specs.World.{are_apart}
-use Rattle.intent_journal.specs.Homes.{is_lawful_home}
-use Rattle.intent_journal.specs.Batch.{homes_of, IsBatch}
-use Rattle.intent_journal.specs.Descriptor.{count_in, home_in, homes_in, is_valid, descriptor_bytes}
 use Rattle.intent_journal.proofs.HomesOf.{homes_append, length_homes}
 use Rattle.intent_journal.proofs.Bools.{and_true_parts}
 

@@ -1,15 +1,6 @@
 -- A ring whose records are put in place: what is open, and how often is written.
 use Rattle.std.proofs.Common.{◌≡◌, inl, inr, ℕ, zero, suc, ◌+◌, ◌<◌, ◌≤◌, nat_lt, Bool, true, false, List, [], ◌∷◌, length, min, sym, ◌∙◌, ap, arith}
-use Rattle.std.proofs.lemmas.Bool.{cases_lt, cond-false, lt-ltb, le-ltb}
-use Rattle.image_device.specs.Image.{Image}
-use Rattle.image_device.specs.View.{View}
-use Rattle.image_layout.specs.Ring.{records, gate_sector}
-use Rattle.image_layout.specs.declared.offset.Patch.{Patch}
-use Rattle.intent_journal.specs.Closing.{IsListed, is_listed_open, one_if, later_open, closing_writes}
-use Rattle.intent_journal.specs.Records.{JournalRecord, patches_of, open_from, open_records, is_gate_open}
-use Rattle.intent_journal.specs.Ring.{IsRing, IsRingAt, last_patches, checkpoint_writes}
-use Rattle.image_layout.specs.Image.{gate_bytes}
-use Rattle.intent_journal.specs.Written.{ClosesGates}
+use Rattle.intent_journal.proofs.Common.{cases_lt, cond-false, lt-ltb, le-ltb, Image, View, records, gate_sector, Patch, IsListed, is_listed_open, one_if, later_open, closing_writes, JournalRecord, patches_of, open_from, open_records, is_gate_open, IsRing, IsRingAt, last_patches, checkpoint_writes, gate_bytes, ClosesGates}
 use Rattle.intent_journal.proofs.Opened.{begins}
 use Rattle.intent_journal.proofs.Replaying.{lasts_most}
 use Rattle.intent_journal.proofs.Uses.{at_valid}

@@ -1,11 +1,7 @@
 -- Images whose gates are as open, and whose descriptors and bodies are the same.
 use Rattle.std.proofs.Common.{◌≡◌, inl, inr, ℕ, zero, suc, ◌+◌, ◌<◌, ◌≤◌, ◌&&◌, true, cond, List, ◌∷◌, refl, sym, ◌∙◌, ap, arith}
-use Rattle.std.proofs.lemmas.Bool.{cases_Bool, cond-true, cond-false, and_parts, leb-true}
-use Rattle.image_device.specs.Image.{Image}
-use Rattle.image_layout.specs.Ring.{records, bodies, body_sector}
-use Rattle.intent_journal.specs.Descriptor.{count_in, is_valid}
+use Rattle.intent_journal.proofs.Common.{cases_Bool, cond-true, cond-false, and_parts, leb-true, Image, records, bodies, body_sector, count_in, is_valid, descriptor_of, is_gate_open, record_at, open_from, open_records, are_valid_from, has_valid_records}
 use Rattle.intent_journal.proofs.Opened.{record_alike}
-use Rattle.intent_journal.specs.Records.{descriptor_of, is_gate_open, record_at, open_from, open_records, are_valid_from, has_valid_records}
 
 pub record IsAlike (x y : Image) : Type 0 where
   pub gates : (i : ℕ) → i < records → is_gate_open y i ≡ is_gate_open x i

@@ -1,7 +1,6 @@
 -- The homes of patches.
 use Rattle.std.proofs.Common.{◌≡◌, suc, List, [], ◌∷◌, ◌++◌, length, refl, ap}
-use Rattle.image_layout.specs.declared.offset.Patch.{Patch}
-use Rattle.intent_journal.specs.Batch.{homes_of}
+use Rattle.intent_journal.proofs.Common.{Patch, homes_of}
 
 pub homes_append : (ps qs : List Patch) → homes_of (ps ++ qs) ≡ homes_of ps ++ homes_of qs
 homes_append [] qs = refl

@@ -1,19 +1,6 @@
 -- The last patch of a home.
 use Rattle.std.proofs.Common.{◌≡◌, inl, inr, ℕ, ◌+◌, ◌<◌, ◌≤◌, ◌==◌, ◌||◌, ◌&&◌, not, Bool, true, false, cond, List, [], ◌∷◌, ◌++◌, length, get_or, take, drop, refl, sym, ◌∙◌, ap, subst, arith, Option, Some, None}
-use Rattle.std.specs.List.{list_any}
-use Rattle.std.proofs.lemmas.Bool.{cases_Bool, cond-true, cond-false, or_from, or_left, and_from, and_left, and_right, not_from_true, not_from_false}
-use Rattle.std.proofs.lemmas.Bool.Decides.{nat_tests}
-use Rattle.std.proofs.lemmas.List.Folds.{list_any-append, list_any_at}
-use Rattle.std.proofs.lemmas.List.{drop_more, drop_all, take_more, take-append-drop}
-use Rattle.image_device.specs.Image.{Image, put_at}
-use Rattle.image_device.specs.View.{View}
-use Rattle.std.specs.Option.{MatchOption}
-use Rattle.image_layout.specs.declared.offset.Patch.{Patch}
-use Rattle.intent_journal.specs.Batch.{has_home}
-use Rattle.intent_journal.specs.Home.{overlaid, home}
-use Rattle.intent_journal.specs.Records.{JournalRecord, patches_of}
-use Rattle.intent_journal.specs.Ring.{last_patches, IsRingAt}
-use Rattle.intent_journal.specs.Closing.{one_if}
+use Rattle.intent_journal.proofs.Common.{list_any, cases_Bool, cond-true, cond-false, or_from, or_left, and_from, and_left, and_right, not_from_true, not_from_false, nat_tests, list_any-append, list_any_at, drop_more, drop_all, take_more, take-append-drop, Image, put_at, View, MatchOption, Patch, has_home, overlaid, home, JournalRecord, patches_of, last_patches, IsRingAt, one_if}
 use Rattle.intent_journal.proofs.Overlays.{overlaid_missed, overlaid_append}
 
 abbrev pub is_for : ℕ → Patch → Bool

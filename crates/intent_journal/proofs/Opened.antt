@@ -1,19 +1,6 @@
 -- The records that an image has in the ring, and what of an image they hang on.
 use Rattle.std.proofs.Common.{◌≡◌, ◌≢◌, inl, inr, ℕ, zero, suc, ◌+◌, ◌<◌, ◌≤◌, ◌&&◌, nat_le, Bool, true, false, cond, IsTrue, List, [], ◌∷◌, ◌++◌, length, map, refl, sym, ◌∙◌, ap, arith, zero-add, length-append, Some}
-use Rattle.std.specs.List.{list_all, slice_get, range_with_len}
-use Rattle.std.proofs.lemmas.Bool.{cases_Bool}
-use Rattle.std.proofs.lemmas.Bool.Decides.{nat_tests}
-use Rattle.std.proofs.lemmas.List.FromFn.{length-map-range_with_len}
-use Rattle.tsd_model.proofs.RangeLaws.{map_range_alike}
-use Rattle.image_device.specs.Image.{Image}
-use Rattle.image_layout.specs.Ring.{records, bodies, body_sector}
-use Rattle.image_layout.specs.declared.offset.Patch.{Patch}
-use Rattle.tsd_model.specs.World.{are_apart}
-use Rattle.intent_journal.specs.Homes.{is_lawful_home}
-use Rattle.intent_journal.specs.Batch.{homes_of, IsBatch}
-use Rattle.intent_journal.specs.Descriptor.{count_in, home_in, homes_in, is_valid, descriptor_bytes}
-use Rattle.intent_journal.specs.Home.{overlaid, home}
-use Rattle.intent_journal.specs.Records.{JournalRecord, patches_of, record_at, open_from, open_records, is_gate_open, descriptor_of, are_valid_from, has_valid_records}
+use Rattle.intent_journal.proofs.Common.{list_all, slice_get, range_with_len, cases_Bool, nat_tests, length-map-range_with_len, map_range_alike, Image, records, bodies, body_sector, Patch, are_apart, is_lawful_home, homes_of, IsBatch, count_in, home_in, homes_in, is_valid, descriptor_bytes, overlaid, home, JournalRecord, patches_of, record_at, open_from, open_records, is_gate_open, descriptor_of, are_valid_from, has_valid_records}
 use Rattle.intent_journal.proofs.HomesOf.{homes_append}
 use Rattle.intent_journal.proofs.Bools.{and_true_parts}
 use Rattle.intent_journal.proofs.Descriptors.{items_at, batch_count, batch_home, descriptor_valid}

@@ -1,15 +1,6 @@
 -- The open records of an image of whole sectors make a ring.
 use Rattle.std.proofs.Common.{◌≡◌, ◌≢◌, ℕ, zero, suc, ◌+◌, ◌<◌, ◌≤◌, true, List, [], ◌∷◌, length, map, get_or, refl, ◌∙◌, ap, subst, arith, Some}
-use Rattle.std.specs.List.{list_all, slice_get, range_with_len}
-use Rattle.image_device.specs.Image.{Image, IsSector}
-use Rattle.image_layout.specs.Ring.{records, body_sector}
-use Rattle.image_layout.specs.declared.offset.Patch.{Patch}
-use Rattle.tsd_model.specs.World.{are_apart}
-use Rattle.intent_journal.specs.Homes.{is_lawful_home}
-use Rattle.intent_journal.specs.Batch.{IsBatch}
-use Rattle.intent_journal.specs.Descriptor.{count_in, home_in, is_valid}
-use Rattle.intent_journal.specs.Records.{JournalRecord, record_at, open_from, open_records, descriptor_of}
-use Rattle.intent_journal.specs.Ring.{IsRing}
+use Rattle.intent_journal.proofs.Common.{list_all, slice_get, range_with_len, Image, IsSector, records, body_sector, Patch, are_apart, is_lawful_home, IsBatch, count_in, home_in, is_valid, JournalRecord, record_at, open_from, open_records, descriptor_of, IsRing}
 use Rattle.intent_journal.proofs.Opened.{begins, length_record, valid_parts, homes_of_record, opened_most}
 
 some_record : (r : List Patch) → 1 ≤ length r → r ≢ []

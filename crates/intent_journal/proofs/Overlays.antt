@@ -1,16 +1,6 @@
 -- Images with patches put into place.
 use Rattle.std.proofs.Common.{◌≡◌, inl, inr, ℕ, ◌+◌, ◌<◌, ◌==◌, ◌||◌, true, false, cond, IsTrue, List, [], ◌∷◌, ◌++◌, length, drop, get_or, refl, sym, ◌∙◌, ap, arith, add-one}
-use Rattle.std.specs.List.{list_all}
-use Rattle.std.proofs.Math.Seq.{drop-cons}
-use Rattle.std.proofs.lemmas.Bool.{cases_Bool}
-use Rattle.std.proofs.lemmas.Bool.Decides.{nat_tests}
-use Rattle.image_device.specs.Image.{Image, put_at}
-use Rattle.image_layout.specs.declared.offset.Patch.{Patch}
-use Rattle.tsd_model.specs.World.{are_apart}
-use Rattle.intent_journal.specs.Homes.{is_lawful_home}
-use Rattle.intent_journal.specs.Batch.{homes_of, has_home}
-use Rattle.intent_journal.specs.Home.{overlaid, is_journal}
-use Rattle.intent_journal.specs.Ring.{last_patches}
+use Rattle.intent_journal.proofs.Common.{list_all, drop-cons, cases_Bool, nat_tests, Image, put_at, Patch, are_apart, is_lawful_home, homes_of, has_home, overlaid, is_journal, last_patches}
 use Rattle.intent_journal.proofs.Bools.{or_false_parts, and_true_parts, other_way, equal_numbers}
 
 -- ---- one sector

@@ -1,14 +1,7 @@
 -- The patches of all records as one list.
 use Rattle.std.proofs.Common.{◌≡◌, ◌≢◌, ⊎_elim, ℕ, suc, ◌+◌, ◌≤◌, List, [], ◌∷◌, ◌++◌, length, take, drop, refl, sym, ◌∙◌, ap, subst, arith, length-drop, length-append}
-use Rattle.std.proofs.lemmas.List.{nil_from_length, take-append-drop, take_all, take-append-le, drop-append-le, append-nil, length_push}
+use Rattle.intent_journal.proofs.Common.{nil_from_length, take-append-drop, take_all, take-append-le, drop-append-le, append-nil, length_push, flat_map-append, records, bodies, Patch, IsBatch, sum_of, parted, ArePatchesOfRing, JournalRecord, patches_of, IsRing}
 use Rattle.std.proofs.lemmas.List.Elements.{Contains-push_cases}
-use Rattle.std.proofs.lemmas.Grind.{flat_map-append}
-use Rattle.image_layout.specs.Ring.{records, bodies}
-use Rattle.image_layout.specs.declared.offset.Patch.{Patch}
-use Rattle.intent_journal.specs.Batch.{IsBatch}
-use Rattle.intent_journal.specs.Parts.{sum_of, parted, ArePatchesOfRing}
-use Rattle.intent_journal.specs.Records.{JournalRecord, patches_of}
-use Rattle.intent_journal.specs.Ring.{IsRing}
 
 pub length_parted : (cs : List ℕ) (ps : List Patch) → length (parted cs ps) ≡ length cs
 length_parted [] ps = refl

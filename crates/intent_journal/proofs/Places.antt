@@ -1,9 +1,6 @@
 -- The journal's sectors are apart from one another.
 use Rattle.std.proofs.Common.{◌≡◌, ◌≢◌, inl, inr, ◌⊎◌, ℕ, ◌+◌, ◌*◌, ◌<◌, ◌≤◌, ◌==◌, nat_le, nat_lt, true, false, sym, ◌∙◌, ap, arith}
-use Rattle.std.proofs.lemmas.Bool.{cases_eq, cond-true, cond-false, ne_eqb, eq-eqb, or_from, and_parts, leb-true, ltb-true, false_from_ne_true, and_from, le-leb, both_ways}
-use Rattle.image_layout.specs.Ring.{records, bodies, gate_sector, descriptor_sector, body_sector}
-use Rattle.intent_journal.specs.Closing.{is_body_of, is_in_record}
-use Rattle.intent_journal.specs.Home.{is_journal}
+use Rattle.intent_journal.proofs.Common.{cases_eq, cond-true, cond-false, ne_eqb, eq-eqb, or_from, and_parts, leb-true, ltb-true, false_from_ne_true, and_from, le-leb, both_ways, records, bodies, gate_sector, descriptor_sector, body_sector, is_body_of, is_in_record, is_journal}
 
 -- the sector of a gate
 pub gate_cases : (i : ℕ) → ((i ≡ 0) × (gate_sector i ≡ 2)) ⊎ ((0 < i) × (gate_sector i ≡ 115 + 2 * i))

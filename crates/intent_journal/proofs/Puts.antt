@@ -1,17 +1,9 @@
 -- What a put makes of a batch.
 use Rattle.std.proofs.Common.{◌≡◌, inl, inr, ℕ, zero, suc, ◌+◌, ◌<◌, ◌≤◌, ◌==◌, not, Bool, true, false, nat_lt, IsTrue, List, [], ◌∷◌, ◌++◌, length, set, refl, sym, ◌∙◌, ap, subst, arith, length-append, Option, Some, None}
-use Rattle.std.specs.List.{list_all, slice_get, position, position_or_len}
-use Rattle.std.proofs.lemmas.Bool.{cases_Bool}
-use Rattle.std.proofs.lemmas.Bool.Decides.{nat_tests}
-use Rattle.std.proofs.lemmas.List.Folds.{list_any-append}
-use Rattle.image_device.specs.Image.{IsSector}
-use Rattle.image_layout.specs.declared.offset.Patch.{Patch}
-use Rattle.image_layout.specs.Ring.{bodies}
-use Rattle.tsd_model.specs.World.{has_number, are_apart}
-use Rattle.intent_journal.specs.Homes.{is_lawful_home}
+use Rattle.intent_journal.proofs.Common.{list_all, slice_get, position_or_len, cases_Bool, nat_tests, list_any-append, IsSector, Patch, bodies, has_number, are_apart, is_lawful_home, homes_of, has_home, with_patch, IsBatch}
+use Rattle.std.specs.List.{position}
 use Rattle.intent_journal.proofs.HomesOf.{homes_append}
 use Rattle.intent_journal.proofs.Bools.{or_false_parts, and_true_parts, not_true, other_way, equal_numbers}
-use Rattle.intent_journal.specs.Batch.{homes_of, has_home, with_patch, IsBatch}
 
 -- ---- where a patch goes
 abbrev pub has_its_home : Patch → Patch → Bool

@@ -1,12 +1,6 @@
 -- The open records, read one after another.
 use Rattle.std.proofs.Common.{◌≡◌, ℕ, suc, ◌+◌, ◌-◌, ◌<◌, ◌&&◌, Bool, true, false, List, [], ◌∷◌, ◌++◌, length, refl, sym, ◌∙◌, ap, subst, arith, append_assoc, length-append}
-use Rattle.std.proofs.lemmas.Bool.{cond-true, cond-false, and_from, and_left}
-use Rattle.std.proofs.lemmas.List.{append-nil}
-use Rattle.std.proofs.lemmas.List.FromFn.{length-map-range_with_len}
-use Rattle.image_device.specs.Image.{Image}
-use Rattle.image_layout.specs.declared.offset.Patch.{Patch}
-use Rattle.intent_journal.specs.Descriptor.{count_in, is_valid}
-use Rattle.intent_journal.specs.Records.{JournalRecord, patches_of, descriptor_of, is_gate_open, record_at, open_from, open_records, are_valid_from, has_valid_records}
+use Rattle.intent_journal.proofs.Common.{cond-true, cond-false, and_from, and_left, append-nil, length-map-range_with_len, Image, Patch, count_in, is_valid, JournalRecord, patches_of, descriptor_of, is_gate_open, record_at, open_from, open_records, are_valid_from, has_valid_records}
 
 -- before the first
 pub found_start : (image : Image) (ps : List Patch) → ps ≡ [] → patches_of (open_records image) ≡ ps ++ patches_of (open_from image 0 (length ps) (8 - 0))

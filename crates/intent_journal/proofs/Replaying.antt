@@ -1,23 +1,8 @@
 -- What a replay finds, and what a crash leaves of it.
 use Rattle.std.proofs.Common.{◌≡◌, inl, inr, ℕ, ◌<◌, ◌≤◌, Bool, true, false, List, [], ◌∷◌, ◌++◌, length, refl, sym, ◌∙◌, ap, subst, arith}
-use Rattle.std.proofs.lemmas.Bool.{cases_Bool, or_from}
-use Rattle.image_device.specs.Calls.{Rests}
-use Rattle.image_device.specs.Image.{Image}
-use Rattle.image_device.specs.Runs.{IsFirm, LeavesOnly}
-use Rattle.image_device.specs.View.{View, IsLeftNow, IsSound}
-use Rattle.image_device.proofs.Moments.{joined, rested, firm_image}
-use Rattle.image_layout.specs.Ring.{records, bodies}
-use Rattle.image_layout.specs.declared.offset.Patch.{Patch}
-use Rattle.intent_journal.specs.Batch.{has_home}
-use Rattle.intent_journal.specs.Closing.{IsListed, is_listed_open, one_if, closing_writes}
-use Rattle.intent_journal.specs.Crash.{IsBefore, IsTheSame}
-use Rattle.intent_journal.specs.Home.{home, is_journal, AgreeBut}
-use Rattle.intent_journal.specs.Records.{JournalRecord, patches_of, descriptor_of, open_from, open_records, is_gate_open, has_valid_records}
-use Rattle.intent_journal.specs.Ring.{last_patches, distinct_homes, IsReplayFound, replay_writes}
+use Rattle.intent_journal.proofs.Common.{cases_Bool, or_from, Rests, Image, IsFirm, LeavesOnly, View, IsLeftNow, IsSound, joined, rested, firm_image, records, bodies, Patch, has_home, IsListed, is_listed_open, one_if, closing_writes, IsBefore, IsTheSame, home, is_journal, AgreeBut, JournalRecord, patches_of, descriptor_of, open_from, open_records, is_gate_open, has_valid_records, last_patches, distinct_homes, IsReplayFound, replay_writes, ClosesGates, rests_joined}
 use Rattle.intent_journal.specs.declared.ring.Replayed.TheVariants.{Nothing, Homes}
-use Rattle.intent_journal.specs.Written.{ClosesGates}
 use Rattle.intent_journal.proofs.Opened.{begins, valid_parts}
-use Rattle.image_device.proofs.Resting.{rests_joined}
 
 -- ---- how many homes
 pub lasts_some : (p : Patch) (ps : List Patch) → 0 < length (last_patches (p ∷ ps))

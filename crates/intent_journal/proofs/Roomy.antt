@@ -1,18 +1,6 @@
 -- A commit for which the ring may have been emptied first.
 use Rattle.std.proofs.Common.{◌≡◌, ◌≢◌, inl, inr, ⊎_elim, ℕ, ◌-◌, false, List, [], ◌∷◌, ◌++◌, length, ◌∙◌, ap, subst, arith}
-use Rattle.std.specs.Prelude.{Result, Ok, Err, OnOk}
-use Rattle.std.proofs.lemmas.Bool.{or_parts, or_from}
-use Rattle.std.proofs.lemmas.Result.{on_ok_weaker}
-use Rattle.image_device.specs.Image.{Image}
-use Rattle.image_device.specs.Runs.{LeavesOnly}
-use Rattle.image_device.specs.View.{View}
-use Rattle.image_device.proofs.Moments.{joined, weakened}
-use Rattle.image_layout.specs.declared.offset.Patch.{Patch}
-use Rattle.intent_journal.specs.Crash.{IsBefore, IsBeforeOrAfter}
-use Rattle.intent_journal.specs.Home.{home, overlaid, is_journal, AgreeBut}
-use Rattle.intent_journal.specs.Records.{JournalRecord}
-use Rattle.std.proofs.lemmas.List.{length_push}
-use Rattle.intent_journal.specs.Written.{IsRecordWritten}
+use Rattle.intent_journal.proofs.Common.{Result, Ok, Err, OnOk, or_parts, or_from, on_ok_weaker, Image, LeavesOnly, View, joined, weakened, Patch, IsBefore, IsBeforeOrAfter, home, overlaid, is_journal, AgreeBut, JournalRecord, length_push, IsRecordWritten}
 use Rattle.intent_journal.proofs.Overlays.{overlaid_alike}
 
 module _ (batch : List Patch) (v v1 : View) where

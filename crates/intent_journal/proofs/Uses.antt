@@ -1,20 +1,6 @@
 -- What the crates above need of rings and batches.
 use Rattle.std.proofs.Common.{◌≡◌, inl, inr, ℕ, zero, suc, ◌<◌, ◌==◌, not, true, false, IsTrue, List, [], ◌∷◌, length, refl, sym, ◌∙◌, ap, arith}
-use Rattle.std.specs.List.{list_all}
-use Rattle.std.proofs.lemmas.Bool.{cases_Bool}
-use Rattle.std.proofs.lemmas.Bool.Decides.{nat_tests}
-use Rattle.image_device.specs.Image.{Image, put_at}
-use Rattle.image_device.specs.Calls.{Rests}
-use Rattle.image_device.specs.View.{View}
-use Rattle.image_layout.specs.Image.{says_open}
-use Rattle.image_layout.specs.Ring.{records, bodies, gate_sector, descriptor_sector, body_sector}
-use Rattle.image_layout.specs.declared.offset.Patch.{Patch}
-use Rattle.tsd_model.specs.World.{are_apart}
-use Rattle.intent_journal.specs.Homes.{is_lawful_home}
-use Rattle.intent_journal.specs.Batch.{homes_of, has_home, with_patch}
-use Rattle.intent_journal.specs.Home.{overlaid, home, is_journal}
-use Rattle.intent_journal.specs.Records.{JournalRecord, patches_of, open_records, is_gate_open, has_valid_records}
-use Rattle.intent_journal.specs.Ring.{IsRingAt}
+use Rattle.intent_journal.proofs.Common.{list_all, cases_Bool, nat_tests, Image, put_at, Rests, View, says_open, records, bodies, gate_sector, descriptor_sector, body_sector, Patch, are_apart, is_lawful_home, homes_of, has_home, with_patch, overlaid, home, is_journal, JournalRecord, patches_of, open_records, is_gate_open, has_valid_records, IsRingAt}
 use Rattle.intent_journal.proofs.Bools.{and_true_parts, not_true, equal_numbers}
 use Rattle.intent_journal.proofs.Overlays.{put_here, put_elsewhere, overlaid_alike, overlaid_missed}
 use Rattle.intent_journal.proofs.Opened.{opened_kept, opened_lawful, opened_none}

@@ -1,5 +1,5 @@
 -- What a run changed, it changed by access.
-use Rattle.reach_laws.specs.ByAccess.{RunsChangeByAccess}
+use Rattle.reach_laws.proofs.Common.{RunsChangeByAccess}
 use Rattle.reach_laws.proofs.UnreachedLaws.{unreached_is_hidden, unreached_stays}
 use Rattle.reach_laws.proofs.WriterLaws.{blocks_by_access, bytes_by_access, caps_by_access, new_pointers_by_access, pointers_by_access}
 

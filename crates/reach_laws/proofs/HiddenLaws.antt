@@ -1,14 +1,9 @@
 -- Blocks that differ at most in hidden bytes.
 use Rattle.std.proofs.Common.{◌≡◌, ℕ, Bool, true, false, not, cond, ◌&&◌, ◌==◌, List, [], ◌∷◌, length, refl, sym, ◌∙◌, ap, subst, inl, inr, arith, Option, Some, None}
-use Rattle.std.proofs.lemmas.Bool.{cases_eq, cases_lt, ne_eqb}
+use Rattle.reach_laws.proofs.Common.{cases_eq, cases_lt, ne_eqb, slice_index_or, slice_set, is_some, World, contents, restricted, with_contents, with_pointer, with_new_blocks, zeros, AreLike}
 use Rattle.std.proofs.lemmas.List.{get_or-set_same, get_or-set_other, get_or_past, length-set}
 use Rattle.std.proofs.lemmas.List.FromFn.{length-map-range_with_len}
-use Rattle.std.specs.Prelude.{slice_index_or, slice_set, is_some}
-use Rattle.tsd_model.specs.World.{World, contents}
-use Rattle.tsd_model.specs.Reach.{restricted}
-use Rattle.tsd_model.specs.Step.{with_contents, with_pointer, with_new_blocks, zeros}
 use Rattle.tsd_model.proofs.SizeLaws.{contents-restricted}
-use Rattle.disk_laws.specs.Bytes.{AreLike}
 
 abbrev pub Blocks : Type 0
 Blocks = List (Option (List ℕ))

@@ -1,11 +1,6 @@
 -- What each request keeps that passes a test, a run of such requests keeps.
 use Rattle.std.proofs.Common.{◌≡◌, Bool, true, false, List, [], ◌∷◌, drop}
-use Rattle.std.proofs.lemmas.Bool.{and_parts, or_parts}
-use Rattle.tsd_model.specs.Step.{State}
-use Rattle.tsd_model.specs.Run.{answer, after, wants_now}
-use Rattle.tsd_model.specs.declared.requests.PlaceKind.{PlaceKind}
-use Rattle.tsd_model.specs.declared.requests.Request.{Request}
-use Rattle.reach_laws.specs.Runs.{at_some_request, at_each_state}
+use Rattle.reach_laws.proofs.Common.{and_parts, or_parts, State, answer, after, wants_now, PlaceKind, Request, at_some_request, at_each_state}
 
 first_state : (there : State → Bool) (kind : PlaceKind) (s : State) (wants : List Bool) (qs : List Request) → at_each_state there kind s wants qs ≡ true → there s ≡ true
 first_state there kind s wants [] h = h

@@ -1,34 +1,8 @@
 -- The premises of the laws can be met: a secret that is kept, whatever the others ask.
 use Rattle.std.proofs.Common.{◌≡◌, ℕ, ◌<◌, zero, suc, Bool, true, false, not, ◌&&◌, ◌||◌, ◌==◌, List, [], ◌∷◌, refl, arith, inl, inr, drop}
-use Rattle.std.proofs.lemmas.Bool.Decides.{nat_tests}
-use Rattle.std.proofs.lemmas.Bool.{and_parts, or_cases, or_left}
-use Rattle.std.specs.List.{list_all}
-use Rattle.tsd_model.specs.Geometry.{IsLawful}
-use Rattle.tsd_model.specs.Pairs.{holds}
-use Rattle.tsd_model.specs.World.{contents, is_live}
-use Rattle.tsd_model.specs.Sessions.{level_le, level_from, Fits}
-use Rattle.tsd_model.specs.Attained.{shown_level}
-use Rattle.tsd_model.specs.Valid.{IsValid}
-use Rattle.tsd_model.specs.Verdict.{is_granted}
-use Rattle.tsd_model.specs.Step.{State}
-use Rattle.tsd_model.specs.Run.{answer, after, wants_now}
-use Rattle.tsd_model.specs.History.{is_of_session}
-use Rattle.tsd_model.specs.declared.caps.Cap.{Cap}
-use Rattle.tsd_model.specs.declared.caps.Shown.TheVariants.{Nothing, Key}
-use Rattle.tsd_model.specs.declared.requests.Hint.TheVariants.{Null}
-use Rattle.tsd_model.specs.declared.requests.Level.{Level}
+use Rattle.reach_laws.proofs.Common.{nat_tests, and_parts, or_cases, or_left, list_all, IsLawful, holds, contents, is_live, level_le, level_from, Fits, shown_level, IsValid, is_granted, State, answer, after, wants_now, is_of_session, Cap, Nothing, Key, Null, Level, PlaceKind, Near, Request, fresh_is_valid, no_sessions_fit, is_bare, run_valid, at_some_request, shows_right, AlikeBut, is_of, replies_to, IsShutOff, LeavesShut, NoneOpens, keeps_to, region_left}
 use Rattle.tsd_model.specs.declared.requests.Level.TheVariants as level
-use Rattle.tsd_model.specs.declared.requests.PlaceKind.{PlaceKind}
-use Rattle.tsd_model.specs.declared.requests.PlaceKind.TheVariants.{Near}
-use Rattle.tsd_model.specs.declared.requests.Request.{Request}
 use Rattle.tsd_model.specs.declared.requests.Request.TheVariants as ask
-use Rattle.disk_laws.proofs.FreshLaws.{fresh_is_valid, no_sessions_fit}
-use Rattle.disk_laws.proofs.NeedLaws.{is_bare}
-use Rattle.disk_laws.proofs.RunLaws.{run_valid}
-use Rattle.reach_laws.specs.Runs.{at_some_request}
-use Rattle.reach_laws.specs.Confinement.{shows_right}
-use Rattle.reach_laws.specs.Confidentiality.{AlikeBut, is_of, replies_to}
-use Rattle.reach_laws.specs.Region.{IsShutOff, LeavesShut, NoneOpens, keeps_to, region_left}
 use Rattle.reach_laws.proofs.ConfinementLaws.{closed_holds_nothing, none_is_open_at_rest, holds_what_was_shown}
 use Rattle.reach_laws.proofs.Counterexamples.{read_and_write, start, W}
 use Rattle.reach_laws.proofs.RegionLaws.{region_is_hidden}

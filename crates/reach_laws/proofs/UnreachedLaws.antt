@@ -1,45 +1,10 @@
 -- What no session could reach stays as it is, and no reply depends on its bytes.
 use Rattle.std.proofs.Common.{◌≡◌, ℕ, zero, suc, ◌+◌, ◌<◌, ◌≤◌, Bool, true, false, not, ◌&&◌, ◌==◌, nat_lt, nat_le, List, [], ◌∷◌, length, refl, sym, ◌∙◌, ap, subst, inl, inr, arith, Option, None, drop}
-use Rattle.std.proofs.lemmas.Bool.{and_parts, or_cases, or_right}
-use Rattle.std.proofs.lemmas.Bool.Decides.{nat_tests}
-use Rattle.std.proofs.lemmas.List.Elements.{All-head, All-tail}
-use Rattle.std.specs.Prelude.{All, slice_get, IsTrue}
-use Rattle.std.specs.List.{list_any, list_all}
-use Rattle.tsd_model.proofs.PairLaws.{and_false}
-use Rattle.tsd_model.specs.Pairs.{holds}
-use Rattle.tsd_model.specs.Records.{kept_of}
-use Rattle.tsd_model.specs.World.{World, is_live, all_blocks, primary_blocks, has_number}
-use Rattle.tsd_model.specs.Reach.{reach, reach_rounds}
-use Rattle.tsd_model.specs.Sessions.{level_le, level_from, Fits, no_sessions}
-use Rattle.tsd_model.specs.Attained.{record_level, shown_level}
-use Rattle.tsd_model.specs.Needs.{needs}
-use Rattle.tsd_model.specs.Valid.{IsValid}
-use Rattle.tsd_model.specs.Verdict.{is_granted}
-use Rattle.tsd_model.specs.Step.{State}
-use Rattle.tsd_model.specs.Run.{answer, after, at_rest, replies, wants_now}
-use Rattle.tsd_model.specs.History.{is_set_cap_of}
-use Rattle.tsd_model.specs.declared.caps.Cap.{Cap}
-use Rattle.tsd_model.specs.declared.caps.Shown.{Shown}
-use Rattle.tsd_model.specs.declared.caps.Shown.TheVariants.{Nothing, Key}
+use Rattle.reach_laws.proofs.Common.{and_parts, or_cases, or_right, nat_tests, All-head, All-tail, All, slice_get, IsTrue, list_any, list_all, and_false, holds, kept_of, World, is_live, all_blocks, primary_blocks, has_number, reach, reach_rounds, level_le, level_from, Fits, no_sessions, record_level, shown_level, needs, IsValid, is_granted, State, answer, after, at_rest, replies, wants_now, is_set_cap_of, Cap, Shown, Nothing, Key, Need, Record, PlaceKind, Request, writes_to, has_source, leads, found_any, reached_is_live, no_sessions_fit, is_bare, answer_valid, answer_fits, answer_geometry, AlikeBut, is_known, shows_known, is_of, reads_hidden, still_hidden, acts_with_write, moves_pointers, IsShutOff, keeps_to, LeavesShut, region_left, IsOutOfReach, BlockIsAsItWas}
 use Rattle.tsd_model.specs.declared.geometry.Geometry.{Geometry}
-use Rattle.tsd_model.specs.declared.needs.Need.{Need}
-use Rattle.tsd_model.specs.declared.records.Record.{Record}
 use Rattle.tsd_model.specs.declared.requests.Level.TheVariants as level
-use Rattle.tsd_model.specs.declared.requests.PlaceKind.{PlaceKind}
-use Rattle.tsd_model.specs.declared.requests.Request.{Request}
 use Rattle.tsd_model.specs.declared.requests.Request.TheVariants as ask
-use Rattle.disk_laws.specs.Reached.{writes_to}
-use Rattle.disk_laws.specs.Changes.{has_source}
 use Rattle.disk_laws.proofs.GraphLaws.{has_number-filter, has_number-range}
-use Rattle.disk_laws.proofs.ReachLaws.{leads, found_any}
-use Rattle.disk_laws.proofs.ReclaimLaws.{reached_is_live}
-use Rattle.disk_laws.proofs.FreshLaws.{no_sessions_fit}
-use Rattle.disk_laws.proofs.NeedLaws.{is_bare}
-use Rattle.disk_laws.proofs.RunLaws.{answer_valid, answer_fits, answer_geometry}
-use Rattle.reach_laws.specs.Confidentiality.{AlikeBut, is_known, shows_known, is_of, reads_hidden, still_hidden}
-use Rattle.reach_laws.specs.Integrity.{acts_with_write, moves_pointers}
-use Rattle.reach_laws.specs.Region.{IsShutOff, keeps_to, LeavesShut, region_left}
-use Rattle.reach_laws.specs.ByAccess.{IsOutOfReach, BlockIsAsItWas}
 use Rattle.reach_laws.proofs.ConfidentialityLaws.{replies_hide_bytes, hidden_bytes_stay_hidden}
 use Rattle.reach_laws.proofs.ConfinementLaws.{closed_holds_nothing, none_is_open_at_rest}
 use Rattle.reach_laws.proofs.IntegrityLaws.{bytes_have_a_writer, pointers_have_a_writer, records_have_a_writer}

@@ -1,32 +1,8 @@
 -- What a run changed has a writer, who had the access for it.
 use Rattle.std.proofs.Common.{◌≡◌, ℕ, ◌⊎◌, Bool, true, false, ◌&&◌, ◌==◌, List, [], ◌∷◌, ◌++◌, refl, ap, subst, inl, inr, Option, Some, None, drop}
-use Rattle.std.proofs.lemmas.Bool.{and_parts, or_cases}
-use Rattle.std.proofs.lemmas.List.Elements.{All-nil, All-cons}
-use Rattle.std.specs.Prelude.{All, slice_get, is_none, unwrap_or, IsTrue}
-use Rattle.std.specs.List.{list_any, list_all}
-use Rattle.tsd_model.specs.Pairs.{holds}
-use Rattle.tsd_model.specs.World.{World, contents, is_live}
-use Rattle.tsd_model.specs.Sessions.{level_le}
-use Rattle.tsd_model.specs.Attained.{attained}
-use Rattle.tsd_model.specs.Needs.{session_of, needs}
-use Rattle.tsd_model.specs.Valid.{IsValid}
-use Rattle.tsd_model.specs.Verdict.{is_granted, verdict}
-use Rattle.tsd_model.specs.Step.{State}
-use Rattle.tsd_model.specs.Run.{answer, after, at_rest, wants_now}
-use Rattle.tsd_model.specs.History.{is_set_cap_of}
-use Rattle.tsd_model.specs.declared.needs.Need.{Need}
+use Rattle.reach_laws.proofs.Common.{and_parts, or_cases, All-nil, All-cons, All, slice_get, is_none, unwrap_or, IsTrue, list_any, list_all, holds, World, contents, is_live, level_le, attained, session_of, needs, IsValid, is_granted, verdict, State, answer, after, at_rest, wants_now, is_set_cap_of, Need, PlaceKind, Request, Rule, writes_to, has_source, is_create_of, is_removal, attained_by_history, granted_needs_met, met_everywhere, at_some_request, attains_write, acts_with_write, writes_bytes, sets_record, moves_pointers, gives_pointer, removes_blocks, AttainsWrite, HasWriter, StaysLive}
 use Rattle.tsd_model.specs.declared.requests.Level.TheVariants as level
-use Rattle.tsd_model.specs.declared.requests.PlaceKind.{PlaceKind}
-use Rattle.tsd_model.specs.declared.requests.Request.{Request}
 use Rattle.tsd_model.specs.declared.requests.Request.TheVariants as ask
-use Rattle.tsd_model.specs.declared.replies.Rule.{Rule}
-use Rattle.disk_laws.specs.Reached.{writes_to}
-use Rattle.disk_laws.specs.Changes.{has_source, is_create_of, is_removal}
-use Rattle.disk_laws.proofs.AttainedLaws.{attained_by_history}
-use Rattle.disk_laws.proofs.NeedLaws.{granted_needs_met, met_everywhere}
-use Rattle.reach_laws.specs.Runs.{at_some_request}
-use Rattle.reach_laws.specs.Integrity.{attains_write, acts_with_write, writes_bytes, sets_record, moves_pointers, gives_pointer, removes_blocks}
-use Rattle.reach_laws.specs.ByAccess.{AttainsWrite, HasWriter, StaysLive}
 use Rattle.reach_laws.proofs.IntegrityLaws.{run_bytes_have_a_writer, run_pointers_have_a_writer, run_records_have_a_writer, run_new_pointers_have_a_giver, run_blocks_have_a_remover}
 
 -- ---- the request of a run that passes a test

@@ -1,21 +1,10 @@
 -- The blocks that are collected.
 use Rattle.std.proofs.Common.{◌≡◌, ℕ, ◌+◌, ◌<◌, Bool, true, false, ◌&&◌, ◌||◌, ◌==◌, nat_le, nat_lt, List, [], ◌∷◌, ◌++◌, refl, sym, ◌∙◌, ap, subst, arith, inl, inr}
-use Rattle.std.proofs.lemmas.Bool.{eq-eqb, eqb-true, ne_eqb, and_parts, and_from, cases_eq, leb-true, le-leb, lt-ltb, ltb-true}
-use Rattle.std.proofs.lemmas.Bool.Decides.{nat_tests}
-use Rattle.std.specs.Prelude.{slice_index, replicate, slice_index_or}
-use Rattle.tsd_model.specs.World.{is_live, has_number}
-use Rattle.tsd_model.specs.declared.geometry.Geometry.{Geometry}
-use Rattle.pointer_table.specs.Table.{Table, pairs}
+use Rattle.reclaim.proofs.Common.{eq-eqb, eqb-true, ne_eqb, and_parts, and_from, cases_eq, leb-true, le-leb, lt-ltb, ltb-true, nat_tests, slice_index, replicate, slice_index_or, is_live, has_number, Geometry, Table, pairs, LiveMap, live_below, zeros_in, no_record, IsLost, HeldTargets, graph_of, AreTables, HaveCounts, HoldsLost, is_uncounted}
 use Rattle.ref_counts.specs.Table.{Table as Counts}
-use Rattle.block_alloc.specs.LiveMap.{LiveMap}
 use Rattle.block_alloc.specs.LiveMap.{is_live as is_live_in}
-use Rattle.disk_laws.proofs.DoomLaws.{live_below}
 use Rattle.graph_laws.proofs.ToldLaws.{live-world_with}
-use Rattle.graph_laws.specs.Graph.{zeros_in, no_record}
-use Rattle.graph_laws.specs.Steps.{IsLost}
 use Rattle.graph_laws.proofs.LostLaws.{alone_count, count_alone}
-use Rattle.reclaim.specs.Held.{HeldTargets}
-use Rattle.reclaim.specs.Tables.{graph_of, AreTables, HaveCounts, HoldsLost, is_uncounted}
 use Rattle.reclaim.proofs.HeldLaws.{has-push}
 
 below_next : (b i : ℕ) → (b ≡ i → ⊥) → nat_lt b (i + 1) ≡ nat_lt b i

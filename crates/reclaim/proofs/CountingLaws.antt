@@ -1,20 +1,6 @@
 -- Counting off the pairs from doomed blocks, one at a time.
 use Rattle.std.proofs.Common.{◌≡◌, ℕ, ◌+◌, ◌-◌, ◌<◌, Bool, true, false, not, cond, ◌&&◌, ◌||◌, ◌==◌, List, length, refl, sym, ◌∙◌, ap, subst, arith, inl, inr}
-use Rattle.std.proofs.lemmas.Bool.{eq-eqb, eqb-true, ne_eqb, or_cases, or_left, or_right, both_ways, cases_eq, cases_Bool}
-use Rattle.std.proofs.lemmas.List.{get_or-set_same, get_or-set_other}
-use Rattle.std.proofs.lemmas.List.Elements.{filter_agree}
-use Rattle.std.specs.Prelude.{filter, slice_set, slice_index}
-use Rattle.std.specs.List.{range_with_len}
-use Rattle.tsd_model.specs.Pairs.{holds}
-use Rattle.tsd_model.specs.World.{World, is_live, is_primary, has_number}
-use Rattle.disk_laws.proofs.DoomLaws.{live_below}
-use Rattle.graph_laws.specs.Counts.{count_where}
-use Rattle.graph_laws.specs.Marking.{IsMarking, IsMarkingBut}
-use Rattle.graph_laws.specs.RawGraph.{IsRawGraph}
-use Rattle.tsd_model.proofs.CountLaws.{filter_held}
-use Rattle.graph_laws.proofs.MarkingLaws.{marking_still_led, marking_found, marking_as, count_zero, some_left, marked_more}
-use Rattle.reclaim.specs.Ahead.{is_gone}
-use Rattle.reclaim.specs.Counting.{IsCounting}
+use Rattle.reclaim.proofs.Common.{eq-eqb, eqb-true, ne_eqb, or_cases, or_left, or_right, both_ways, cases_eq, cases_Bool, get_or-set_same, get_or-set_other, filter_agree, filter, slice_set, slice_index, range_with_len, holds, World, is_live, is_primary, has_number, live_below, count_where, IsMarking, IsMarkingBut, IsRawGraph, filter_held, marking_still_led, marking_found, marking_as, count_zero, some_left, marked_more, is_gone, IsCounting}
 
 -- ---- another account of the same
 

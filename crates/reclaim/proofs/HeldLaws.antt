@@ -1,12 +1,10 @@
 -- Lists of numbers, none twice.
 use Rattle.std.proofs.Common.{◌≡◌, ℕ, zero, suc, ◌+◌, ◌<◌, ◌≤◌, Bool, true, false, not, ◌||◌, ◌==◌, List, [], ◌∷◌, ◌++◌, length, refl, sym, ◌∙◌, ap, subst, arith, take, inl, inr}
-use Rattle.std.proofs.lemmas.Bool.{eq-eqb, eqb-true, ne_eqb, and_parts, and_from, or_cases, or_left, or_right, or_parts, or_from, not-true, both_ways, false_from_ne_true}
-use Rattle.std.proofs.lemmas.List.{append-nil, take_more}
+use Rattle.reclaim.proofs.Common.{eq-eqb, eqb-true, ne_eqb, and_parts, and_from, or_cases, or_left, or_right, or_parts, or_from, not-true, both_ways, false_from_ne_true, take_more, option_to_list, IfSome, IsSome, IsNone, has_number, are_apart, HeldTargets, IsHeld, IsPopped}
+use Rattle.std.proofs.lemmas.List.{append-nil}
 use Rattle.std.proofs.Common.{Option, Some, None}
-use Rattle.std.specs.Prelude.{get_or, option_to_list, IfSome, IsSome, IsNone, ◌↔◌}
-use Rattle.tsd_model.specs.World.{has_number, are_apart}
+use Rattle.std.specs.Prelude.{get_or, ◌↔◌}
 use Rattle.graph_laws.proofs.CountLaws.{apart_fits}
-use Rattle.reclaim.specs.Held.{HeldTargets, IsHeld, IsPopped}
 
 pub has-push : (xs : List ℕ) (b c : ℕ) → has_number (xs ++ b ∷ []) c ≡ (has_number xs c || (b == c))
 has-push [] b c = or_nothing (b == c)

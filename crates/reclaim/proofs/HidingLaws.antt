@@ -1,17 +1,8 @@
 -- Doomed blocks are hidden, one at a time.
 use Rattle.std.proofs.Common.{◌≡◌, ℕ, zero, suc, ◌<◌, Bool, true, false, not, ◌&&◌, ◌||◌, ◌==◌, List, [], ◌∷◌, ◌++◌, refl, sym, ◌∙◌, ap, subst, inl, inr}
-use Rattle.std.proofs.lemmas.Bool.{eq-eqb, ne_eqb, and_from, or_right, cases_eq}
-use Rattle.std.proofs.lemmas.List.{get_or-set_other}
-use Rattle.std.specs.Prelude.{slice_index_or, slice_set}
-use Rattle.tsd_model.specs.World.{has_number}
-use Rattle.tsd_model.specs.World.{is_live as is_live_in}
-use Rattle.disk_laws.proofs.DoomLaws.{live_below}
-use Rattle.pointer_table.specs.Table.{Table}
-use Rattle.block_alloc.specs.LiveMap.{LiveMap, is_live}
-use Rattle.tsd_model.specs.Doomed.{doomed, settle}
+use Rattle.reclaim.proofs.Common.{eq-eqb, ne_eqb, and_from, or_right, cases_eq, get_or-set_other, slice_index_or, slice_set, has_number, is_live_in, live_below, Table, LiveMap, doomed, settle, Kept, is_gone, IsAheadOf, Hides, graph_of, AreTables}
+use Rattle.block_alloc.specs.LiveMap.{is_live}
 use Rattle.graph_laws.proofs.SettleLaws.{live-settle}
-use Rattle.reclaim.specs.Ahead.{Kept, is_gone, IsAheadOf, Hides}
-use Rattle.reclaim.specs.Tables.{graph_of, AreTables}
 use Rattle.reclaim.proofs.CollectLaws.{live_told}
 use Rattle.reclaim.proofs.HeldLaws.{has-push}
 

@@ -1,3 +1,4 @@
+pub mod Common
 pub mod HeldLaws
 pub mod TargetLaws
 pub mod StepLaws

@@ -1,10 +1,6 @@
 -- Counts that are raised at some places, and marks that are cleared.
 use Rattle.std.proofs.Common.{◌≡◌, ℕ, zero, suc, ◌+◌, ◌<◌, Bool, true, false, cond, ◌||◌, List, length, get_or, sym, ◌∙◌, ap, arith, take, inl, inr, refl}
-use Rattle.std.proofs.lemmas.Bool.{eq-eqb, ne_eqb, cases_eq}
-use Rattle.std.proofs.lemmas.List.{get_or-set_same, get_or-set_other}
-use Rattle.std.specs.Prelude.{slice_index, slice_set, replicate}
-use Rattle.tsd_model.specs.World.{has_number, are_apart}
-use Rattle.reclaim.specs.Ahead.{is_gone}
+use Rattle.reclaim.proofs.Common.{eq-eqb, ne_eqb, cases_eq, get_or-set_same, get_or-set_other, slice_index, slice_set, replicate, has_number, are_apart, is_gone}
 use Rattle.reclaim.proofs.HeldLaws.{not_before, has-take_more}
 
 or_true : (s : Bool) → (s || true) ≡ true

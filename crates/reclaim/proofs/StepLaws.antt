@@ -1,22 +1,6 @@
 -- The step at a block that waits.
 use Rattle.std.proofs.Common.{◌≡◌, ℕ, ◌+◌, ◌<◌, min, Bool, true, false, cond, ◌==◌, nat_le, Option, Some, None, List, [], length, refl, sym, ◌∙◌, ap, arith, take, ◌⊎◌, ◌↔◌, inl, inr}
-use Rattle.std.proofs.lemmas.Bool.{eq-eqb, or_right, cases_Bool, cases_lt, le-leb, lt-leb}
-use Rattle.std.proofs.lemmas.Bool.Decides.{nat_tests}
-use Rattle.std.proofs.lemmas.List.{length-take, take-take}
-use Rattle.std.specs.Prelude.{IsTrue, IfSome, IsNone}
-use Rattle.tsd_model.specs.World.{World, has_number}
-use Rattle.tsd_model.specs.Doomed.{doomed}
-use Rattle.tsd_model.specs.Step.{targets_from}
-use Rattle.pointer_table.specs.declared.out_step.OutStep.{OutStep}
-use Rattle.graph_laws.specs.Counts.{doomed_pairs}
-use Rattle.graph_laws.specs.RawGraph.{IsLaidOut}
-use Rattle.graph_laws.specs.Steps.{IsLost}
-use Rattle.graph_laws.proofs.SameGraphLaws.{lost_by_graph, step_by_graph, laid_out_by_graph}
-use Rattle.graph_laws.proofs.StepLaws.{none_lost, lost_none, settle-stepped, raw-stepped}
-use Rattle.graph_laws.proofs.WeightLaws.{step_lowers}
-use Rattle.reclaim.specs.Held.{HeldTargets, IsPopped}
-use Rattle.reclaim.specs.Stepping.{MayStep, TakesAll, AreKeptBy, after_step}
-use Rattle.reclaim.specs.Tables.{HoldsLost}
+use Rattle.reclaim.proofs.Common.{eq-eqb, or_right, cases_Bool, cases_lt, le-leb, lt-leb, nat_tests, length-take, take-take, IsTrue, IfSome, IsNone, World, has_number, doomed, targets_from, OutStep, doomed_pairs, IsLaidOut, IsLost, lost_by_graph, step_by_graph, laid_out_by_graph, none_lost, lost_none, settle-stepped, raw-stepped, step_lowers, HeldTargets, IsPopped, MayStep, TakesAll, AreKeptBy, after_step, HoldsLost}
 use Rattle.reclaim.proofs.HeldLaws.{has-push}
 use Rattle.reclaim.proofs.TargetLaws.{takes_all, takes_all_only, first_targets_step, first_targets_some}
 

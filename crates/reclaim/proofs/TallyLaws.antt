@@ -1,26 +1,7 @@
 -- The steps by which what is kept ahead of reclamation is brought up to date.
 use Rattle.std.proofs.Common.{◌≡◌, ℕ, ◌+◌, ◌<◌, ◌≤◌, Bool, true, false, not, cond, ◌&&◌, ◌||◌, ◌==◌, nat_le, List, [], ◌∷◌, ◌++◌, length, refl, sym, ◌∙◌, ap, subst, arith, ◌⊎◌, inl, inr}
-use Rattle.std.proofs.lemmas.Bool.{eq-eqb, eqb-true, ne_eqb, and_parts, and_from, or_left, or_right, both_ways, cases_eq, cases_lt, false_from_ne_true, le-leb, lt-leb}
-use Rattle.std.proofs.lemmas.Bool.Decides.{nat_tests}
-use Rattle.std.proofs.lemmas.List.Elements.{filter_agree}
-use Rattle.std.specs.Prelude.{filter, slice_index}
-use Rattle.std.specs.List.{range_with_len}
-use Rattle.tsd_model.specs.Pairs.{is_pair, holds, without_pair}
-use Rattle.tsd_model.specs.World.{World, is_live, is_primary, has_number}
-use Rattle.tsd_model.specs.Doomed.{doomed}
-use Rattle.tsd_model.specs.Step.{without_pointer}
-use Rattle.tsd_model.proofs.SizeLaws.{length-filter_le}
+use Rattle.reclaim.proofs.Common.{eq-eqb, eqb-true, ne_eqb, and_parts, and_from, or_left, or_right, both_ways, cases_eq, cases_lt, false_from_ne_true, le-leb, lt-leb, nat_tests, filter_agree, filter, slice_index, range_with_len, is_pair, holds, without_pair, World, is_live, is_primary, has_number, doomed, without_pointer, length-filter_le, live_below, not_primary, count_where, IsMarkingBut, IsLaidOut, IsRawGraph, kept_deleted, count-without_pair, marking_of_deleted, marking_lowered, marking_ends, count_ends, off_ends, count_lowered, off_lowered, doomed_listed, Kept, is_gone, IsAheadOf, IsDeleting, kept_ahead, left_at, IsCounting}
 use Rattle.disk_laws.proofs.GraphLaws.{length-range}
-use Rattle.disk_laws.proofs.DoomLaws.{live_below, not_primary}
-use Rattle.graph_laws.specs.Counts.{count_where}
-use Rattle.graph_laws.specs.Marking.{IsMarkingBut}
-use Rattle.graph_laws.specs.RawGraph.{IsLaidOut, IsRawGraph}
-use Rattle.graph_laws.proofs.AheadLaws.{kept_deleted}
-use Rattle.tsd_model.proofs.CountLaws.{count-without_pair}
-use Rattle.graph_laws.proofs.MarkingLaws.{marking_of_deleted, marking_lowered, marking_ends, count_ends, off_ends, count_lowered, off_lowered}
-use Rattle.graph_laws.proofs.WeightLaws.{doomed_listed}
-use Rattle.reclaim.specs.Ahead.{Kept, is_gone, IsAheadOf, IsDeleting, kept_ahead}
-use Rattle.reclaim.specs.Counting.{left_at, IsCounting}
 use Rattle.reclaim.proofs.CountingLaws.{IsLowered, counting_as, counted_off}
 use Rattle.reclaim.proofs.HeldLaws.{has-push}
 

@@ -1,13 +1,8 @@
 -- The targets of a block, of which a step takes the first ones.
 use Rattle.std.proofs.Common.{◌≡◌, ℕ, ◌+◌, ◌<◌, ◌≤◌, true, false, not, cond, ◌&&◌, ◌||◌, ◌==◌, nat_le, List, [], ◌∷◌, length, refl, sym, ◌∙◌, ap, arith, take, append-nil, ◌⊎◌, inl, inr}
-use Rattle.std.proofs.lemmas.Bool.{eq-eqb, and_parts, and_from, both_ways, cases_lt, le-leb, lt-ltb, le-ltb, leb-true}
-use Rattle.std.proofs.lemmas.List.{length-take, length-append, take_more, take-append-le}
-use Rattle.std.specs.Prelude.{◌++◌, nat_lt, filter, map, get_or}
-use Rattle.tsd_model.specs.Pairs.{holds, is_below_first, is_rising}
-use Rattle.tsd_model.specs.Step.{targets_from}
-use Rattle.tsd_model.specs.World.{World, has_number, are_apart}
-use Rattle.graph_laws.specs.Steps.{AreTargets, IsStep, IsLost}
-use Rattle.graph_laws.proofs.StepLaws.{alone_then}
+use Rattle.reclaim.proofs.Common.{eq-eqb, and_parts, and_from, both_ways, cases_lt, le-leb, lt-ltb, le-ltb, leb-true, length-take, take_more, take-append-le, filter, map, holds, is_below_first, is_rising, targets_from, World, has_number, are_apart, AreTargets, IsStep, IsLost, alone_then}
+use Rattle.std.proofs.lemmas.List.{length-append}
+use Rattle.std.specs.Prelude.{◌++◌, nat_lt, get_or}
 use Rattle.tsd_model.proofs.PairLaws.{first_once}
 use Rattle.reclaim.proofs.HeldLaws.{has-take, apart-take, take-whole, has-beyond}
 

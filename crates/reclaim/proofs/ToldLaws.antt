@@ -1,28 +1,7 @@
 -- What is told of a change keeps what is kept ahead right.
 use Rattle.std.proofs.Common.{◌≡◌, ℕ, ◌+◌, ◌<◌, ◌≤◌, Bool, true, false, not, cond, ◌&&◌, ◌==◌, List, [], ◌∷◌, length, nat_lt, is_none, refl, sym, ◌∙◌, ap, subst, arith, inl, inr}
-use Rattle.std.proofs.lemmas.Bool.{eq-eqb, ne_eqb, cases_eq, and_parts, ltb-true}
-use Rattle.std.proofs.lemmas.List.{get_or-set_same, get_or-set_other, length-set}
-use Rattle.std.specs.Prelude.{slice_index, slice_set}
-use Rattle.tsd_model.specs.World.{World, contents, has_number}
-use Rattle.tsd_model.specs.Doomed.{doomed}
-use Rattle.tsd_model.specs.Step.{with_contents, with_pointer, zeros, with_new_blocks}
-use Rattle.tsd_model.specs.declared.geometry.Geometry.{Geometry}
-use Rattle.tsd_model.proofs.CountLaws.{none_pass}
-use Rattle.tsd_model.proofs.SizeLaws.{length-filter_le}
-use Rattle.pointer_table.specs.declared.out_step.OutStep.{OutStep}
-use Rattle.disk_laws.proofs.DoomLaws.{live_below}
-use Rattle.graph_laws.specs.Counts.{AreCounts, kept_count}
-use Rattle.graph_laws.specs.Graph.{HasGraphOf}
-use Rattle.graph_laws.specs.RawGraph.{IsRawGraph}
-use Rattle.graph_laws.specs.Steps.{stepped}
-use Rattle.graph_laws.proofs.AheadLaws.{kept_of_none, kept-with_pointer, doomed_list-with_pointer, doomed_pairs-with_pointer, kept-new_blocks}
+use Rattle.reclaim.proofs.Common.{eq-eqb, ne_eqb, cases_eq, and_parts, ltb-true, get_or-set_same, get_or-set_other, length-set, slice_index, slice_set, World, contents, has_number, doomed, with_contents, with_pointer, zeros, with_new_blocks, Geometry, none_pass, length-filter_le, OutStep, live_below, AreCounts, kept_count, HasGraphOf, IsRawGraph, stepped, kept_of_none, kept-with_pointer, doomed_list-with_pointer, doomed_pairs-with_pointer, kept-new_blocks, doomed_by_graph, doomed_pairs_by_graph, kept_by_graph, geometry-without_pointers, step_lowers, step_keeps_counts, doomed_after_step, Kept, is_gone, IsAheadOf, IsAdding, IsGrowing, IsStepping, kept_ahead, after_step, HasSameMarks}
 use Rattle.graph_laws.proofs.CommuteLaws.{doomed-with_pointer}
-use Rattle.graph_laws.proofs.SameGraphLaws.{doomed_by_graph, doomed_pairs_by_graph, kept_by_graph}
-use Rattle.graph_laws.proofs.StepLaws.{geometry-without_pointers}
-use Rattle.graph_laws.proofs.WeightLaws.{step_lowers, step_keeps_counts, doomed_after_step}
-use Rattle.reclaim.specs.Ahead.{Kept, is_gone, IsAheadOf, IsAdding, IsGrowing, IsStepping, kept_ahead}
-use Rattle.reclaim.specs.Stepping.{after_step}
-use Rattle.reclaim.specs.Tallies.{HasSameMarks}
 use Rattle.reclaim.specs.declared.tally.Tally.{Tally}
 
 -- what is right of a world is right of each world of its graph

@@ -1,26 +1,13 @@
 -- What the sectors that formatting writes say.
 use Rattle.std.proofs.Common.{◌≡◌, ℕ, ◌+◌, ◌-◌, ◌*◌, ◌<◌, ◌≤◌, ◌&&◌, nat_le, nat_lt, true, false, if◌then◌else◌, Bool, List, length, refl, sym, ◌∙◌, ap, subst, arith, inl, inr}
-use Rattle.std.proofs.lemmas.Bool.{cases_Bool}
-use Rattle.std.proofs.lemmas.Bool.Decides.{nat_tests}
+use Rattle.recovery.proofs.Common.{cases_Bool, nat_tests, CapPair, Geometry, IsLawful, zeros, sweep_flag, bitmap_start, slots_start, says_open, bitmap_sector_bytes, fresh_live, fresh_records, AreRecords, IsWrittenFresh, fresh_sectors, fresh_end, fresh_bytes, HasAreas}
 use Rattle.std.proofs.lemmas.List.{length-map}
 use Rattle.std.proofs.Math.Nat.{mul-le-mul_left}
-use Rattle.tsd_model.specs.declared.caps.CapPair.{CapPair}
-use Rattle.tsd_model.specs.declared.geometry.Geometry.{Geometry}
-use Rattle.tsd_model.specs.Geometry.{IsLawful}
 use Rattle.tsd_model.specs.Records.{kept}
-use Rattle.image_device.specs.Image.{Image, zeros}
-use Rattle.image_layout.specs.Areas.{sweep_flag, bitmap_start, slots_start}
-use Rattle.image_layout.specs.Image.{says_open}
+use Rattle.image_device.specs.Image.{Image}
 use Rattle.image_layout.specs.Offsets.{data_sector}
-use Rattle.block_alloc.specs.Bytes.{bitmap_sector_bytes}
-use Rattle.block_alloc.specs.Fresh.{fresh_live}
-use Rattle.cap_store.specs.Fresh.{fresh_records}
-use Rattle.cap_store.specs.Store.{AreRecords}
 use Rattle.cap_store.specs.Stored.{caps_sector_bytes}
 use Rattle.cap_store.proofs.Written.{written as written_records}
-use Rattle.image_world.specs.Fresh.{IsWrittenFresh}
-use Rattle.image_world.proofs.FreshLaws.{fresh_sectors}
-use Rattle.recovery.specs.Areas.{fresh_end, fresh_bytes, HasAreas}
 
 module _ (g : Geometry) (caps : List CapPair) where
   pub bits_at : (n : ℕ) → bitmap_start g ≤ n → n < slots_start g → fresh_bytes g caps n ≡ bitmap_sector_bytes (fresh_live g) (n - bitmap_start g)

@@ -1,25 +1,7 @@
 -- The writes of all sectors but the format gate, one group after another.
 use Rattle.std.proofs.Common.{◌≡◌, ℕ, ◌<◌, ◌≤◌, ◌==◌, nat_le, nat_lt, inl, inr, Bool, true, false, not, List, length, sym, ◌∙◌, ap, subst, arith, refl, Ok}
-use Rattle.std.proofs.lemmas.Bool.{cases_Bool, both_ways}
-use Rattle.std.proofs.lemmas.Bool.Decides.{nat_tests}
-use Rattle.tsd_model.specs.declared.caps.CapPair.{CapPair}
-use Rattle.tsd_model.specs.declared.geometry.Geometry.{Geometry}
-use Rattle.tsd_model.specs.Geometry.{IsLawful}
-use Rattle.cap_store.specs.Fresh.{fresh_records}
-use Rattle.cap_store.specs.Store.{AreRecords}
-use Rattle.image_device.specs.Calls.{Settles, Touches}
+use Rattle.recovery.proofs.Common.{cases_Bool, both_ways, nat_tests, CapPair, Geometry, IsLawful, fresh_records, AreRecords, Settles, Touches, IsConfined, View, IsSound, confined_start, confined_write, confined_joined, confined_wider, header_sector, format_gate, sweep_flag, IsHeaderReading, says_open, gate_sector, IsWrittenFresh, AreClosed, is_journal, gate_in, fresh_end, fresh_bytes, is_fresh}
 use Rattle.image_device.specs.Image.{Image}
-use Rattle.image_device.specs.Runs.{IsConfined}
-use Rattle.image_device.specs.View.{View, IsSound}
-use Rattle.image_device.proofs.Confined.{confined_start, confined_write, confined_joined, confined_wider}
-use Rattle.image_layout.specs.Areas.{header_sector, format_gate, sweep_flag}
-use Rattle.image_layout.specs.Header.{IsHeaderReading}
-use Rattle.image_layout.specs.Image.{says_open}
-use Rattle.image_layout.specs.Ring.{gate_sector}
-use Rattle.image_world.specs.Fresh.{IsWrittenFresh, AreClosed}
-use Rattle.intent_journal.specs.Home.{is_journal}
-use Rattle.intent_journal.proofs.Places.{gate_in}
-use Rattle.recovery.specs.Areas.{fresh_end, fresh_bytes, is_fresh}
 use Rattle.recovery.proofs.AreaLaws.{has_written}
 
 abbrev pub but_gate : ℕ → Bool

@@ -1,27 +1,14 @@
 -- Formatting leaves nothing to be done.
 use Rattle.std.proofs.Common.{◌≡◌, ℕ, ◌≤◌, false, List, length, sym, ◌∙◌, ap, subst, arith}
-use Rattle.std.proofs.lemmas.Bool.{both_ways}
-use Rattle.std.proofs.lemmas.Bool.Decides.{nat_tests}
-use Rattle.tsd_model.specs.declared.caps.CapPair.{CapPair}
-use Rattle.tsd_model.specs.declared.geometry.Geometry.{Geometry}
-use Rattle.tsd_model.specs.Geometry.{IsLawful}
+use Rattle.recovery.proofs.Common.{both_ways, nat_tests, CapPair, Geometry, IsLawful, fresh_live, Image, fresh_tables, IsWrittenFresh, Tables, tables_of, pairs_of, fresh_sound, home, opened_none, home_of_empty, graph_in, owed, IsQuiet}
 use Rattle.tsd_model.specs.World.{is_live}
-use Rattle.block_alloc.specs.Fresh.{fresh_live}
 use Rattle.block_alloc.specs.LiveMap.{is_live as is_marked_in}
 use Rattle.block_alloc.proofs.FreshLaws.{fresh_at}
 use Rattle.graph_laws.specs.Settling.{EachIsLedTo}
 use Rattle.graph_laws.proofs.SettleLaws.{led_has_none}
 use Rattle.graph_laws.proofs.ToldLaws.{live-graph}
-use Rattle.image_layout.specs.Image.{Image}
-use Rattle.image_world.specs.Fresh.{fresh_tables, IsWrittenFresh}
 use Rattle.image_world.specs.Sound.{HasTables, AreSound}
-use Rattle.image_world.specs.Tables.{Tables, tables_of, pairs_of}
-use Rattle.image_world.proofs.FreshLaws.{fresh_sound}
 use Rattle.image_world.proofs.SoundLaws.{has_one}
-use Rattle.intent_journal.specs.Home.{home}
-use Rattle.intent_journal.proofs.Opened.{opened_none, home_of_empty}
-use Rattle.image_world.specs.Debt.{graph_in, owed}
-use Rattle.volume_laws.specs.Quiet.{IsQuiet}
 use Rattle.volume_laws.proofs.TableWorlds.{none_owed}
 
 pub fresh_quiet : (g : Geometry) (caps : List CapPair) (x : Image) → IsLawful g → length caps ≡ g.primaries → IsWrittenFresh g caps x → IsQuiet x

@@ -1,3 +1,4 @@
+pub mod Common
 pub mod AreaLaws
 pub mod Formatted
 pub mod AreaRuns

@@ -1,16 +1,8 @@
 -- How often an opening writes.
 use Rattle.std.proofs.Common.{◌≡◌, ◌+◌, ◌≤◌, [], ap, arith}
-use Rattle.image_device.specs.Calls.{Uses}
-use Rattle.image_device.specs.View.{View}
-use Rattle.image_device.proofs.Moments.{uses_within, uses_and}
+use Rattle.recovery.proofs.Common.{Uses, View, uses_within, uses_and, tables_of, home, replay_writes, checkpoint_writes, Volume, IsVolumeAt, due, opening_writes}
 use Rattle.image_device.proofs.Resting.{uses_none}
-use Rattle.image_world.specs.Tables.{tables_of}
-use Rattle.intent_journal.specs.Home.{home}
-use Rattle.intent_journal.specs.Ring.{replay_writes, checkpoint_writes}
 use Rattle.volume.specs.Sweeping.{left_cost, left_due}
-use Rattle.volume_laws.specs.Volume.{Volume, IsVolumeAt}
-use Rattle.volume_laws.specs.Writes.{due}
-use Rattle.recovery.specs.Opening.{opening_writes}
 use Rattle.recovery.proofs.OpenRuns.{IsStill, IsReplayed, same_tables}
 
 pub costs_none : (v0 : View) → Uses (opening_writes v0.reads) v0 v0

@@ -1,41 +1,19 @@
 -- The parts of an opening.
 use Rattle.std.proofs.Common.{◌≡◌, ℕ, ◌+◌, ◌≤◌, true, false, List, [], refl, sym, ◌∙◌, ap, subst, arith, Ok, Err}
-use Rattle.std.specs.Prelude.{◌↔◌, Result, IsErrAnd, IsErrOf}
-use Rattle.image_device.specs.Calls.{Rests, Settles, Uses}
-use Rattle.image_device.specs.Runs.{IsFirm, LeavesOnly}
-use Rattle.image_device.specs.View.{View, IsLeftNow, IsSound}
-use Rattle.image_device.proofs.Moments.{started, after_sync, after_read, joined, firm_image, uses_and}
+use Rattle.recovery.proofs.Common.{◌↔◌, Result, IsErrAnd, IsErrOf, Rests, Settles, Uses, IsFirm, LeavesOnly, View, IsLeftNow, IsSound, started, after_sync, after_read, joined, firm_image, uses_and, IsHeaderReading, Image, says_open, AreClosed, Tables, tables_of, IsTheSame, home, is_journal, AgreeBut, open_records, has_valid_records, replay_writes, distinct_homes, open_gates, checkpoint_writes, IsRingAt, opened_none, home_of_empty, at_valid, owed, IsQuiet, Volume, IsVolumeAt, world_on, due, IsPaid, OpenFault, of_volume, HasHead, IsOpening, StandAlike}
 use Rattle.image_layout.specs.declared.header.Header.{Header}
-use Rattle.image_layout.specs.Header.{IsHeaderReading}
-use Rattle.image_layout.specs.Image.{Image, says_open}
 use Rattle.image_world.specs.Alike.{ReadAlike}
 use Rattle.image_world.specs.Faults.{HasHeader, IsGood}
-use Rattle.image_world.specs.Fresh.{AreClosed}
 use Rattle.image_world.specs.Stands.{Stands}
-use Rattle.image_world.specs.Tables.{Tables, tables_of}
 use Rattle.image_world.proofs.AgreeLaws.{same_agree, same_stand, agree_back, agree_both, agree_stands}
 use Rattle.image_world.proofs.AlikeLaws.{alike_tables}
 use Rattle.image_world.proofs.FaultAlike.{fault_alike}
 use Rattle.image_world.proofs.WorldLaws.{one_world}
-use Rattle.intent_journal.specs.Crash.{IsTheSame}
-use Rattle.intent_journal.specs.Home.{home, is_journal, AgreeBut}
-use Rattle.intent_journal.specs.Records.{open_records, has_valid_records}
-use Rattle.intent_journal.specs.Ring.{replay_writes, distinct_homes, open_gates, checkpoint_writes}
-use Rattle.intent_journal.specs.Ring.{IsRingAt}
-use Rattle.intent_journal.proofs.Opened.{opened_none, home_of_empty}
-use Rattle.intent_journal.proofs.Uses.{at_valid}
 use Rattle.volume.specs.Loading.{AnswersVolume}
 use Rattle.volume.specs.declared.fault.VolumeFault.{VolumeFault}
 use Rattle.volume.specs.declared.fault.VolumeFault.TheVariants as loading
 use Rattle.volume_laws.specs.Moments.{LeavesWorld, LeavesOwed}
-use Rattle.image_world.specs.Debt.{owed}
-use Rattle.volume_laws.specs.Quiet.{IsQuiet}
-use Rattle.volume_laws.specs.Volume.{Volume, IsVolumeAt, world_on}
-use Rattle.volume_laws.specs.Writes.{due, IsPaid}
-use Rattle.recovery.specs.declared.fault.OpenFault.{OpenFault}
 use Rattle.recovery.specs.declared.fault.OpenFault.TheVariants as fault
-use Rattle.recovery.specs.Faults.{of_volume}
-use Rattle.recovery.specs.Opening.{HasHead, IsOpening, StandAlike}
 
 -- what opening leaves: the world of the start, or none, and what was sent then
 abbrev pub Kept : View → Image → List ℕ → Type 0

@@ -1,32 +1,11 @@
 -- What is left of an image that fails a test.
 use Rattle.std.proofs.Common.{◌≡◌, ℕ, true, List, [], refl, sym, ◌∙◌, ap, subst, arith, Ok, Err}
-use Rattle.std.specs.Prelude.{Result, IfErr, IsErrAnd}
-use Rattle.image_device.specs.Calls.{Rests, Settles, Uses}
-use Rattle.image_device.specs.Runs.{IsFirm, LeavesOnly}
-use Rattle.image_device.specs.View.{View, IsLeftNow, IsSound}
-use Rattle.image_device.proofs.Moments.{started, after_sync, after_read, joined, firm_image}
-use Rattle.image_layout.specs.Image.{Image}
-use Rattle.intent_journal.specs.Crash.{IsTheSame}
-use Rattle.intent_journal.specs.Home.{home, is_journal, AgreeBut}
-use Rattle.intent_journal.specs.Records.{has_valid_records}
-use Rattle.intent_journal.specs.Ring.{IsRingAt, replay_writes}
+use Rattle.recovery.proofs.Common.{Result, IfErr, IsErrAnd, Rests, Settles, Uses, IsFirm, LeavesOnly, View, IsLeftNow, IsSound, started, after_sync, after_read, joined, firm_image, Image, IsTheSame, home, is_journal, AgreeBut, has_valid_records, IsRingAt, replay_writes, home_of_empty, at_valid, Volume, OpenFault, of_replay, IsImageFault, IsSpared, LeavesData, Geometry, weakened, header_sector, Tables, tables_of, header_of, IsVolumeAt}
 use Rattle.intent_journal.specs.declared.ring.ReplayFault.{ReplayFault}
 use Rattle.intent_journal.specs.declared.ring.ReplayFault.TheVariants as replay
-use Rattle.intent_journal.proofs.Opened.{home_of_empty}
-use Rattle.intent_journal.proofs.Uses.{at_valid}
-use Rattle.volume_laws.specs.Volume.{Volume}
-use Rattle.recovery.specs.declared.fault.OpenFault.{OpenFault}
 use Rattle.recovery.specs.declared.fault.OpenFault.TheVariants as fault
-use Rattle.recovery.specs.Faults.{of_replay}
-use Rattle.recovery.specs.Opening.{IsImageFault, IsSpared, LeavesData}
-use Rattle.tsd_model.specs.declared.geometry.Geometry.{Geometry}
-use Rattle.image_device.proofs.Moments.{weakened}
-use Rattle.image_layout.specs.Areas.{header_sector}
-use Rattle.image_world.specs.Tables.{Tables, tables_of}
-use Rattle.image_layout.specs.Header.{header_of}
 use Rattle.image_world.proofs.WrittenLaws.{above_journal}
 use Rattle.volume_laws.specs.Data.{HasSameData, KeepsData}
-use Rattle.volume_laws.specs.Volume.{IsVolumeAt}
 use Rattle.image_device.specs.declared.device.Failed.{Failed}
 use Rattle.recovery.proofs.OpenRuns.{IsStill, synced, read_still}
 

@@ -1,26 +1,8 @@
 -- What comes after the disk was read for an ask: the answer, or a refusal.
 use Rattle.std.proofs.Common.{◌≡◌, ◌≢◌, inl, ℕ, List, [], ◌∷◌, ◌++◌, sym, ◌∙◌, ap, subst}
-use Rattle.std.specs.Prelude.{Result, Ok, Err, OnOk, IfErr}
-use Rattle.tsd_model.specs.World.{World}
-use Rattle.image_device.specs.Counts.{CountsFaultOf}
-use Rattle.image_device.specs.View.{View}
-use Rattle.image_device.specs.Runs.{LeavesOnly}
-use Rattle.image_device.proofs.Moments.{joined, weakened}
-use Rattle.script_text.specs.Pieces.{line_feeds}
-use Rattle.fs_trees.specs.Answer.{Answer, refused}
-use Rattle.fs_trees.specs.declared.ask.ShellAsk.{ShellAsk}
-use Rattle.fs_trees.specs.declared.refusal.FsRefusal.{FsRefusal}
+use Rattle.shell_server.proofs.Common.{Result, Ok, Err, OnOk, IfErr, World, CountsFaultOf, View, LeavesOnly, joined, weakened, line_feeds, Answer, refused, ShellAsk, FsRefusal, FilesView, answer_text, Status, IsInAnswer, LeftBy, Core, behind_then, ShellState, AnswersByLine, files_after, heard, shell_service, shell_step, tree_in, shell_state, IsLeftBeforeOrAfter, IsCarried, IsLooked, IsServed}
 use Rattle.fs_trees.specs.declared.refusal.FsRefusal.TheVariants as no
-use Rattle.fs_port.specs.Files.{FilesView}
-use Rattle.shell_text.specs.Texts.{answer_text}
-use Rattle.tsd_words.specs.declared.status.Status.{Status}
 use Rattle.tsd_words.specs.declared.status.Status.TheVariants as status
-use Rattle.serving.specs.Service.{IsInAnswer, LeftBy}
-use Rattle.tsd_core.specs.Core.{Core}
-use Rattle.core_blocks.proofs.BehindLaws.{behind_then}
-use Rattle.shell_server.specs.Shell.{ShellState, AnswersByLine, files_after, heard, shell_service, shell_step, tree_in}
-use Rattle.shell_server.specs.Kept.{shell_state}
-use Rattle.shell_server.specs.Carried.{IsLeftBeforeOrAfter, IsCarried, IsLooked, IsServed}
 use Rattle.shell_server.proofs.ChangeLaws.{judged_refused}
 
 module _ {X Y : Type 0} (told : Type 0) (start : World) (q : ShellAsk) (f0 f1 f2 : FilesView) (c0 c1 c2 : Core) (v w z : View) (of_answer : X → Answer → Type 0) where

@@ -1,27 +1,10 @@
 -- The line of a file's bytes, part by part.
 use Rattle.std.proofs.Common.{◌≡◌, ◌⊎◌, inl, inr, ⊎_elim, ℕ, zero, suc, ◌+◌, ◌/◌, ◌%◌, ◌<◌, ◌≤◌, ◌==◌, Bool, true, false, cond, List, [], ◌∷◌, ◌++◌, length, take, drop, refl, sym, ◌∙◌, ap, arith, append-nil, append_assoc, take-append-drop}
-use Rattle.std.specs.Prelude.{slice_index, Option, Some, None}
+use Rattle.shell_server.proofs.Common.{slice_index, nat_tests, encode_with, encode_lower, lower_digits, World, free_count, line_feeds, feeds-append, Path, Tree, Answer, bytes, refused, need_of, refusal, judged, step_in, ShellAsk, FsRefusal, TellsPart, is_empty, answer_text, data_head, ShellState, AnswersByLine, IsInParts, IsKeptSince, files_after, heard, shell_step, tree_in}
+use Rattle.std.specs.Prelude.{Option, Some, None}
 use Rattle.std.proofs.Math.Seq.{take-add}
-use Rattle.std.proofs.lemmas.Bool.Decides.{nat_tests}
 use Rattle.std.proofs.lemmas.List.{take_all}
-use Rattle.hex.specs.Hex.{encode_with, encode_lower, lower_digits}
-use Rattle.tsd_model.specs.World.{World, free_count}
-use Rattle.script_text.specs.Pieces.{line_feeds}
-use Rattle.script_text.proofs.FeedLaws.{feeds-append}
-use Rattle.fs_trees.specs.Names.{Path}
-use Rattle.fs_trees.specs.Tree.{Tree}
-use Rattle.fs_trees.specs.Answer.{Answer, bytes, refused}
-use Rattle.fs_trees.specs.Needs.{need_of}
-use Rattle.fs_trees.specs.Refusals.{refusal}
-use Rattle.fs_trees.specs.Step.{judged}
-use Rattle.fs_trees.specs.Layouts.{step_in}
-use Rattle.fs_trees.specs.declared.ask.ShellAsk.{ShellAsk}
 use Rattle.fs_trees.specs.declared.ask.ShellAsk.TheVariants as ask
-use Rattle.fs_trees.specs.declared.refusal.FsRefusal.{FsRefusal}
-use Rattle.fs_port.specs.Files.{TellsPart}
-use Rattle.tsd_model.specs.Verdict.{is_empty}
-use Rattle.shell_text.specs.Texts.{answer_text, data_head}
-use Rattle.shell_server.specs.Shell.{ShellState, AnswersByLine, IsInParts, IsKeptSince, files_after, heard, shell_step, tree_in}
 
 -- ---- digits
 

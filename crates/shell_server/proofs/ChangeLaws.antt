@@ -1,41 +1,9 @@
 -- An ask that changes the tree, carried out on the disk.
 use Rattle.std.proofs.Common.{◌≡◌, ◌⊎◌, inl, inr, ℕ, Bool, true, false, cond, List, [], ◌∷◌, ◌++◌, length, refl, sym, ◌∙◌, ap, subst}
-use Rattle.std.specs.Prelude.{Option, Some, None, Result, Ok, Err, IsTrue}
-use Rattle.tsd_model.specs.World.{World, free_count}
-use Rattle.tsd_model.specs.declared.geometry.Geometry.{Geometry}
-use Rattle.tsd_model.specs.declared.requests.PlaceKind.{PlaceKind}
-use Rattle.image_device.specs.View.{View as DeviceView}
-use Rattle.image_device.proofs.Moments.{weakened}
-use Rattle.image_layout.specs.Image.{Image}
-use Rattle.image_world.specs.Stands.{Stands, world_of}
-use Rattle.script_text.specs.Pieces.{line_feeds}
-use Rattle.fs_trees.specs.Names.{Name, Path}
-use Rattle.fs_trees.specs.Tree.{nothing, a_file, a_dir, Tree, at, bytes_in, is_there, with_at}
-use Rattle.fs_trees.specs.Answer.{Answer, done, refused}
-use Rattle.fs_trees.specs.Needs.{need_of}
-use Rattle.fs_trees.specs.Refusals.{RoomNeed, refusal}
-use Rattle.fs_trees.specs.Step.{AskOutcome, empty_tree, judged}
-use Rattle.fs_trees.specs.Outside.{OthersStay}
-use Rattle.fs_trees.specs.Layouts.{tree_at, step_in}
-use Rattle.fs_trees.specs.declared.ask.ShellAsk.{ShellAsk}
+use Rattle.shell_server.proofs.Common.{Result, Ok, Err, IsTrue, World, free_count, Geometry, PlaceKind, DeviceView, weakened, Image, Stands, world_of, line_feeds, Name, Path, nothing, a_file, a_dir, Tree, at, bytes_in, is_there, with_at, Answer, done, refused, need_of, RoomNeed, refusal, AskOutcome, empty_tree, judged, OthersStay, tree_at, step_in, ShellAsk, ShellKind, FsRefusal, outside_twice, DiskView, IsValidNow, Stays, FilesView, IsEitherTree, LeavesTidyWorld, OnAnswer, step_on, tree_on, unless_refused, Answers, Changes, answer_text, Core, IsCoreAt, IsCoreReady, KeepsBehind, core_view, IsImageOf, images_left, ShellState, AnswersByLine, IsKeptSince, heard, files_after, shell_step, tree_in, tree_under, AreReady, FitsShell, shell_state, IsLeftBeforeOrAfter, IsCarried, IsOneLine, change_line}
+use Rattle.std.specs.Prelude.{Option, Some, None}
 use Rattle.fs_trees.specs.declared.ask.ShellAsk.TheVariants as ask
-use Rattle.fs_trees.specs.declared.ask.ShellKind.{ShellKind}
-use Rattle.fs_trees.specs.declared.refusal.FsRefusal.{FsRefusal}
 use Rattle.fs_trees.specs.declared.refusal.FsRefusal.TheVariants as no
-use Rattle.fs_laws.proofs.OutsideLaws.{outside_twice}
-use Rattle.fs_port.specs.View.{DiskView}
-use Rattle.fs_port.specs.Calls.{IsValidNow, Stays}
-use Rattle.fs_port.specs.Files.{FilesView, IsEitherTree, LeavesTidyWorld, OnAnswer, step_on, tree_on, unless_refused}
-use Rattle.fs_port.specs.Files.{Answers}
-use Rattle.fs_port.specs.Runs.{Changes}
-use Rattle.shell_text.specs.Texts.{answer_text}
-use Rattle.tsd_core.specs.Core.{Core, IsCoreAt, IsCoreReady}
-use Rattle.core_blocks.specs.Behind.{KeepsBehind}
-use Rattle.core_blocks.specs.CoreView.{core_view}
-use Rattle.core_blocks.proofs.ImageLaws.{IsImageOf, images_left}
-use Rattle.shell_server.specs.Shell.{ShellState, AnswersByLine, IsKeptSince, heard, files_after, shell_step, tree_in, tree_under}
-use Rattle.shell_server.specs.Kept.{AreReady, FitsShell, shell_state}
-use Rattle.shell_server.specs.Carried.{IsLeftBeforeOrAfter, IsCarried, IsOneLine, change_line}
 use Rattle.shell_server.proofs.KeptLaws.{client_still}
 
 -- ---- trees

@@ -1,21 +1,9 @@
 -- A file copied.
 use Rattle.std.proofs.Common.{◌≡◌, inl, inr, ℕ, true, false, cond, List, [], ◌∷◌, ◌++◌, length, refl, sym, ◌∙◌, ap, subst}
-use Rattle.std.specs.Prelude.{Option, Some, None, IsTrue}
-use Rattle.tsd_model.specs.World.{free_count}
-use Rattle.tsd_model.specs.declared.geometry.Geometry.{Geometry}
-use Rattle.fs_trees.specs.Names.{Name, Path}
-use Rattle.fs_trees.specs.Tree.{nothing, a_file, a_dir, Tree, at, is_there, with_at}
-use Rattle.fs_trees.specs.Answer.{done, refused}
-use Rattle.fs_trees.specs.Needs.{need_of}
-use Rattle.fs_trees.specs.Refusals.{RoomNeed, refusal, first_of, not_mounted, lost_on_the_way, missing, no_file, dir_full, no_room}
-use Rattle.fs_trees.specs.Step.{judged}
-use Rattle.fs_trees.specs.Layouts.{tree_at, step_in}
+use Rattle.shell_server.proofs.Common.{IsTrue, free_count, Geometry, Name, Path, nothing, a_file, a_dir, Tree, at, is_there, with_at, done, refused, need_of, RoomNeed, refusal, first_of, not_mounted, lost_on_the_way, missing, no_file, dir_full, no_room, judged, tree_at, step_in, ShellKind, FsRefusal, DiskView, FilesView, step_on, tree_on}
+use Rattle.std.specs.Prelude.{Option, Some, None}
 use Rattle.fs_trees.specs.declared.ask.ShellAsk.TheVariants as ask
-use Rattle.fs_trees.specs.declared.ask.ShellKind.{ShellKind}
-use Rattle.fs_trees.specs.declared.refusal.FsRefusal.{FsRefusal}
 use Rattle.fs_trees.specs.declared.refusal.FsRefusal.TheVariants as no
-use Rattle.fs_port.specs.View.{DiskView}
-use Rattle.fs_port.specs.Files.{FilesView, step_on, tree_on}
 use Rattle.shell_server.proofs.ChangeLaws.{IsOfChange}
 
 no_done : (r : FsRefusal) → done ≡ refused r → ⊥

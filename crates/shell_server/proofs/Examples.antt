@@ -1,13 +1,9 @@
 -- What the definitions say, worked out.
 use Rattle.std.proofs.Common.{◌≡◌, [], ◌∷◌, refl}
-use Rattle.std.specs.Prelude.{codes}
-use Rattle.tsd_model.specs.World.{World}
+use Rattle.shell_server.proofs.Common.{codes, World, empty_tree, answer_text, ShellState, heard, shell_step, unmounted}
 use Rattle.tsd_model.specs.declared.caps.Cap.{Cap}
-use Rattle.fs_trees.specs.Step.{empty_tree}
 use Rattle.fs_trees.specs.declared.ask.ShellAsk.TheVariants as ask
 use Rattle.fs_trees.specs.declared.ask.ShellKind.TheVariants as kind
-use Rattle.shell_text.specs.Texts.{answer_text}
-use Rattle.shell_server.specs.Shell.{ShellState, heard, shell_step, unmounted}
 
 -- a chain's shell hears no mkdir, and no shell a path with a name that is none
 pub a_chain_hears_no_mkdir : heard kind.Chain (ask.MakeDir (codes "a" ∷ [])) ≡ ask.Bad

@@ -1,25 +1,9 @@
 -- The number of free blocks, read and answered.
 use Rattle.std.proofs.Common.{◌≡◌, ◌≢◌, inl, ℕ, ◌^◌, ◌<◌, List, [], ◌∷◌, ◌++◌, refl, sym, ◌∙◌, ap, subst, arith, decimal}
-use Rattle.std.specs.Prelude.{Result, Ok, Err, IfOk, IfErr, codes}
-use Rattle.tsd_model.specs.World.{World, free_count}
-use Rattle.image_device.specs.View.{View}
-use Rattle.image_device.specs.Runs.{PutsAll}
-use Rattle.image_device.proofs.Moments.{weakened}
-use Rattle.script_text.specs.Pieces.{line_feeds}
-use Rattle.script_text.proofs.FeedLaws.{feeds-append}
-use Rattle.fs_trees.specs.Answer.{Answer, available, refused}
+use Rattle.shell_server.proofs.Common.{Result, Ok, Err, IfOk, IfErr, codes, World, free_count, View, PutsAll, weakened, line_feeds, feeds-append, Answer, available, refused, FsRefusal, BlocksView, FilesView, step_on, answer_text, Status, Core, ShellState, AnswersByLine, IsKeptSince, shell_step, shell_state, IsLeftBeforeOrAfter, IsLooked, IsServed}
 use Rattle.fs_trees.specs.declared.ask.ShellAsk.TheVariants as ask
-use Rattle.fs_trees.specs.declared.refusal.FsRefusal.{FsRefusal}
 use Rattle.fs_trees.specs.declared.refusal.FsRefusal.TheVariants as no
-use Rattle.fs_port.specs.View.{DiskView as BlocksView}
-use Rattle.fs_port.specs.Files.{FilesView, step_on}
-use Rattle.shell_text.specs.Texts.{answer_text}
-use Rattle.tsd_words.specs.declared.status.Status.{Status}
 use Rattle.tsd_words.specs.declared.status.Status.TheVariants as status
-use Rattle.tsd_core.specs.Core.{Core}
-use Rattle.shell_server.specs.Shell.{ShellState, AnswersByLine, IsKeptSince, shell_step}
-use Rattle.shell_server.specs.Kept.{shell_state}
-use Rattle.shell_server.specs.Carried.{IsLeftBeforeOrAfter, IsLooked, IsServed}
 use Rattle.shell_text.proofs.RefusalLaws.{number_none}
 use Rattle.shell_server.proofs.SendLaws.{line_served}
 

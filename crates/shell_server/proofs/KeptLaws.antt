@@ -1,17 +1,9 @@
 -- A session that was open at the core with what it held.
 use Rattle.std.proofs.Common.{ℕ, ◌<◌, List, sym, ◌∙◌, ap, subst}
-use Rattle.std.specs.Prelude.{IsTrue, slice_get}
+use Rattle.shell_server.proofs.Common.{IsTrue, slice_get, Geometry, PlaceKind, DeviceView, Counts, Stays, FilesView, Core, core_view, IsClient}
 use Rattle.tsd_model.specs.Records.{kept_of}
 use Rattle.tsd_model.specs.Attained.{record_level}
-use Rattle.tsd_model.specs.declared.geometry.Geometry.{Geometry}
 use Rattle.tsd_model.specs.declared.records.Record.{Record}
-use Rattle.tsd_model.specs.declared.requests.PlaceKind.{PlaceKind}
-use Rattle.image_device.specs.View.{View as DeviceView}
-use Rattle.fs_port.specs.Calls.{Counts, Stays}
-use Rattle.fs_port.specs.Files.{FilesView}
-use Rattle.tsd_core.specs.Core.{Core}
-use Rattle.core_blocks.specs.CoreView.{core_view}
-use Rattle.shell_server.specs.Kept.{IsClient}
 
 -- a call of a file system leaves it so
 pub client_still : (f : FilesView) (l m : ℕ × ℕ) (kind placement : PlaceKind) (c0 c1 : Core) (v w : DeviceView) → Stays (core_view l kind c0 v) (core_view m placement c1 w) → Counts (core_view l kind c0 v) (core_view m placement c1 w) → IsClient f c0 → IsClient f c1

@@ -1,3 +1,4 @@
+pub mod Common
 pub mod AfterLaws
 pub mod CatLaws
 pub mod ChangeLaws

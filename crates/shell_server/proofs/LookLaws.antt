@@ -1,31 +1,7 @@
 -- An ask for which the disk is read.
 use Rattle.std.proofs.Common.{◌≡◌, ◌≢◌, ℕ, true, false, refl, sym, ◌∙◌, ap, subst}
-use Rattle.std.specs.Prelude.{Result, Ok, Err, IsTrue, IfOk, IfErr}
-use Rattle.tsd_model.specs.World.{World}
-use Rattle.tsd_model.specs.declared.requests.PlaceKind.{PlaceKind}
-use Rattle.image_device.specs.Counts.{Rose}
-use Rattle.image_device.specs.View.{View as DeviceView}
-use Rattle.image_device.proofs.Moments.{weakened}
-use Rattle.image_layout.specs.Image.{Image}
-use Rattle.image_world.specs.Stands.{Stands, world_of}
-use Rattle.fs_trees.specs.Answer.{Answer, refused}
-use Rattle.fs_trees.specs.Tree.{is_there}
-use Rattle.fs_trees.specs.Layouts.{step_in}
-use Rattle.fs_trees.specs.declared.ask.ShellAsk.{ShellAsk}
-use Rattle.fs_trees.specs.declared.refusal.FsRefusal.{FsRefusal}
+use Rattle.shell_server.proofs.Common.{Result, Ok, Err, IsTrue, IfOk, IfErr, World, PlaceKind, Rose, DeviceView, weakened, Image, Stands, world_of, Answer, refused, is_there, step_in, ShellAsk, FsRefusal, DiskView, Counts, IsValidNow, LeavesWorldsOnly, Stays, FilesView, OnAnswer, step_on, tree_on, Answers, Looks, Core, IsCoreAt, IsCoreReady, KeepsBehind, core_view, IsImageOf, images_left, ShellState, IsKeptSince, IsLeftOf, IsTidyIn, heard, shell_step, tree_under, AreReady, FitsShell, shell_state, IsLooked}
 use Rattle.fs_trees.specs.declared.refusal.FsRefusal.TheVariants as no
-use Rattle.fs_port.specs.View.{DiskView}
-use Rattle.fs_port.specs.Calls.{Counts, IsValidNow, LeavesWorldsOnly, Stays}
-use Rattle.fs_port.specs.Files.{FilesView, OnAnswer, step_on, tree_on}
-use Rattle.fs_port.specs.Files.{Answers}
-use Rattle.fs_port.specs.Runs.{Looks}
-use Rattle.tsd_core.specs.Core.{Core, IsCoreAt, IsCoreReady}
-use Rattle.core_blocks.specs.Behind.{KeepsBehind}
-use Rattle.core_blocks.specs.CoreView.{core_view}
-use Rattle.core_blocks.proofs.ImageLaws.{IsImageOf, images_left}
-use Rattle.shell_server.specs.Shell.{ShellState, IsKeptSince, IsLeftOf, IsTidyIn, heard, shell_step, tree_under}
-use Rattle.shell_server.specs.Kept.{AreReady, FitsShell, shell_state}
-use Rattle.shell_server.specs.Carried.{IsLooked}
 use Rattle.shell_server.proofs.KeptLaws.{client_still}
 
 module _ (start : World) (f : FilesView) (q a : ShellAsk) (hears : heard f.kind q ≡ a) (l m : ℕ × ℕ) (kind placement : PlaceKind) (c0 c1 : Core) (v w : DeviceView) where

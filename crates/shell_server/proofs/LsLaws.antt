@@ -1,31 +1,13 @@
 -- The line of the names in a directory, name by name.
 use Rattle.std.proofs.Common.{◌≡◌, inl, inr, ℕ, ◌+◌, ◌-◌, ◌<◌, ◌≤◌, ◌==◌, Bool, true, false, not, cond, ◌&&◌, nat_lt, nat_le, List, [], ◌∷◌, ◌++◌, length, refl, sym, ◌∙◌, ap, subst, arith, append-nil, append_assoc, length-append, Option, Some, None}
 use Rattle.std.proofs.lemmas.Bool.{and_parts, and_from, or_cases, or_left, or_right, eq-eqb, eqb-true}
-use Rattle.std.proofs.lemmas.Bool.Decides.{nat_tests}
+use Rattle.shell_server.proofs.Common.{nat_tests, find, flat_map, is_some, World, free_count, line_feeds, feeds-append, Name, Path, name_max, name_lt, is_name, is_name_byte, is_reserved, is_below_first_name, are_ascending, Tree, nothing, at, names_in, Answer, listed, refused, need_of, refusal, judged, step_in, tree_at, ShellAsk, FsRefusal, TellsNext, above, is_empty, answer_text, names_head, ShellState, AnswersByLine, IsInParts, IsKeptSince, files_after, heard, shell_step, tree_in, IsNameListing}
 use Rattle.std.proofs.lemmas.Grind.{flat_map-append}
-use Rattle.std.specs.Prelude.{find, flat_map, is_some}
 use Rattle.std.specs.List.{list_all}
-use Rattle.tsd_model.specs.World.{World, free_count}
 use Rattle.tsd_model.specs.Valid.{IsValid}
-use Rattle.script_text.specs.Pieces.{line_feeds}
-use Rattle.script_text.proofs.FeedLaws.{feeds-append}
-use Rattle.fs_trees.specs.Names.{Name, Path, name_max, name_lt, is_name, is_name_byte, is_reserved, is_below_first_name, are_ascending}
-use Rattle.fs_trees.specs.Tree.{Tree, nothing, at, names_in}
 use Rattle.fs_trees.specs.ChainTree.{names_max}
-use Rattle.fs_trees.specs.Answer.{Answer, listed, refused}
-use Rattle.fs_trees.specs.Needs.{need_of}
-use Rattle.fs_trees.specs.Refusals.{refusal}
-use Rattle.fs_trees.specs.Step.{judged}
-use Rattle.fs_trees.specs.Layouts.{step_in, tree_at}
-use Rattle.fs_trees.specs.declared.ask.ShellAsk.{ShellAsk}
 use Rattle.fs_trees.specs.declared.ask.ShellAsk.TheVariants as ask
-use Rattle.fs_trees.specs.declared.refusal.FsRefusal.{FsRefusal}
-use Rattle.fs_port.specs.Files.{TellsNext, above}
-use Rattle.tsd_model.specs.Verdict.{is_empty}
-use Rattle.shell_text.specs.Texts.{answer_text, names_head}
 use Rattle.shell_text.proofs.AnswerLaws.{names_in_parts}
-use Rattle.shell_server.specs.Shell.{ShellState, AnswersByLine, IsInParts, IsKeptSince, files_after, heard, shell_step, tree_in}
-use Rattle.fs_laws.specs.Small.{IsNameListing}
 use Rattle.fs_laws.proofs.ListingLaws.{tree_lists, nothing_lists}
 
 -- ---- names in order

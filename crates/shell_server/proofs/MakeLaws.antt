@@ -1,33 +1,8 @@
 -- An empty tree made on the disk.
 use Rattle.std.proofs.Common.{◌≡◌, inl, inr, ℕ, false, [], ◌∷◌, ◌++◌, refl, sym, subst}
-use Rattle.std.specs.Prelude.{Result, Ok, Err, IsTrue, MatchResult}
-use Rattle.tsd_model.specs.World.{World}
-use Rattle.tsd_model.specs.declared.requests.PlaceKind.{PlaceKind}
-use Rattle.image_device.specs.View.{View as DeviceView}
-use Rattle.image_device.proofs.Moments.{weakened}
-use Rattle.image_layout.specs.Image.{Image}
-use Rattle.image_world.specs.Stands.{Stands, world_of}
-use Rattle.fs_trees.specs.Tree.{Tree, is_there}
-use Rattle.fs_trees.specs.Answer.{done}
-use Rattle.fs_trees.specs.Step.{empty_tree}
-use Rattle.fs_trees.specs.Outside.{OthersStay}
-use Rattle.fs_trees.specs.Layouts.{tree_at}
+use Rattle.shell_server.proofs.Common.{Result, Ok, Err, IsTrue, MatchResult, World, PlaceKind, DeviceView, weakened, Image, Stands, world_of, Tree, is_there, done, empty_tree, OthersStay, tree_at, FsRefusal, outside_twice, DiskView, IsValidNow, Stays, FilesView, IsEitherTree, LeavesTidyWorld, OnAnswer, mounted_now, IsMade, Runs, answer_text, Core, IsCoreAt, IsCoreReady, KeepsBehind, core_view, IsImageOf, images_left, ShellState, AnswersByLine, IsKeptSince, AreReady, IsClient, FitsShell, shell_state, IsLeftBeforeOrAfter, IsCarried, IsOneLine, change_line}
 use Rattle.fs_trees.specs.declared.ask.ShellAsk.TheVariants as ask
-use Rattle.fs_trees.specs.declared.refusal.FsRefusal.{FsRefusal}
 use Rattle.fs_trees.specs.declared.refusal.FsRefusal.TheVariants as no
-use Rattle.fs_laws.proofs.OutsideLaws.{outside_twice}
-use Rattle.fs_port.specs.View.{DiskView}
-use Rattle.fs_port.specs.Calls.{IsValidNow, Stays}
-use Rattle.fs_port.specs.Files.{FilesView, IsEitherTree, LeavesTidyWorld, OnAnswer, mounted_now}
-use Rattle.fs_port.specs.Runs.{IsMade, Runs}
-use Rattle.shell_text.specs.Texts.{answer_text}
-use Rattle.tsd_core.specs.Core.{Core, IsCoreAt, IsCoreReady}
-use Rattle.core_blocks.specs.Behind.{KeepsBehind}
-use Rattle.core_blocks.specs.CoreView.{core_view}
-use Rattle.core_blocks.proofs.ImageLaws.{IsImageOf, images_left}
-use Rattle.shell_server.specs.Shell.{ShellState, AnswersByLine, IsKeptSince}
-use Rattle.shell_server.specs.Kept.{AreReady, IsClient, FitsShell, shell_state}
-use Rattle.shell_server.specs.Carried.{IsLeftBeforeOrAfter, IsCarried, IsOneLine, change_line}
 use Rattle.shell_server.proofs.KeptLaws.{client_still}
 
 module _ (start : World) (f g : FilesView) (l m : ℕ × ℕ) (kind placement : PlaceKind) (c0 c1 : Core) (v w : DeviceView) where

@@ -1,31 +1,9 @@
 -- The answer of an ask that changes the tree, sent after it was carried out.
 use Rattle.std.proofs.Common.{◌≡◌, ◌≢◌, ◌⊎◌, inl, inr, ℕ, ◌<◌, true, false, List, [], ◌∷◌, ◌++◌, length, take, drop, refl, sym, ◌∙◌, ap, subst, arith, append-nil, take-append-drop, length-drop}
-use Rattle.std.specs.Prelude.{Result, Ok, Err, IfErr}
-use Rattle.tsd_model.specs.World.{World}
-use Rattle.image_device.specs.Counts.{Rose}
-use Rattle.image_device.specs.View.{View, IsLeftInPut, IsSound}
-use Rattle.image_device.specs.Runs.{LeavesOnly, PutsAll}
-use Rattle.image_device.proofs.Moments.{firm_image, joined, started, weakened}
-use Rattle.image_world.specs.Stands.{world_of}
-use Rattle.script_text.specs.Pieces.{line_feeds}
-use Rattle.fs_trees.specs.Answer.{bad}
-use Rattle.fs_trees.specs.Step.{AskOutcome}
-use Rattle.fs_trees.specs.Layouts.{step_in}
-use Rattle.fs_trees.specs.declared.ask.ShellAsk.{ShellAsk}
+use Rattle.shell_server.proofs.Common.{Result, Ok, Err, IfErr, World, Rose, View, IsLeftInPut, IsSound, LeavesOnly, PutsAll, firm_image, joined, started, weakened, world_of, line_feeds, bad, AskOutcome, step_in, ShellAsk, answer_text, FsRefusal, FilesView, OnAnswer, Status, IsAnswering, IsInAnswer, LeftBy, Core, KeepsBehind, behind_put, behind_stays, behind_then, ShellState, AnswersByLine, IsLeftOf, files_after, heard, shell_service, shell_step, tree_in, AreReady, FitsShell, shell_state, shell_stands, IsLeftBeforeOrAfter, IsCarried, IsOneLine, IsServed, change_line}
 use Rattle.fs_trees.specs.declared.ask.ShellAsk.TheVariants as ask
-use Rattle.shell_text.specs.Texts.{answer_text}
-use Rattle.fs_trees.specs.declared.refusal.FsRefusal.{FsRefusal}
 use Rattle.fs_trees.specs.declared.refusal.FsRefusal.TheVariants as no
-use Rattle.fs_port.specs.Files.{FilesView, OnAnswer}
-use Rattle.tsd_words.specs.declared.status.Status.{Status}
 use Rattle.tsd_words.specs.declared.status.Status.TheVariants as status
-use Rattle.serving.specs.Service.{IsAnswering, IsInAnswer, LeftBy}
-use Rattle.tsd_core.specs.Core.{Core}
-use Rattle.core_blocks.specs.Behind.{KeepsBehind}
-use Rattle.core_blocks.proofs.BehindLaws.{behind_put, behind_stays, behind_then}
-use Rattle.shell_server.specs.Shell.{ShellState, AnswersByLine, IsLeftOf, files_after, heard, shell_service, shell_step, tree_in}
-use Rattle.shell_server.specs.Kept.{AreReady, FitsShell, shell_state, shell_stands}
-use Rattle.shell_server.specs.Carried.{IsLeftBeforeOrAfter, IsCarried, IsOneLine, IsServed, change_line}
 
 -- ---- what a crash leaves
 

@@ -1,24 +1,8 @@
 -- An answer that is sent piece by piece.
 use Rattle.std.proofs.Common.{◌≡◌, inl, inr, ℕ, false, List, [], ◌++◌, take, drop, refl, sym, ◌∙◌, ap, subst, arith, append-nil, append_assoc, take-append-drop, length-drop, length-append}
-use Rattle.std.specs.Prelude.{Result, Ok, Err, IfErr}
-use Rattle.tsd_model.specs.World.{World}
-use Rattle.image_device.specs.Counts.{Rose}
-use Rattle.image_device.specs.View.{View, IsLeftInPut, IsPart, IsSound}
-use Rattle.image_device.specs.Runs.{LeavesOnly, PutsAll}
-use Rattle.image_device.proofs.Moments.{firm_image, joined, started, weakened}
-use Rattle.fs_trees.specs.Answer.{Answer}
-use Rattle.fs_trees.specs.declared.ask.ShellAsk.{ShellAsk}
+use Rattle.shell_server.proofs.Common.{Result, Ok, Err, IfErr, World, Rose, View, IsLeftInPut, IsPart, IsSound, LeavesOnly, PutsAll, firm_image, joined, started, weakened, Answer, ShellAsk, FilesView, Status, IsInAnswer, LeftBy, Core, behind_put, behind_stays, behind_then, ShellState, AnswersByLine, IsInParts, IsLeftOf, shell_service, AreReady, FitsShell, shell_state, shell_stands, IsLooked, IsServed, IsSpeaking}
 use Rattle.fs_trees.specs.declared.refusal.FsRefusal.TheVariants as no
-use Rattle.fs_port.specs.Files.{FilesView}
-use Rattle.tsd_words.specs.declared.status.Status.{Status}
 use Rattle.tsd_words.specs.declared.status.Status.TheVariants as status
-use Rattle.serving.specs.Service.{IsInAnswer, LeftBy}
-use Rattle.tsd_core.specs.Core.{Core}
-use Rattle.core_blocks.proofs.BehindLaws.{behind_put, behind_stays, behind_then}
-use Rattle.shell_server.specs.Shell.{ShellState, AnswersByLine, IsInParts, IsLeftOf, shell_service}
-use Rattle.shell_server.specs.Kept.{AreReady, FitsShell, shell_state, shell_stands}
-use Rattle.shell_server.specs.Carried.{IsLooked, IsServed}
-use Rattle.shell_server.specs.Speaking.{IsSpeaking}
 use Rattle.shell_server.proofs.SendLaws.{answering}
 
 module _ (told : Type 0) (start : World) (f0 : FilesView) (c0 : Core) (v : View) where

@@ -1,20 +1,10 @@
 -- The tree after an answer, told by its line.
 use Rattle.std.proofs.Common.{◌≡◌, ℕ, List, [], ◌∷◌, ◌++◌, length, refl, sym, ◌∙◌, ap, subst, arith}
-use Rattle.std.specs.Prelude.{Option, Some, None, slice_index_or}
-use Rattle.tsd_model.specs.World.{World, free_count}
-use Rattle.fs_trees.specs.Tree.{Tree}
-use Rattle.fs_trees.specs.Answer.{done, refused}
-use Rattle.fs_trees.specs.Needs.{need_of}
-use Rattle.fs_trees.specs.Refusals.{refusal}
-use Rattle.fs_trees.specs.Step.{judged, change}
-use Rattle.fs_trees.specs.declared.ask.ShellAsk.{ShellAsk}
+use Rattle.shell_server.proofs.Common.{slice_index_or, World, free_count, Tree, done, refused, need_of, refusal, judged, change, ShellAsk, FsRefusal, FilesView, answer_text, ShellState, AnswersByLine, heard, files_after, shell_service, shell_step, tree_in}
+use Rattle.std.specs.Prelude.{Option, Some, None}
 use Rattle.fs_trees.specs.declared.ask.ShellAsk.TheVariants as ask
-use Rattle.fs_trees.specs.declared.refusal.FsRefusal.{FsRefusal}
 use Rattle.fs_trees.specs.declared.refusal.FsRefusal.TheVariants as no
-use Rattle.fs_port.specs.Files.{FilesView}
-use Rattle.shell_text.specs.Texts.{answer_text}
 use Rattle.serving.specs.Runs.{Run}
-use Rattle.shell_server.specs.Shell.{ShellState, AnswersByLine, heard, files_after, shell_service, shell_step, tree_in}
 
 refused_first : (r : FsRefusal) → slice_index_or (answer_text (refused r) ++ 10 ∷ []) 0 0 ≡ 110
 refused_first no.NotThisFs = refl

@@ -1,26 +1,9 @@
 -- The disk as it is, and what is left of it once nothing is doomed.
 use Rattle.std.proofs.Common.{◌≡◌, ℕ, ◌≤◌, Bool, true, false, not, cond, List, [], ◌∷◌, length, refl, sym, ◌∙◌, ap, arith}
 use Rattle.std.proofs.Common.{Option, None}
-use Rattle.std.specs.Prelude.{count_by, is_none, map}
-use Rattle.std.proofs.lemmas.List.{ext_get_or}
+use Rattle.volume.proofs.Common.{count_by, is_none, map, ext_get_or, sum_by-cons, doomed, settle, swept, restricted, reach, World, contents, all_blocks, free_count, has_number, free_in, IsMapOf, free_count_same, settle_none, world_with, left_of, zeros_of, blank_of, Tables, Uses, View, owed, Volume, due, IsPaid, blank, laid_out, same_doomed, none_owed}
 use Rattle.std.proofs.lemmas.List.FromFn.{length-map-range_with_len, get_or-map-range_with_len}
-use Rattle.std.proofs.lemmas.List.Sums.{sum_by-cons}
-use Rattle.tsd_model.specs.Doomed.{doomed, settle}
-use Rattle.tsd_model.specs.Reach.{swept, restricted, reach}
-use Rattle.tsd_model.specs.World.{World, contents, all_blocks, free_count, has_number}
-use Rattle.block_alloc.specs.LiveMap.{free_count as free_in}
-use Rattle.block_alloc.specs.Worlds.{IsMapOf}
-use Rattle.block_alloc.proofs.WorldLaws.{free_count_same}
-use Rattle.graph_laws.proofs.SettleLaws.{settle_none}
-use Rattle.image_world.specs.Raw.{world_with, left_of, zeros_of, blank_of}
-use Rattle.image_world.specs.Tables.{Tables}
 use Rattle.image_world.proofs.RawLaws.{blocks_with, live_with}
-use Rattle.image_device.specs.Calls.{Uses}
-use Rattle.image_device.specs.View.{View}
-use Rattle.image_world.specs.Debt.{owed}
-use Rattle.volume_laws.specs.Volume.{Volume}
-use Rattle.volume_laws.specs.Writes.{due, IsPaid}
-use Rattle.volume_laws.proofs.TableWorlds.{blank, laid_out, same_doomed, none_owed}
 
 -- ---- free blocks
 

@@ -1,3 +1,4 @@
+pub mod Common
 pub mod Loaded
 pub mod FinishLaws
 pub mod SweepOps

@@ -1,32 +1,18 @@
 -- From the tables that were loaded to a volume at its device.
 use Rattle.std.proofs.Common.{◌≡◌, ℕ, ◌&&◌, not, Bool, true, false, List, [], length, replicate, refl, sym, ◌∙◌, ap, subst, arith}
 use Rattle.std.proofs.Common.{Ok, Err, inl, inr}
-use Rattle.std.proofs.lemmas.Bool.{cases_lt}
-use Rattle.std.proofs.lemmas.List.{get_or-replicate, get_or_past, length-replicate}
-use Rattle.image_device.specs.Runs.{IsFirm}
-use Rattle.image_device.specs.View.{View}
-use Rattle.image_layout.specs.declared.header.Header.{Header}
-use Rattle.image_layout.specs.Areas.{header_sector, sweep_flag}
-use Rattle.image_layout.specs.Header.{IsHeaderReading}
-use Rattle.image_layout.specs.Image.{Image, says_open}
-use Rattle.intent_journal.specs.Home.{home}
-use Rattle.intent_journal.specs.Records.{open_records, is_gate_open}
+use Rattle.volume.proofs.Common.{cases_lt, get_or-replicate, get_or_past, length-replicate, IsFirm, View, Header, header_sector, sweep_flag, IsHeaderReading, Image, says_open, home, open_records, is_gate_open, LiveMap, Kept, is_gone, Hides, HasTables, header_on, tables_of, DoFit, AreStored, tables_with, IsVolumeAt, AreParts}
 use Rattle.intent_journal.proofs.Opened.{opened_none, home_of_empty}
-use Rattle.block_alloc.specs.LiveMap.{LiveMap, is_live}
-use Rattle.reclaim.specs.Ahead.{Kept, is_gone, Hides}
+use Rattle.block_alloc.specs.LiveMap.{is_live}
 use Rattle.image_world.specs.Faults.{IsFormatGateOpen, IsGood, HasHeader, IsTableFault}
 use Rattle.image_world.specs.Fresh.{AreClosed}
-use Rattle.image_world.specs.Sound.{HasTables}
-use Rattle.image_world.specs.Tables.{header_on, tables_of}
 use Rattle.image_world.proofs.AnswerLaws.{damaged}
 use Rattle.image_world.proofs.SoundLaws.{tables_good, has_one}
 use Rattle.image_world.specs.declared.tables.ImageTables.{ImageTables}
 use Rattle.image_world.specs.declared.fault.LoadFault.{LoadFault}
 use Rattle.image_world.specs.declared.fault.LoadFault.TheVariants as table_fault
-use Rattle.image_world.specs.Loaded.{DoFit, AreStored, tables_with}
 use Rattle.image_world.specs.Loading.{AnswersTables as AreLoading}
 use Rattle.volume.specs.Loading.{AnswersVolume, of_tables}
-use Rattle.volume_laws.specs.Volume.{IsVolumeAt, AreParts}
 
 -- ---- an image whose gates are closed is its own home
 at_home : (x : Image) → AreClosed x → home x ≡ x

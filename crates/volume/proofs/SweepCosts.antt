@@ -1,28 +1,7 @@
 -- What a sweep costs.
 use Rattle.std.proofs.Common.{◌≡◌, ℕ, ◌+◌, ◌*◌, ◌≤◌, Bool, true, false, not, cond, List, length, refl, sym, ◌∙◌, ap, arith, Result, Ok, Err}
-use Rattle.std.specs.Prelude.{OnOk}
+use Rattle.volume.proofs.Common.{OnOk, reach, restricted, swept, World, free_count, has_number, Geometry, HasGraphOf, free_count_by_graph, Uses, View, Patch, JournalRecord, committed, commit_writes, checkpoint_writes, graph_in, owed, world_with, zeros_of, blank_of, Tables, world_graph, OutStep, MaySweep, AreSweptBy, IsStepPut, Volume, told_by, batch_cost, due, lost_cost, IsPaid, Works, commit_pays, graph_size, swept_size, sweep_left, unswept, taken_cost, sweep_cost, left_cost, left_due}
 use Rattle.tsd_model.proofs.SizeLaws.{length-filter_le}
-use Rattle.tsd_model.specs.Reach.{reach, restricted, swept}
-use Rattle.tsd_model.specs.World.{World, free_count, has_number}
-use Rattle.tsd_model.specs.declared.geometry.Geometry.{Geometry}
-use Rattle.graph_laws.specs.Graph.{HasGraphOf}
-use Rattle.graph_laws.proofs.SameGraphLaws.{free_count_by_graph}
-use Rattle.image_device.specs.Calls.{Uses}
-use Rattle.image_device.specs.View.{View}
-use Rattle.image_layout.specs.declared.offset.Patch.{Patch}
-use Rattle.intent_journal.specs.Records.{JournalRecord}
-use Rattle.intent_journal.specs.Ring.{committed, commit_writes, checkpoint_writes}
-use Rattle.image_world.specs.Debt.{graph_in, owed}
-use Rattle.image_world.specs.Raw.{world_with, zeros_of, blank_of}
-use Rattle.image_world.specs.Tables.{Tables}
-use Rattle.image_world.proofs.DebtLaws.{world_graph}
-use Rattle.pointer_table.specs.declared.out_step.OutStep.{OutStep}
-use Rattle.cycle_sweep.specs.Sweep.{MaySweep, AreSweptBy}
-use Rattle.volume_laws.specs.Steps.{IsStepPut}
-use Rattle.volume_laws.specs.Volume.{Volume, told_by}
-use Rattle.volume_laws.specs.Writes.{batch_cost, due, lost_cost, IsPaid, Works}
-use Rattle.volume_laws.proofs.Costs.{commit_pays}
-use Rattle.volume.specs.Sweeping.{graph_size, swept_size, sweep_left, unswept, taken_cost, sweep_cost, left_cost, left_due}
 use Rattle.volume.proofs.FinishLaws.{free_restricted, raw_is_left}
 use Rattle.volume.proofs.SweepOps.{sweeping_left, sweep_takes, some_taken}
 

@@ -1,37 +1,9 @@
 -- Steps of a sweep, and its flag, as operations.
 use Rattle.std.proofs.Common.{◌≡◌, ℕ, ◌+◌, ◌<◌, ◌≤◌, Bool, true, false, cond, inl, inr, List, [], ◌∷◌, length, refl, sym, ◌∙◌, ap, subst, arith, Result}
-use Rattle.std.specs.Prelude.{OnOk, OnErr, is_none}
-use Rattle.std.proofs.lemmas.Bool.{cases_lt, both_ways}
-use Rattle.std.proofs.lemmas.List.Sums.{count_by-le-length}
-use Rattle.tsd_model.specs.Doomed.{doomed, settle}
-use Rattle.tsd_model.specs.Reach.{reach, swept}
-use Rattle.tsd_model.specs.World.{World, free_count, has_number}
-use Rattle.image_layout.specs.Areas.{sweep_flag}
-use Rattle.image_layout.specs.Image.{gate_bytes}
-use Rattle.image_layout.specs.declared.offset.Patch.{Patch}
-use Rattle.intent_journal.specs.Batch.{with_patch}
-use Rattle.pointer_table.specs.declared.out_step.OutStep.{OutStep}
-use Rattle.cycle_sweep.specs.Sweep.{MaySweep, AreSweptBy}
-use Rattle.graph_laws.specs.Graph.{HasGraphOf}
+use Rattle.volume.proofs.Common.{OnOk, OnErr, is_none, cases_lt, both_ways, count_by-le-length, doomed, settle, reach, swept, World, free_count, has_number, sweep_flag, gate_bytes, Patch, with_patch, OutStep, MaySweep, AreSweptBy, HasGraphOf, graph_of_same, settle_none, world_with, left_of, AreSound, Tables, graph_in, owed, IsAllowed, IsStepPut, IsStepped, Turns, Volume, put_ok, any_bytes, IsOp, still_left, world_stepped, graph_stepped, world_graph, laid_out, graph_laid_out, graph_raw, same_doomed, none_owed, sweep_left}
 use Rattle.graph_laws.specs.Steps.{stepped}
-use Rattle.graph_laws.proofs.SameGraphLaws.{graph_of_same}
-use Rattle.graph_laws.proofs.SettleLaws.{settle_none}
 use Rattle.graph_laws.proofs.SweepLaws.{reach_follows, swept_has_none}
-use Rattle.image_world.specs.Raw.{world_with, left_of}
-use Rattle.image_world.specs.Sound.{AreSound}
-use Rattle.image_world.specs.Tables.{Tables}
 use Rattle.image_world.proofs.TurnLaws.{flag_turns}
-use Rattle.image_world.specs.Debt.{graph_in, owed}
-use Rattle.volume_laws.specs.Steps.{IsAllowed, IsStepPut, IsStepped}
-use Rattle.image_world.specs.Turns.{Turns}
-use Rattle.volume_laws.specs.Volume.{Volume}
-use Rattle.volume_laws.proofs.BlockLaws.{put_ok}
-use Rattle.volume_laws.proofs.Ops.{any_bytes, IsOp}
-use Rattle.volume_laws.proofs.StepOps.{still_left}
-use Rattle.volume_laws.proofs.StepWorlds.{world_stepped, graph_stepped}
-use Rattle.image_world.proofs.DebtLaws.{world_graph}
-use Rattle.volume_laws.proofs.TableWorlds.{laid_out, graph_laid_out, graph_raw, same_doomed, none_owed}
-use Rattle.volume.specs.Sweeping.{sweep_left}
 
 -- ---- a step
 -- an unreached block isn't primary

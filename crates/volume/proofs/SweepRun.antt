@@ -1,36 +1,7 @@
 -- In the middle of a sweep: the world is as at the start.
 use Rattle.std.proofs.Common.{[], ◌≡◌, ℕ, ◌+◌, ◌*◌, ◌≤◌, Bool, true, false, List, length, refl, sym, ◌∙◌, ◌<◌, ap, subst, arith, Result, Ok, Err}
-use Rattle.std.specs.Prelude.{OnOk, IsErrAnd}
-use Rattle.tsd_model.specs.Reach.{reach}
-use Rattle.tsd_model.specs.World.{World, has_number}
-use Rattle.image_device.specs.Calls.{Uses}
-use Rattle.image_device.specs.View.{View, IsSound}
-use Rattle.image_device.specs.declared.device.Failed.{Failed}
-use Rattle.image_layout.specs.declared.header.Header.{Header}
-use Rattle.image_layout.specs.declared.offset.Patch.{Patch}
-use Rattle.intent_journal.specs.Ring.{committed, commit_writes}
-use Rattle.pointer_table.specs.Table.{Table as Pointers}
-use Rattle.pointer_table.specs.declared.out_step.OutStep.{OutStep}
-use Rattle.ref_counts.specs.Table.{Table as Counts}
-use Rattle.block_alloc.specs.LiveMap.{LiveMap}
-use Rattle.cap_store.specs.Store.{Store}
-use Rattle.reclaim.specs.Ahead.{Kept, is_gone}
-use Rattle.reclaim.specs.Tables.{graph_of}
+use Rattle.volume.proofs.Common.{OnOk, IsErrAnd, reach, World, has_number, Uses, View, IsSound, Failed, Header, Patch, committed, commit_writes, Pointers, OutStep, Counts, LiveMap, Store, Kept, is_gone, graph_of, MaySweep, AreSweptBy, graph_in, owed, Tables, IsOperation, MayPut, IsStepPut, live_after, Volume, IsVolumeAt, AreParts, told_by, tables_in, hides_stepped, same_graph, no_op, kept_then, op_answers, op_fails, any_bytes, IsOp, done, graph_stepped, batch_cost, sweep_left, taken_cost}
 use Rattle.cycle_sweep.specs.Marked.{is_marked}
-use Rattle.cycle_sweep.specs.Sweep.{MaySweep, AreSweptBy}
-use Rattle.image_world.specs.Debt.{graph_in, owed}
-use Rattle.image_world.specs.Tables.{Tables}
-use Rattle.volume_laws.specs.Operations.{IsOperation}
-use Rattle.volume_laws.specs.Steps.{MayPut, IsStepPut, live_after}
-use Rattle.volume_laws.specs.Volume.{Volume, IsVolumeAt, AreParts, told_by, tables_in}
-use Rattle.volume_laws.proofs.AheadKept.{hides_stepped}
-use Rattle.volume_laws.proofs.NextLaws.{same_graph}
-use Rattle.volume_laws.proofs.OperationLaws.{no_op, kept_then, op_answers, op_fails}
-use Rattle.volume_laws.proofs.Ops.{any_bytes, IsOp}
-use Rattle.volume_laws.proofs.SettlingLaws.{done}
-use Rattle.volume_laws.proofs.StepWorlds.{graph_stepped}
-use Rattle.volume_laws.specs.Writes.{batch_cost}
-use Rattle.volume.specs.Sweeping.{sweep_left, taken_cost}
 use Rattle.volume.proofs.SweepCosts.{IsPaidSoFar, paid_more, step_cheap}
 use Rattle.volume.proofs.SweepOps.{sweep_allowed, sweep_lowers, sweep_op, graph_itself}
 

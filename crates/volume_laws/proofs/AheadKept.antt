@@ -1,36 +1,13 @@
 -- What is kept ahead, and what is hidden, after a change.
 use Rattle.std.proofs.Common.{◌≡◌, ℕ, zero, suc, ◌<◌, Bool, true, false, not, cond, ◌&&◌, ◌==◌, inl, inr, List, [], ◌∷◌, length, refl, sym, ◌∙◌, ap, subst, arith}
 use Rattle.std.proofs.Common.{Option, Some, None, nat_lt}
-use Rattle.std.specs.Prelude.{slice_set, replicate, is_none}
-use Rattle.std.proofs.lemmas.Bool.{cases_eq, cases_Bool, ne_eqb, eqb-true, and_from, or_cases, both_ways, false_from_ne_true, lt-ltb}
-use Rattle.std.proofs.lemmas.List.{get_or-set_other, get_or-set_same}
-use Rattle.tsd_model.specs.Pairs.{with_pair, without_pair}
-use Rattle.tsd_model.specs.Step.{with_pointer, without_pointer}
-use Rattle.tsd_model.specs.World.{World, contents, has_number, are_apart}
-use Rattle.image_layout.specs.declared.header.Header.{Header}
-use Rattle.pointer_table.specs.Slots.{pairs_in}
-use Rattle.pointer_table.specs.Table.{Table as Pointers}
-use Rattle.ref_counts.specs.Table.{Table as Counts}
-use Rattle.cap_store.specs.Store.{Store}
-use Rattle.tsd_model.specs.Doomed.{doomed}
-use Rattle.block_alloc.specs.LiveMap.{LiveMap, is_live}
-use Rattle.pointer_table.specs.declared.out_step.OutStep.{OutStep}
-use Rattle.graph_laws.proofs.WeightLaws.{doomed_after_step}
-use Rattle.reclaim.specs.Ahead.{Kept, is_gone, Hides, IsAheadOf, IsStepping, IsAdding, IsDeleting, IsGrowing}
+use Rattle.volume_laws.proofs.Common.{slice_set, is_none, cases_eq, cases_Bool, ne_eqb, eqb-true, and_from, or_cases, both_ways, false_from_ne_true, lt-ltb, get_or-set_other, get_or-set_same, with_pair, without_pair, with_pointer, without_pointer, World, contents, has_number, are_apart, Header, pairs_in, Pointers, Counts, Store, doomed, LiveMap, OutStep, doomed_after_step, Kept, is_gone, Hides, IsAheadOf, IsStepping, IsAdding, IsDeleting, IsGrowing, zeros_in, no_record, doomed_list-with_pointer, contents-world_with, AreSound, Tables, pairs_of, AreFree, HidesNone, owed, graph_in, tables_in, IsStepNext, IsStepped, live_after}
+use Rattle.std.specs.Prelude.{replicate}
+use Rattle.block_alloc.specs.LiveMap.{is_live}
 use Rattle.reclaim.specs.Stepping.{after_step}
-use Rattle.graph_laws.specs.Graph.{zeros_in, no_record}
-use Rattle.graph_laws.proofs.AheadLaws.{doomed_list-with_pointer}
 use Rattle.graph_laws.proofs.DoomedLaws.{source_is_doomed}
-use Rattle.graph_laws.proofs.ToldLaws.{contents-world_with}
-use Rattle.image_world.specs.Sound.{AreSound}
-use Rattle.image_world.specs.Tables.{Tables, pairs_of}
-use Rattle.volume_laws.specs.Growing.{AreFree, HidesNone}
-use Rattle.image_world.specs.Debt.{owed, graph_in}
-use Rattle.volume_laws.specs.Volume.{tables_in}
 use Rattle.volume_laws.proofs.Dropped.{less_slots, HoldsPair}
 use Rattle.volume_laws.proofs.Pointed.{with_slots, IsOpenTo, marked, raw_absent}
-use Rattle.volume_laws.specs.Graphs.{IsStepNext}
-use Rattle.volume_laws.specs.Steps.{IsStepped, live_after}
 use Rattle.volume_laws.proofs.StepWorlds.{graph_stepped}
 use Rattle.volume_laws.proofs.TableWorlds.{graph_laid_out, graph_raw, none_owed, told_live, told_held, settled_held}
 

@@ -1,25 +1,8 @@
 -- What memory tells of free blocks, where nothing is doomed.
 use Rattle.std.proofs.Common.{◌≡◌, ℕ, suc, ◌+◌, ◌<◌, ◌≤◌, true, false, ◌&&◌, ◌||◌, ◌==◌, nat_lt, inl, inr, Bool, not, List, [], ◌∷◌, length, refl, sym, ◌∙◌, ap, subst, arith}
 use Rattle.std.proofs.Common.{Option, Some, None}
-use Rattle.std.specs.Prelude.{slice_get, is_some, is_none}
-use Rattle.std.proofs.lemmas.Bool.{cases_Bool, and_parts, both_ways}
-use Rattle.std.proofs.lemmas.Bool.Decides.{nat_tests}
-use Rattle.tsd_model.specs.declared.geometry.Geometry.{Geometry}
-use Rattle.tsd_model.specs.World.{World, contents, is_live, is_free, has_number}
-use Rattle.tsd_model.specs.Doomed.{doomed, settle}
-use Rattle.image_device.specs.View.{View}
-use Rattle.image_device.proofs.Moments.{weakened, joined}
-use Rattle.block_alloc.specs.LiveMap.{is_live as is_marked_in}
+use Rattle.volume_laws.proofs.Common.{slice_get, is_some, is_none, cases_Bool, and_parts, both_ways, nat_tests, Geometry, World, contents, is_live, is_free, has_number, doomed, settle, View, weakened, joined, is_marked_in, Stands, Tables, pairs_of, world_with, zeros_of, blank_of, live-restricted, live_with, blocks_with, AreFree, Volume, IsVolumeReady, told_by, world_on, LeavesEither, LeavesWorld, StandsForEither, owed}
 use Rattle.graph_laws.proofs.SameLaws.{length-restricted}
-use Rattle.image_world.specs.Stands.{Stands}
-use Rattle.image_world.specs.Tables.{Tables, pairs_of}
-use Rattle.image_world.specs.Raw.{world_with, zeros_of, blank_of}
-use Rattle.disk_laws.proofs.DoomLaws.{live-restricted}
-use Rattle.image_world.proofs.RawLaws.{live_with, blocks_with}
-use Rattle.volume_laws.specs.Growing.{AreFree}
-use Rattle.volume_laws.specs.Volume.{Volume, IsVolumeReady, told_by, world_on}
-use Rattle.volume_laws.specs.Moments.{LeavesEither, LeavesWorld, StandsForEither}
-use Rattle.image_world.specs.Debt.{owed}
 use Rattle.volume_laws.proofs.Pointed.{settled_pairs}
 use Rattle.volume_laws.proofs.TableWorlds.{blank, same_doomed, none_owed}
 

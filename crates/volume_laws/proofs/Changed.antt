@@ -1,26 +1,6 @@
 -- What images stand for around a commit that changes tables.
 use Rattle.std.proofs.Common.{◌≡◌, inl, inr, ⊎_elim, List, sym, ◌∙◌, ap, subst, Result, Ok, Err}
-use Rattle.std.specs.Prelude.{OnOk}
-use Rattle.tsd_model.specs.World.{World}
-use Rattle.image_device.specs.View.{View}
-use Rattle.image_device.specs.Runs.{LeavesOnly, IsFirm}
-use Rattle.image_device.proofs.Moments.{weakened}
-use Rattle.image_layout.specs.Image.{Image}
-use Rattle.image_layout.specs.declared.offset.Patch.{Patch}
-use Rattle.intent_journal.specs.Home.{home, overlaid, is_journal, AgreeBut}
-use Rattle.intent_journal.specs.Ring.{IsRingAt}
-use Rattle.intent_journal.specs.Crash.{IsAfter, IsBeforeOrAfter}
-use Rattle.intent_journal.proofs.Uses.{at_valid}
-use Rattle.image_world.specs.Sound.{HasTables}
-use Rattle.image_world.specs.Tables.{Tables, tables_of}
-use Rattle.image_world.specs.Raw.{left_of, world_with, data_on}
-use Rattle.image_world.specs.Stands.{world_of, Stands}
-use Rattle.image_world.proofs.SoundLaws.{tables_had, has_one}
-use Rattle.image_world.proofs.TurnLaws.{after_turned}
-use Rattle.image_world.proofs.TurnLaws.{turned_had as turned_have}
-use Rattle.volume_laws.specs.Volume.{Volume, IsVolumeAt, world_on}
-use Rattle.image_world.specs.Turns.{Turns}
-use Rattle.volume_laws.specs.Moments.{StandsForEither, LeavesEither}
+use Rattle.volume_laws.proofs.Common.{OnOk, World, View, LeavesOnly, IsFirm, weakened, Image, Patch, home, overlaid, is_journal, AgreeBut, IsRingAt, IsAfter, IsBeforeOrAfter, at_valid, HasTables, Tables, tables_of, left_of, world_with, data_on, world_of, Stands, tables_had, has_one, after_turned, turned_have, Volume, IsVolumeAt, world_on, Turns, StandsForEither, LeavesEither}
 use Rattle.volume_laws.proofs.Committed.{before_stands}
 
 -- the world of other tables with the bytes that an image has

@@ -1,37 +1,7 @@
 -- What images stand for around a commit.
 use Rattle.std.proofs.Common.{◌≡◌, ◌≢◌, ℕ, ◌<◌, true, false, ◌||◌, inl, inr, ⊎_elim, List, [], length, refl, sym, ◌∙◌, ap, subst, arith, Result, Ok, Err}
-use Rattle.std.specs.Prelude.{OnOk}
-use Rattle.std.proofs.lemmas.Bool.{cases_Bool}
-use Rattle.tsd_model.specs.declared.geometry.Geometry.{Geometry}
-use Rattle.tsd_model.specs.Geometry.{block_len}
-use Rattle.tsd_model.specs.World.{is_live}
-use Rattle.tsd_model.specs.Step.{with_contents}
-use Rattle.image_device.specs.View.{View}
-use Rattle.image_device.specs.Runs.{LeavesOnly, IsFirm}
-use Rattle.image_device.proofs.Moments.{weakened}
-use Rattle.image_layout.specs.Areas.{format_gate}
-use Rattle.image_layout.specs.Offsets.{data_sector}
-use Rattle.image_layout.specs.Image.{Image}
-use Rattle.image_layout.specs.declared.offset.Patch.{Patch}
-use Rattle.intent_journal.specs.Home.{home, overlaid, is_journal, AgreeBut}
-use Rattle.intent_journal.specs.Records.{JournalRecord}
-use Rattle.intent_journal.specs.Ring.{IsRingAt}
-use Rattle.intent_journal.specs.Crash.{IsBefore, IsAfter, IsBeforeOrAfter}
-use Rattle.intent_journal.proofs.Opened.{home_of_empty}
-use Rattle.intent_journal.proofs.Uses.{at_valid}
+use Rattle.volume_laws.proofs.Common.{OnOk, cases_Bool, Geometry, block_len, is_live, with_contents, View, LeavesOnly, IsFirm, weakened, format_gate, data_sector, Image, Patch, home, overlaid, is_journal, AgreeBut, JournalRecord, IsRingAt, IsBefore, IsAfter, IsBeforeOrAfter, home_of_empty, at_valid, IsWritten, HasJournal, Tables, header_on, tables_of, left_of, world_with, blank_of, data_on, zeros_of, world_of, Stands, left_like, tables_like, left_live, live_inside, blocks_with, alike_tables, alike_outside, formatted_by, old_stands, above_journal, written_stands, written_tables, Volume, IsVolumeAt, told_by, world_on, StandsForEither, LeavesEither, LeavesWorld}
 use Rattle.disk_laws.specs.Bytes.{AreLike}
-use Rattle.image_world.specs.Written.{IsWritten}
-use Rattle.image_world.specs.Faults.{HasJournal}
-use Rattle.image_world.specs.Tables.{Tables, header_on, tables_of}
-use Rattle.image_world.specs.Raw.{left_of, world_with, blank_of, data_on, zeros_of}
-use Rattle.image_world.specs.Stands.{world_of, Stands}
-use Rattle.image_world.proofs.LikeLaws.{left_like, tables_like, left_live, live_inside}
-use Rattle.image_world.proofs.RawLaws.{blocks_with}
-use Rattle.image_world.proofs.AlikeLaws.{alike_tables}
-use Rattle.image_world.proofs.AgreeLaws.{alike_outside, formatted_by, old_stands}
-use Rattle.image_world.proofs.WrittenLaws.{above_journal, written_stands, written_tables}
-use Rattle.volume_laws.specs.Volume.{Volume, IsVolumeAt, told_by, world_on}
-use Rattle.volume_laws.specs.Moments.{StandsForEither, LeavesEither, LeavesWorld}
 
 -- ---- homes that agree outside the journal
 pub agree_stands : (vol : Volume) (old : View) (x : Image) → IsVolumeAt vol old → ((n : ℕ) → is_journal n ≡ false → home x n ≡ home old.reads n) → HasJournal x → Stands x (world_on old)

@@ -1,15 +1,7 @@
 -- What a commit costs.
 use Rattle.std.proofs.Common.{◌≡◌, ℕ, ◌+◌, ◌≤◌, List, length, ap, arith, Result, Ok, Err}
-use Rattle.std.specs.Prelude.{OnOk}
-use Rattle.image_device.specs.View.{View}
-use Rattle.image_device.specs.Calls.{Uses}
-use Rattle.image_layout.specs.declared.offset.Patch.{Patch}
-use Rattle.intent_journal.specs.Records.{JournalRecord}
-use Rattle.intent_journal.specs.Ring.{committed, checkpoint_writes, commit_writes}
+use Rattle.volume_laws.proofs.Common.{OnOk, View, Uses, Patch, JournalRecord, committed, checkpoint_writes, commit_writes, owed, Volume, batch_cost, IsPaid}
 use Rattle.intent_journal.proofs.Costs as journal
-use Rattle.image_world.specs.Debt.{owed}
-use Rattle.volume_laws.specs.Volume.{Volume}
-use Rattle.volume_laws.specs.Writes.{batch_cost, IsPaid}
 
 -- what is written now and what a checkpoint would write then
 pub commit_pays : (rs : List JournalRecord) (batch : List Patch) → commit_writes rs batch + checkpoint_writes (committed rs batch) ≤ checkpoint_writes rs + batch_cost (length batch)

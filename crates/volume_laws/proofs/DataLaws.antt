@@ -1,29 +1,6 @@
 -- Calls that leave the data of blocks, and what lies behind the image.
 use Rattle.std.proofs.Common.{◌≡◌, ◌≢◌, ℕ, ◌+◌, ◌<◌, ◌≤◌, Bool, true, false, ◌||◌, ◌&&◌, nat_le, nat_lt, ⊎_elim, List, [], ◌∷◌, refl, sym, ◌∙◌, ap, subst, arith, Result, Ok, Err}
-use Rattle.std.specs.Prelude.{OnOk}
-use Rattle.std.proofs.lemmas.Bool.{cases_Bool, both_ways}
-use Rattle.std.proofs.lemmas.Bool.Decides.{nat_tests}
-use Rattle.tsd_model.specs.declared.geometry.Geometry.{Geometry}
-use Rattle.image_device.specs.Calls.{Rests}
-use Rattle.image_device.specs.Runs.{LeavesOnly, IsConfined, IsFirm}
-use Rattle.image_device.specs.View.{View, IsLeftWithin, IsSound}
-use Rattle.image_device.specs.declared.device.Failed.{Failed}
-use Rattle.image_device.proofs.Moments.{weakened, joined, started, rested, firm_image}
-use Rattle.image_device.proofs.Outcomes.{on_ok}
-use Rattle.image_device.proofs.Sets.{or_false}
-use Rattle.image_layout.specs.Areas.{data_start}
-use Rattle.image_layout.specs.Image.{Image}
-use Rattle.image_layout.specs.Offsets.{data_sector}
-use Rattle.image_layout.specs.declared.offset.Patch.{Patch}
-use Rattle.intent_journal.specs.Crash.{IsBefore, IsBeforeOrAfter}
-use Rattle.intent_journal.specs.Home.{home, overlaid, is_journal, AgreeBut}
-use Rattle.intent_journal.specs.Ring.{IsRingAt}
-use Rattle.intent_journal.proofs.Opened.{home_of_empty}
-use Rattle.intent_journal.proofs.Uses.{home_alike}
-use Rattle.image_world.specs.Written.{IsWritten}
-use Rattle.image_world.proofs.WrittenLaws.{above_journal}
-use Rattle.volume_laws.specs.Data.{HasSameData, KeepsData}
-use Rattle.volume_laws.specs.Zeroed.{is_data}
+use Rattle.volume_laws.proofs.Common.{OnOk, cases_Bool, both_ways, nat_tests, Geometry, Rests, LeavesOnly, IsConfined, IsFirm, View, IsLeftWithin, IsSound, Failed, weakened, joined, started, rested, firm_image, on_ok, or_false, data_start, Image, data_sector, Patch, IsBefore, IsBeforeOrAfter, home, overlaid, is_journal, AgreeBut, IsRingAt, home_of_empty, home_alike, IsWritten, above_journal, HasSameData, KeepsData, is_data}
 use Rattle.volume_laws.proofs.Committed.{ok_map}
 
 above_data : (g : Geometry) (n : ℕ) → data_start g ≤ n → is_journal n ≡ false

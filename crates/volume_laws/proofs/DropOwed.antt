@@ -1,27 +1,8 @@
 -- What is owed once a pair is deleted.
 use Rattle.std.proofs.Common.{◌≡◌, ℕ, ◌+◌, ◌*◌, ◌≤◌, true, List, length, ◌∙◌, ap, arith, Result, Ok, Err}
-use Rattle.std.specs.Prelude.{OnOk, Option}
-use Rattle.tsd_model.specs.Pairs.{holds, without_pair}
-use Rattle.tsd_model.specs.World.{World, free_count}
-use Rattle.tsd_model.specs.Doomed.{doomed, settle}
-use Rattle.tsd_model.specs.Step.{without_pointer}
-use Rattle.image_device.specs.Calls.{Uses}
-use Rattle.image_device.specs.View.{View}
-use Rattle.image_layout.specs.declared.offset.Patch.{Patch}
-use Rattle.intent_journal.specs.Records.{JournalRecord}
-use Rattle.intent_journal.specs.Ring.{committed, commit_writes, checkpoint_writes}
-use Rattle.pointer_table.specs.Slots.{pairs_in}
+use Rattle.volume_laws.proofs.Common.{OnOk, holds, without_pair, World, free_count, doomed, settle, without_pointer, Uses, View, Patch, JournalRecord, committed, commit_writes, checkpoint_writes, pairs_in, free_count_by_graph, settle_by_graph, length-settle, free_count-settle, doomed_size, Tables, pairs_of, blank_of, graph_in, owed, made, Volume, batch_cost, lost_cost, IsPaid}
+use Rattle.std.specs.Prelude.{Option}
 use Rattle.graph_laws.proofs.DropLaws.{delete_dooms}
-use Rattle.graph_laws.proofs.SameGraphLaws.{free_count_by_graph, settle_by_graph}
-use Rattle.graph_laws.proofs.SettleLaws.{length-settle}
-use Rattle.graph_laws.proofs.WeightLaws.{free_count-settle}
-use Rattle.graph_laws.specs.Counts.{doomed_size}
-use Rattle.image_world.specs.Tables.{Tables, pairs_of}
-use Rattle.image_world.specs.Raw.{blank_of}
-use Rattle.image_world.specs.Debt.{graph_in, owed}
-use Rattle.volume_laws.specs.Moments.{made}
-use Rattle.volume_laws.specs.Volume.{Volume}
-use Rattle.volume_laws.specs.Writes.{batch_cost, lost_cost, IsPaid}
 use Rattle.volume_laws.proofs.Costs.{commit_pays}
 use Rattle.volume_laws.proofs.Dropped.{less_slots, HoldsPair}
 use Rattle.volume_laws.proofs.TableWorlds.{graph_laid_out, told_graph, less_graph, size_by_graph, told_held}

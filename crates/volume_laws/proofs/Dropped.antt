@@ -1,39 +1,8 @@
 -- A pointer less.
 use Rattle.std.proofs.Common.{◌≡◌, ℕ, ◌-◌, ◌<◌, ◌≤◌, true, false, ◌==◌, inl, inr, Bool, not, List, [], length, sym, ◌∙◌, ap, subst, arith}
-use Rattle.std.specs.Prelude.{slice_set, slice_index, Option}
-use Rattle.std.proofs.lemmas.Bool.{cases_eq, and_parts}
-use Rattle.std.proofs.lemmas.List.{length-set, get_or-set_same, get_or-set_other}
-use Rattle.tsd_model.specs.declared.geometry.Geometry.{Geometry}
-use Rattle.tsd_model.specs.Pairs.{is_pair, holds, without_pair, count_to}
-use Rattle.tsd_model.proofs.PairLaws.{holds-filter}
-use Rattle.tsd_model.proofs.CountLaws.{count-without_pair, source_removed}
-use Rattle.tsd_model.specs.Doomed.{settle}
-use Rattle.tsd_model.specs.Step.{without_pointer}
-use Rattle.image_device.specs.Image.{put_at}
-use Rattle.image_layout.specs.Areas.{counts_start, bitmap_start, slots_start, data_start}
-use Rattle.image_layout.specs.Image.{Image}
-use Rattle.image_layout.specs.declared.offset.Patch.{Patch}
-use Rattle.intent_journal.specs.Batch.{with_patch}
-use Rattle.pointer_table.specs.Table.{pairs, IsTable, MayBeHeld}
-use Rattle.pointer_table.specs.Table.{Table as Pointers}
-use Rattle.pointer_table.specs.Changes.{IsSlotSector, KeepsStored}
-use Rattle.ref_counts.specs.Table.{Table as Counts}
-use Rattle.block_alloc.specs.LiveMap.{LiveMap}
-use Rattle.cap_store.specs.Store.{Store}
-use Rattle.image_layout.specs.declared.header.Header.{Header}
-use Rattle.pointer_table.specs.Slots.{pairs_in}
-use Rattle.pointer_table.specs.Sectors.{IsStored as AreSlots}
-use Rattle.pointer_table.proofs.SlotLaws.{rising-pairs_in, slot_from_holds}
-use Rattle.ref_counts.specs.Stored.{IsStored}
-use Rattle.ref_counts.specs.Changes.{KeepsStored as KeepsCounts}
-use Rattle.graph_laws.proofs.CommuteLaws.{settle-without_pointer}
-use Rattle.image_world.specs.Sound.{AreSound}
-use Rattle.image_world.specs.Tables.{Tables, pairs_of}
-use Rattle.image_world.specs.Raw.{left_of, world_with, blank_of}
-use Rattle.volume_laws.specs.Volume.{tables_in}
+use Rattle.volume_laws.proofs.Common.{slice_set, slice_index, cases_eq, and_parts, length-set, get_or-set_same, get_or-set_other, Geometry, is_pair, holds, without_pair, count_to, holds-filter, count-without_pair, source_removed, settle, without_pointer, put_at, counts_start, bitmap_start, slots_start, data_start, Image, Patch, with_patch, pairs, IsTable, MayBeHeld, Pointers, IsSlotSector, KeepsStored, Counts, LiveMap, Store, Header, pairs_in, AreSlots, rising-pairs_in, slot_from_holds, IsStored, KeepsCounts, settle-without_pointer, AreSound, Tables, pairs_of, left_of, world_with, blank_of, tables_in, Turns, graph_in}
+use Rattle.std.specs.Prelude.{Option}
 use Rattle.volume_laws.proofs.BlockLaws.{length-with_patch}
-use Rattle.image_world.specs.Turns.{Turns}
-use Rattle.image_world.specs.Debt.{graph_in}
 use Rattle.volume_laws.proofs.TableWorlds.{laid_out, told_held, settled_held}
 use Rattle.volume_laws.proofs.Pointed.{pointer_turn, one_at, none_at}
 

@@ -1,33 +1,8 @@
 -- The journal's bodies are erased once its gates are closed.
 use Rattle.std.proofs.Common.{◌≡◌, ℕ, ◌+◌, ◌*◌, ◌<◌, ◌≤◌, Bool, false, ◌==◌, inl, inr, List, [], refl, sym, ◌∙◌, ap, subst, arith, Result, Ok, Err}
-use Rattle.std.specs.Prelude.{OnOk}
-use Rattle.std.proofs.lemmas.Bool.{cases_eq}
-use Rattle.std.proofs.lemmas.Bool.Decides.{nat_tests}
-use Rattle.image_device.specs.View.{View, IsLeftWithin}
-use Rattle.image_device.specs.Runs.{IsConfined, IsFirm}
-use Rattle.image_device.proofs.Moments.{weakened}
-use Rattle.image_device.proofs.Sets.{or_false}
-use Rattle.image_layout.specs.Image.{Image, says_open}
-use Rattle.image_layout.specs.Ring.{gate_sector}
-use Rattle.intent_journal.specs.Home.{home, is_journal}
-use Rattle.intent_journal.specs.Records.{JournalRecord}
-use Rattle.intent_journal.specs.Ring.{IsRingAt}
-use Rattle.intent_journal.proofs.Opened.{home_of_empty}
-use Rattle.intent_journal.proofs.Uses.{at_closed, at_valid}
-use Rattle.image_world.specs.Fresh.{AreClosed}
-use Rattle.image_world.specs.Stands.{Stands}
-use Rattle.image_world.specs.Tables.{tables_of}
-use Rattle.image_world.proofs.AlikeLaws.{alike_tables}
+use Rattle.volume_laws.proofs.Common.{OnOk, cases_eq, nat_tests, View, IsLeftWithin, IsConfined, IsFirm, weakened, or_false, Image, says_open, gate_sector, home, is_journal, JournalRecord, IsRingAt, home_of_empty, at_closed, at_valid, AreClosed, Stands, tables_of, alike_tables, HasSameData, KeepsData, LeavesWorld, LeavesOwed, owed, Volume, IsVolumeAt, world_on, alike_outside, Failed, on_ok, above_journal}
 use Rattle.volume_laws.specs.Erased.{is_body}
-use Rattle.volume_laws.specs.Data.{HasSameData, KeepsData}
-use Rattle.volume_laws.specs.Moments.{LeavesWorld, LeavesOwed}
-use Rattle.image_world.specs.Debt.{owed}
-use Rattle.volume_laws.specs.Volume.{Volume, IsVolumeAt, world_on}
 use Rattle.volume_laws.proofs.Committed.{agree_stands, same_new}
-use Rattle.image_world.proofs.AgreeLaws.{alike_outside}
-use Rattle.image_device.specs.declared.device.Failed.{Failed}
-use Rattle.image_device.proofs.Outcomes.{on_ok}
-use Rattle.image_world.proofs.WrittenLaws.{above_journal}
 
 gate_out : (index : ℕ) → index < 8 → is_body (gate_sector index) ≡ false
 gate_out index less = elim (cases_eq index 0) [

@@ -1,32 +1,8 @@
 -- A block that a step frees.
 use Rattle.std.proofs.Common.{◌≡◌, ◌≢◌, ℕ, ◌<◌, ◌≤◌, true, false, ◌==◌, [], ◌∷◌, refl, sym, ◌∙◌, ap, subst, arith, Ok}
-use Rattle.std.specs.Prelude.{slice_set}
-use Rattle.std.proofs.lemmas.Bool.{and_parts, and_from, both_ways}
-use Rattle.std.proofs.lemmas.Bool.Decides.{nat_tests}
-use Rattle.std.proofs.lemmas.List.{get_or-set_other, length-set}
-use Rattle.tsd_model.specs.Pairs.{holds}
-use Rattle.tsd_model.specs.World.{World}
-use Rattle.tsd_model.specs.declared.geometry.Geometry.{Geometry}
-use Rattle.disk_laws.proofs.DoomLaws.{live_below}
-use Rattle.image_device.specs.Image.{put_at}
-use Rattle.image_layout.specs.Areas.{header_sector, format_gate, bitmap_start, slots_start}
-use Rattle.image_layout.specs.Header.{IsHeaderReading}
-use Rattle.image_layout.specs.Image.{Image, says_open}
-use Rattle.image_layout.specs.declared.offset.Patch.{Patch}
-use Rattle.intent_journal.proofs.Overlays.{put_elsewhere}
-use Rattle.pointer_table.proofs.LoadingLaws.{stored_elsewhere}
-use Rattle.ref_counts.proofs.StoredLaws.{same_sectors as same_counts}
+use Rattle.volume_laws.proofs.Common.{slice_set, and_parts, and_from, both_ways, nat_tests, get_or-set_other, length-set, holds, World, Geometry, live_below, put_at, header_sector, format_gate, bitmap_start, slots_start, IsHeaderReading, Image, says_open, Patch, put_elsewhere, stored_elsewhere, same_counts, IsStoredAt, sector_of, same_records, IsAlone, without_pointers, OutStep, AreSound, Tables, pairs_of, IsStepNext, graph_in, pairs_without, IsAllowed, Turns}
 use Rattle.block_alloc.specs.LiveMap.{is_live}
-use Rattle.block_alloc.specs.Stored.{IsStoredAt, IsStored, sector_of}
-use Rattle.cap_store.proofs.StoredLaws.{same_sectors as same_records}
-use Rattle.graph_laws.specs.Steps.{IsAlone, without_pointers}
-use Rattle.pointer_table.specs.declared.out_step.OutStep.{OutStep}
-use Rattle.image_world.specs.Sound.{AreSound}
-use Rattle.image_world.specs.Tables.{Tables, pairs_of}
-use Rattle.volume_laws.specs.Graphs.{IsStepNext}
-use Rattle.image_world.specs.Debt.{graph_in}
-use Rattle.volume_laws.specs.Steps.{pairs_without, IsAllowed}
-use Rattle.image_world.specs.Turns.{Turns}
+use Rattle.block_alloc.specs.Stored.{IsStored}
 use Rattle.volume_laws.proofs.StepWorlds.{without_parts}
 use Rattle.volume_laws.proofs.TableWorlds.{graph_laid_out}
 

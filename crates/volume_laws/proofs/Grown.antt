@@ -1,37 +1,8 @@
 -- New blocks in tables and in a batch.
 use Rattle.std.proofs.Common.{◌≡◌, ◌≢◌, ℕ, ◌+◌, ◌<◌, ◌≤◌, true, false, ◌||◌, ◌==◌, inl, inr, ◌⊎◌, Bool, List, [], ◌∷◌, length, replicate, refl, sym, ◌∙◌, ap, subst, arith}
-use Rattle.std.specs.Prelude.{filter, slice_set, slice_index}
-use Rattle.std.proofs.lemmas.Bool.{cases_eq, cases_lt, and_from, and_parts, or_cases, or_parts, both_ways}
-use Rattle.std.proofs.lemmas.Bool.Decides.{nat_tests}
-use Rattle.std.proofs.lemmas.List.{length-set, get_or-set_same, get_or-set_other}
-use Rattle.tsd_model.specs.declared.geometry.Geometry.{Geometry}
-use Rattle.tsd_model.specs.Geometry.{block_len}
-use Rattle.tsd_model.specs.Pairs.{is_pair, holds, with_pair, count_to}
-use Rattle.tsd_model.proofs.PairLaws.{holds-with_pair, is_pair_ext}
-use Rattle.tsd_model.proofs.CountLaws.{count-with_pair, count_to_most}
-use Rattle.tsd_model.specs.Step.{with_new_blocks}
-use Rattle.tsd_model.specs.World.{World, has_number}
-use Rattle.image_device.specs.Image.{put_at}
-use Rattle.image_layout.specs.Areas.{counts_start, bitmap_start, slots_start, data_start}
-use Rattle.image_layout.specs.Image.{Image}
-use Rattle.image_layout.specs.declared.offset.Patch.{Patch}
-use Rattle.intent_journal.specs.Home.{overlaid}
-use Rattle.intent_journal.proofs.Overlays.{put_elsewhere}
-use Rattle.pointer_table.specs.Table.{Table as Pointers, pairs, IsTable}
-use Rattle.pointer_table.specs.Changes.{KeepsStored}
-use Rattle.pointer_table.specs.Sectors.{IsStored as AreSlots}
-use Rattle.pointer_table.proofs.SlotLaws.{rising-pairs_in}
-use Rattle.pointer_table.proofs.LoadingLaws.{stored_elsewhere}
-use Rattle.ref_counts.specs.Table.{Table as Counts}
-use Rattle.ref_counts.specs.Stored.{IsStored as AreCounts}
-use Rattle.ref_counts.specs.Changes.{KeepsStored as KeepsCounts}
-use Rattle.ref_counts.proofs.StoredLaws.{same_sectors as same_counts}
-use Rattle.block_alloc.specs.LiveMap.{LiveMap, is_live}
-use Rattle.block_alloc.specs.Stored.{IsStored as AreBits, IsStoredAt, sector_of}
-use Rattle.block_alloc.proofs.StoredLaws.{same_sectors as same_bits}
-use Rattle.image_world.specs.Raw.{world_with}
+use Rattle.volume_laws.proofs.Common.{filter, slice_set, slice_index, cases_eq, cases_lt, and_from, and_parts, or_cases, or_parts, both_ways, nat_tests, length-set, get_or-set_same, get_or-set_other, Geometry, block_len, is_pair, holds, with_pair, count_to, holds-with_pair, is_pair_ext, count-with_pair, count_to_most, with_new_blocks, World, has_number, put_at, counts_start, bitmap_start, slots_start, data_start, Image, Patch, overlaid, put_elsewhere, Pointers, pairs, IsTable, KeepsStored, AreSlots, rising-pairs_in, stored_elsewhere, Counts, AreCounts, KeepsCounts, same_counts, LiveMap, AreBits, IsStoredAt, sector_of, same_bits, world_with, Parts, parts_of, with_parts, PartsFit, AreFree, HasRoom, HasNoLost, PartsAreStored, IsGrown}
+use Rattle.block_alloc.specs.LiveMap.{is_live}
 use Rattle.image_world.proofs.GrowLaws.{block_more}
-use Rattle.volume_laws.specs.Growing.{Parts, parts_of, with_parts, PartsFit, AreFree, HasRoom, HasNoLost, PartsAreStored, IsGrown}
 use Rattle.volume_laws.proofs.Pointed.{one_at, none_at}
 
 away : (s n : ℕ) → n ≢ s → (n == s) ≡ false

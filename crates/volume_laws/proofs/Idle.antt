@@ -1,14 +1,6 @@
 -- Where no call is made.
 use Rattle.std.proofs.Common.{◌≡◌, ℕ, ◌≤◌, inl, refl, sym, ◌∙◌, ap, subst, arith}
-use Rattle.image_device.specs.View.{View, IsSound}
-use Rattle.image_device.proofs.Moments.{started, firm_image, joined, weakened}
-use Rattle.image_layout.specs.Image.{Image}
-use Rattle.intent_journal.specs.Home.{home}
-use Rattle.image_world.specs.Tables.{tables_of}
-use Rattle.image_world.specs.Stands.{Stands}
-use Rattle.volume_laws.specs.Volume.{Volume, IsVolumeAt, world_on}
-use Rattle.volume_laws.specs.Moments.{LeavesEither, LeavesWorld, LeavesOwed, StandsForEither}
-use Rattle.image_world.specs.Debt.{owed}
+use Rattle.volume_laws.proofs.Common.{View, IsSound, started, firm_image, joined, weakened, Image, home, tables_of, Stands, Volume, IsVolumeAt, world_on, LeavesEither, LeavesWorld, LeavesOwed, StandsForEither, owed}
 
 here_stands : (vol : Volume) (v : View) → IsVolumeAt vol v → Stands v.reads (world_on v)
 here_stands vol v at = record { good = at.good; world = refl }

@@ -1,34 +1,9 @@
 -- Records that are changed.
 use Rattle.std.proofs.Common.{◌≡◌, ◌≢◌, ℕ, ◌+◌, ◌<◌, ◌≤◌, false, ◌==◌, inl, inr, List, [], ◌∷◌, length, refl, sym, ◌∙◌, ap, subst, arith, Ok}
-use Rattle.std.specs.Prelude.{filter, slice_set}
-use Rattle.std.proofs.lemmas.Bool.{cases_Bool}
-use Rattle.std.proofs.lemmas.Bool.Decides.{nat_tests}
-use Rattle.std.proofs.lemmas.List.{length-set}
-use Rattle.tsd_model.specs.declared.records.Record.{Record}
-use Rattle.tsd_model.specs.World.{has_number}
-use Rattle.tsd_model.specs.Step.{with_caps}
-use Rattle.image_device.specs.Image.{put_at}
-use Rattle.image_layout.specs.Areas.{header_sector, format_gate, caps_start, counts_start}
-use Rattle.image_layout.specs.Header.{IsHeaderReading}
-use Rattle.image_layout.specs.Image.{Image, says_open}
-use Rattle.image_layout.specs.declared.offset.Patch.{Patch}
-use Rattle.intent_journal.proofs.Overlays.{put_elsewhere}
-use Rattle.pointer_table.proofs.LoadingLaws.{stored_elsewhere}
-use Rattle.ref_counts.proofs.StoredLaws.{same_sectors as same_counts}
-use Rattle.block_alloc.proofs.StoredLaws.{same_sectors as same_bits}
-use Rattle.cap_store.specs.Store.{Store}
+use Rattle.volume_laws.proofs.Common.{filter, slice_set, cases_Bool, nat_tests, length-set, Record, has_number, with_caps, put_at, header_sector, format_gate, caps_start, counts_start, IsHeaderReading, Image, says_open, Patch, put_elsewhere, stored_elsewhere, same_counts, same_bits, Store, kept, settle-of_records, swept-of_records, doomed_by_graph, graph-of_records, AreSound, Tables, left_of, world_with, zeros_of, owed, Turns, left_records}
 use Rattle.tsd_model.specs.declared.caps.CapPair.{CapPair}
-use Rattle.tsd_model.specs.Records.{kept}
 use Rattle.cap_store.specs.Stored.{IsStored}
 use Rattle.cap_store.specs.Changes.{KeepsStored}
-use Rattle.graph_laws.proofs.CommuteLaws.{settle-of_records, swept-of_records}
-use Rattle.graph_laws.proofs.SameGraphLaws.{doomed_by_graph, graph-of_records}
-use Rattle.image_world.specs.Sound.{AreSound}
-use Rattle.image_world.specs.Tables.{Tables}
-use Rattle.image_world.specs.Raw.{left_of, world_with, zeros_of}
-use Rattle.image_world.specs.Debt.{owed}
-use Rattle.image_world.specs.Turns.{Turns}
-use Rattle.image_world.proofs.ChangeLaws.{left_records}
 
 -- ---- worlds
 pub left_kept : (t : Tables) (rs : List Record) (c : ℕ → List ℕ) → left_of (record t { records = rs }) (world_with (record t { records = rs }) c) ≡ record (left_of t (world_with t c)) { records = rs }

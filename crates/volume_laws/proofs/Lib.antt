@@ -1,3 +1,4 @@
+pub mod Common
 pub mod BlockLaws
 pub mod Committed
 pub mod Costs

@@ -1,35 +1,8 @@
 -- Tables with new blocks, where nothing is doomed.
 use Rattle.std.proofs.Common.{◌≡◌, ℕ, ◌*◌, ◌<◌, ◌≤◌, true, false, inl, inr, List, [], length, replicate, refl, sym, ◌∙◌, ap, subst, arith, Ok}
-use Rattle.tsd_model.specs.declared.geometry.Geometry.{Geometry}
-use Rattle.tsd_model.specs.Geometry.{block_len}
-use Rattle.tsd_model.specs.Pairs.{holds}
-use Rattle.tsd_model.specs.World.{World, has_number}
-use Rattle.tsd_model.specs.Doomed.{doomed}
-use Rattle.tsd_model.specs.Step.{with_new_blocks}
-use Rattle.image_layout.specs.Areas.{header_sector, format_gate}
-use Rattle.image_layout.specs.Header.{IsHeaderReading}
-use Rattle.image_layout.specs.Image.{says_open}
-use Rattle.image_layout.specs.declared.offset.Patch.{Patch}
-use Rattle.intent_journal.specs.Home.{overlaid}
-use Rattle.pointer_table.specs.Table.{pairs, IsTable}
-use Rattle.pointer_table.proofs.SlotLaws.{rising-pairs_in}
-use Rattle.block_alloc.specs.LiveMap.{is_live as is_marked_in}
-use Rattle.cap_store.proofs.StoredLaws.{same_sectors as same_records}
-use Rattle.image_world.specs.Sound.{HasTables, AreSound}
-use Rattle.image_world.specs.Tables.{Tables, pairs_of}
-use Rattle.image_world.specs.Raw.{left_of, world_with, zeros_of}
-use Rattle.disk_laws.proofs.DoomLaws.{live_below}
-use Rattle.graph_laws.specs.Graph.{no_record}
-use Rattle.graph_laws.proofs.CountLaws.{led_or_alone}
+use Rattle.volume_laws.proofs.Common.{Geometry, block_len, holds, World, has_number, doomed, with_new_blocks, header_sector, format_gate, IsHeaderReading, says_open, Patch, overlaid, pairs, IsTable, rising-pairs_in, is_marked_in, same_records, HasTables, AreSound, Tables, pairs_of, left_of, world_with, zeros_of, live_below, no_record, led_or_alone, none_is_led, led_has_none, settle_none, live-graph, source_removed, graph_in, owed, live_with, blocks_with, Parts, with_parts, PartsFit, HasNoLost, IsGrown, Turns}
 use Rattle.graph_laws.proofs.LostLaws.{alone_count}
-use Rattle.graph_laws.proofs.SettleLaws.{none_is_led, led_has_none, settle_none}
-use Rattle.graph_laws.proofs.ToldLaws.{live-graph}
-use Rattle.tsd_model.proofs.CountLaws.{source_removed}
-use Rattle.image_world.specs.Debt.{graph_in, owed}
 use Rattle.volume_laws.proofs.TableWorlds.{laid_out, graph_laid_out, same_doomed, none_owed}
-use Rattle.image_world.proofs.RawLaws.{live_with, blocks_with}
-use Rattle.volume_laws.specs.Growing.{Parts, with_parts, PartsFit, HasNoLost, IsGrown}
-use Rattle.image_world.specs.Turns.{Turns}
 
 -- ---- nothing is doomed
 pub full_of_settled : (t : Tables) (p : Parts) → with_parts t p ≡ t → PartsFit t.geometry p → owed t ≡ 0 → HasNoLost t.geometry p

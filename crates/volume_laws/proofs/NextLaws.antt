@@ -1,19 +1,7 @@
 -- What reclamation needs to know of the tables in memory.
 use Rattle.std.proofs.Common.{◌≡◌, ℕ, Bool, ◌<◌, sym, ◌∙◌, subst}
-use Rattle.tsd_model.specs.World.{World}
-use Rattle.graph_laws.specs.RawGraph.{IsRawGraph}
-use Rattle.tsd_model.specs.declared.geometry.Geometry.{Geometry}
-use Rattle.graph_laws.specs.Graph.{graph}
-use Rattle.pointer_table.specs.Table.{pairs}
-use Rattle.pointer_table.specs.Table.{Table as Pointers}
-use Rattle.ref_counts.specs.Table.{Table as Counts}
-use Rattle.block_alloc.specs.LiveMap.{LiveMap}
-use Rattle.cap_store.specs.Store.{Store}
-use Rattle.image_layout.specs.declared.header.Header.{Header}
-use Rattle.reclaim.specs.Ahead.{Kept}
+use Rattle.volume_laws.proofs.Common.{World, IsRawGraph, Geometry, graph, pairs, Pointers, Counts, LiveMap, Store, Header, Kept, graph_in, AreParts, tables_in}
 use Rattle.reclaim.specs.Tables.{graph_of, AreTables, HaveCounts}
-use Rattle.image_world.specs.Debt.{graph_in}
-use Rattle.volume_laws.specs.Volume.{AreParts, tables_in}
 use Rattle.volume_laws.proofs.TableWorlds.{graph_raw}
 
 module _ (h : Header) (p : Pointers) (k : Counts) (l : LiveMap) (s : Store) (is : Bool) (marks : ℕ) (a : Kept) (ready : Bool) (parts : AreParts h p k l s is marks a ready) where

@@ -1,27 +1,7 @@
 -- Operations, one after another and of a batch that is committed.
 use Rattle.std.proofs.Common.{◌≡◌, ℕ, ◌+◌, ◌*◌, ◌≤◌, inl, Bool, true, false, List, [], length, refl, sym, ◌∙◌, ap, subst, arith, Result, Ok, Err}
-use Rattle.std.specs.Prelude.{OnOk, OnErr, IsErrAnd, is_err}
-use Rattle.tsd_model.specs.World.{World}
-use Rattle.tsd_model.specs.declared.geometry.Geometry.{Geometry}
-use Rattle.image_device.specs.Calls.{Uses}
+use Rattle.volume_laws.proofs.Common.{OnOk, OnErr, IsErrAnd, is_err, World, Geometry, Uses, LeavesOnly, IsFirm, View, IsSound, Failed, weakened, joined, Patch, IsBeforeOrAfter, home, overlaid, is_journal, AgreeBut, JournalRecord, IsRingAt, committed, commit_writes, checkpoint_writes, data_on, tables_of, LeavesEither, LeavesWorld, LeavesOwed, StandsForEither, owed, IsOperation, IsWithin, KeepsData, Volume, IsVolumeAt, world_on, Works, due, IsPaid, batch_cost, lost_cost}
 use Rattle.image_device.specs.Counts.{CountsFault}
-use Rattle.image_device.specs.Runs.{LeavesOnly, IsFirm}
-use Rattle.image_device.specs.View.{View, IsSound}
-use Rattle.image_device.specs.declared.device.Failed.{Failed}
-use Rattle.image_device.proofs.Moments.{weakened, joined}
-use Rattle.image_layout.specs.declared.offset.Patch.{Patch}
-use Rattle.intent_journal.specs.Crash.{IsBeforeOrAfter}
-use Rattle.intent_journal.specs.Home.{home, overlaid, is_journal, AgreeBut}
-use Rattle.intent_journal.specs.Records.{JournalRecord}
-use Rattle.intent_journal.specs.Ring.{IsRingAt, committed, commit_writes, checkpoint_writes}
-use Rattle.image_world.specs.Raw.{data_on}
-use Rattle.image_world.specs.Tables.{tables_of}
-use Rattle.volume_laws.specs.Moments.{LeavesEither, LeavesWorld, LeavesOwed, StandsForEither}
-use Rattle.image_world.specs.Debt.{owed}
-use Rattle.volume_laws.specs.Operations.{IsOperation, IsWithin}
-use Rattle.volume_laws.specs.Data.{KeepsData}
-use Rattle.volume_laws.specs.Volume.{Volume, IsVolumeAt, world_on}
-use Rattle.volume_laws.specs.Writes.{Works, due, IsPaid, batch_cost, lost_cost}
 use Rattle.volume_laws.proofs.Allocated.{then_moments, change_first}
 use Rattle.volume_laws.proofs.Committed.{ok_map}
 use Rattle.volume_laws.proofs.Idle.{idle_either, idle_owed}

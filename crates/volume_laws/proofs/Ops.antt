@@ -1,30 +1,9 @@
 -- An operation that commits one batch: what its clauses follow from.
 use Rattle.std.proofs.Common.{◌≡◌, ℕ, ◌+◌, ◌*◌, ◌≤◌, List, length, replicate, ◌∙◌, ap, arith, Result, Ok, Err}
-use Rattle.std.specs.Prelude.{OnOk}
-use Rattle.tsd_model.specs.declared.geometry.Geometry.{Geometry}
-use Rattle.tsd_model.specs.Geometry.{block_len}
-use Rattle.tsd_model.specs.World.{World}
-use Rattle.image_device.specs.Calls.{Uses}
-use Rattle.image_device.specs.View.{View}
-use Rattle.image_device.specs.Runs.{LeavesOnly, IsFirm}
-use Rattle.image_device.proofs.Outcomes.{on_ok}
-use Rattle.image_layout.specs.declared.offset.Patch.{Patch}
-use Rattle.intent_journal.specs.Crash.{IsBeforeOrAfter}
-use Rattle.intent_journal.specs.Home.{home, overlaid, is_journal, AgreeBut}
-use Rattle.intent_journal.specs.Records.{JournalRecord}
-use Rattle.intent_journal.specs.Ring.{committed, commit_writes}
-use Rattle.intent_journal.specs.Ring.{IsRingAt}
-use Rattle.image_world.specs.Tables.{Tables}
-use Rattle.image_world.specs.Raw.{left_of, world_with, data_on, zeros_of}
-use Rattle.volume_laws.specs.Volume.{Volume, IsVolumeAt, world_on, told_by}
-use Rattle.volume_laws.specs.Moments.{LeavesEither}
-use Rattle.image_world.specs.Debt.{owed}
-use Rattle.volume_laws.specs.Writes.{batch_cost, lost_cost, IsPaid}
-use Rattle.image_world.specs.Turns.{Turns}
+use Rattle.volume_laws.proofs.Common.{OnOk, Geometry, block_len, World, Uses, View, LeavesOnly, IsFirm, on_ok, Patch, IsBeforeOrAfter, home, overlaid, is_journal, AgreeBut, JournalRecord, committed, commit_writes, IsRingAt, Tables, left_of, world_with, data_on, zeros_of, Volume, IsVolumeAt, world_on, told_by, LeavesEither, owed, batch_cost, lost_cost, IsPaid, Turns, checkpoint_writes}
 use Rattle.volume_laws.proofs.Changed.{turned_world, world_is, turned_ok, turned_moments}
 use Rattle.volume_laws.proofs.Committed.{ok_map}
 use Rattle.volume_laws.proofs.Costs.{commit_pays}
-use Rattle.intent_journal.specs.Ring.{checkpoint_writes}
 
 -- The batch has at most so many homes and turns the volume's tables into these, which is this change of the world, whatever the
 -- blocks' bytes are as long as they fit, and at most so much more is to be reclaimed.

@@ -1,6 +1,6 @@
 -- What an answer says of one that is known to be Ok.
 use Rattle.std.proofs.Common.{◌≡◌, refl, subst, Result, Ok, Err}
-use Rattle.std.specs.Prelude.{IsErr, IsOk, OnOk, IfOk}
+use Rattle.volume_laws.proofs.Common.{IsErr, IsOk, OnOk, IfOk}
 
 pub ok_here : {T E : Type 0} (r : Result T E) (P : Type 0) (v : T) → r ≡ Ok v → OnOk r P → P
 ok_here {T = T} {E = E} r P v is h = subst (λ (x : Result T E). OnOk x P) is h

@@ -1,27 +1,7 @@
 -- What is owed in the images that a run leaves which changes no table, or makes new blocks.
 use Rattle.std.proofs.Common.{◌≡◌, ℕ, ◌≤◌, Bool, ⊎_elim, List, sym, ◌∙◌, ap, subst, arith}
-use Rattle.image_device.specs.View.{View, IsLeftWithin}
-use Rattle.image_device.specs.Runs.{LeavesOnly, IsConfined}
-use Rattle.image_device.proofs.Moments.{weakened}
-use Rattle.image_layout.specs.Image.{Image}
-use Rattle.image_layout.specs.declared.offset.Patch.{Patch}
-use Rattle.intent_journal.specs.Crash.{IsBefore, IsAfter, IsBeforeOrAfter}
-use Rattle.intent_journal.specs.Home.{home, overlaid}
-use Rattle.tsd_model.specs.declared.geometry.Geometry.{Geometry}
-use Rattle.image_world.specs.Tables.{Tables, header_on, tables_of}
-use Rattle.image_world.specs.Written.{IsWritten}
-use Rattle.image_world.proofs.AlikeLaws.{alike_tables}
-use Rattle.image_world.proofs.WrittenLaws.{written_tables}
-use Rattle.volume_laws.specs.Growing.{AreFree}
-use Rattle.volume_laws.specs.Moments.{LeavesOwed}
-use Rattle.image_world.specs.Debt.{owed}
-use Rattle.image_world.specs.Turns.{Turns}
-use Rattle.image_world.specs.Alike.{AreUnused}
-use Rattle.volume_laws.specs.Volume.{Volume, IsVolumeAt}
-use Rattle.volume_laws.specs.Zeroed.{IsZeroedAt, firmed}
+use Rattle.volume_laws.proofs.Common.{View, IsLeftWithin, LeavesOnly, IsConfined, weakened, Image, Patch, IsBefore, IsAfter, IsBeforeOrAfter, home, overlaid, Geometry, Tables, header_on, tables_of, IsWritten, alike_tables, written_tables, AreFree, LeavesOwed, owed, Turns, AreUnused, Volume, IsVolumeAt, IsZeroedAt, firmed, or_false, unused_agree}
 use Rattle.volume_laws.proofs.Committed.{image_geometry, written_after}
-use Rattle.image_device.proofs.Sets.{or_false}
-use Rattle.image_world.proofs.AgreeLaws.{unused_agree}
 use Rattle.volume_laws.proofs.StepOps.{before_tables, after_tables}
 use Rattle.volume_laws.proofs.ZeroedLaws.{loosely_tables}
 

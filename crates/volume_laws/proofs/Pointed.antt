@@ -1,53 +1,8 @@
 -- A pointer more.
 use Rattle.std.proofs.Common.{◌≡◌, ◌≢◌, ℕ, ◌+◌, ◌<◌, ◌≤◌, true, false, ◌==◌, inl, inr, Bool, cond, List, [], ◌∷◌, length, refl, sym, ◌∙◌, ap, subst, arith, Ok}
-use Rattle.std.specs.Prelude.{slice_set, slice_index, Option}
-use Rattle.std.proofs.lemmas.Bool.{cases_eq, and_from, or_cases}
-use Rattle.std.proofs.lemmas.Bool.Decides.{nat_tests}
-use Rattle.std.proofs.lemmas.List.{length-set, get_or-set_same, get_or-set_other}
-use Rattle.tsd_model.specs.declared.geometry.Geometry.{Geometry}
-use Rattle.tsd_model.specs.Pairs.{is_pair, holds, with_pair, count_to}
-use Rattle.tsd_model.proofs.PairLaws.{holds-with_pair, is_pair_ext}
-use Rattle.tsd_model.proofs.CountLaws.{count-with_pair, count_to_below}
-use Rattle.tsd_model.specs.World.{World, is_live}
-use Rattle.tsd_model.specs.Doomed.{settle}
-use Rattle.tsd_model.specs.Step.{with_pointer}
-use Rattle.image_device.specs.Image.{put_at}
-use Rattle.image_layout.specs.Areas.{header_sector, format_gate, counts_start, bitmap_start, slots_start, data_start}
-use Rattle.image_layout.specs.Header.{IsHeaderReading}
-use Rattle.image_layout.specs.Image.{Image, says_open}
-use Rattle.image_layout.specs.declared.offset.Patch.{Patch}
-use Rattle.intent_journal.specs.Batch.{with_patch}
-use Rattle.intent_journal.specs.Home.{overlaid}
-use Rattle.intent_journal.proofs.Overlays.{put_elsewhere}
-use Rattle.intent_journal.proofs.Uses.{overlaid_with_patch}
-use Rattle.pointer_table.specs.Table.{pairs, IsTable, MayBeHeld}
-use Rattle.pointer_table.specs.Table.{Table as Pointers}
-use Rattle.pointer_table.specs.Changes.{IsSlotSector, KeepsStored}
-use Rattle.ref_counts.specs.Table.{Table as Counts}
-use Rattle.block_alloc.specs.LiveMap.{LiveMap}
-use Rattle.cap_store.specs.Store.{Store}
-use Rattle.image_layout.specs.declared.header.Header.{Header}
-use Rattle.pointer_table.specs.Slots.{pairs_in}
-use Rattle.pointer_table.specs.Sectors.{IsStored as AreSlots}
-use Rattle.pointer_table.proofs.SlotLaws.{rising-pairs_in, slot_from_holds}
-use Rattle.pointer_table.proofs.LoadingLaws.{stored_elsewhere}
-use Rattle.ref_counts.specs.Stored.{IsStored}
-use Rattle.ref_counts.specs.Changes.{KeepsStored as KeepsCounts}
-use Rattle.ref_counts.proofs.StoredLaws.{same_sectors as same_counts}
-use Rattle.block_alloc.specs.LiveMap.{is_live as is_marked_in}
-use Rattle.block_alloc.proofs.StoredLaws.{same_sectors as same_bits}
-use Rattle.cap_store.proofs.StoredLaws.{same_sectors as same_records}
-use Rattle.image_world.specs.Sound.{HasTables, AreSound}
-use Rattle.image_world.specs.Tables.{Tables, pairs_of}
-use Rattle.image_world.specs.Raw.{left_of, world_with, zeros_of, blank_of}
-use Rattle.graph_laws.proofs.AheadLaws.{doomed_list-with_pointer, doomed_pairs-with_pointer}
-use Rattle.graph_laws.proofs.CommuteLaws.{create_settles}
-use Rattle.graph_laws.proofs.SettleLaws.{settle_none}
-use Rattle.graph_laws.specs.Counts.{doomed_size}
-use Rattle.image_world.specs.Debt.{graph_in, owed}
-use Rattle.volume_laws.specs.Volume.{tables_in}
+use Rattle.volume_laws.proofs.Common.{slice_set, slice_index, cases_eq, and_from, or_cases, nat_tests, length-set, get_or-set_same, get_or-set_other, Geometry, is_pair, holds, with_pair, count_to, holds-with_pair, is_pair_ext, count-with_pair, count_to_below, World, is_live, settle, with_pointer, put_at, header_sector, format_gate, counts_start, bitmap_start, slots_start, data_start, IsHeaderReading, Image, says_open, Patch, with_patch, overlaid, put_elsewhere, overlaid_with_patch, pairs, IsTable, MayBeHeld, Pointers, IsSlotSector, KeepsStored, Counts, LiveMap, Store, Header, pairs_in, AreSlots, rising-pairs_in, slot_from_holds, stored_elsewhere, IsStored, KeepsCounts, same_counts, is_marked_in, same_bits, same_records, HasTables, AreSound, Tables, pairs_of, left_of, world_with, zeros_of, blank_of, doomed_list-with_pointer, doomed_pairs-with_pointer, create_settles, settle_none, doomed_size, graph_in, owed, tables_in, Turns}
+use Rattle.std.specs.Prelude.{Option}
 use Rattle.volume_laws.proofs.BlockLaws.{length-with_patch}
-use Rattle.image_world.specs.Turns.{Turns}
 use Rattle.volume_laws.proofs.TableWorlds.{laid_out, graph_laid_out, same_doomed, none_owed, blank, told_live, told_absent, left_told}
 
 -- ---- one or none

@@ -1,32 +1,11 @@
 -- What memory answers, by what is kept ahead, is what the settled world would.
 use Rattle.std.proofs.Common.{◌≡◌, ℕ, ◌+◌, ◌<◌, ◌≤◌, Bool, true, false, not, ◌&&◌, ◌==◌, nat_le, ◌⊎◌, inl, inr, List, [], ◌∷◌, length, map, take, refl, sym, ◌∙◌, ap, subst, arith, Some, None}
-use Rattle.std.specs.Prelude.{filter}
-use Rattle.std.proofs.lemmas.Bool.{cases_Bool, cases_lt, and_parts, both_ways, eqb-true}
+use Rattle.volume_laws.proofs.Common.{filter, cases_Bool, cases_lt, and_parts, both_ways, eqb-true, holds, targets_from, World, is_live, settle, swept, Record, settle_is_valid, LiveMap, is_marked_in, stays, settle-of_records, swept-of_records, filter_twice, live-settle, holds-settle, length-settle, live-graph, raw-graph, length-settle_pairs, Kept, is_gone, Hides, IsAheadOf, AreSound, Tables, pairs_of, world_with, left_of, blank_of, graph_in}
 use Rattle.std.proofs.lemmas.List.Elements.{filter_agree}
 use Rattle.tsd_model.specs.Next.{IsNextSource}
-use Rattle.tsd_model.specs.Pairs.{holds}
-use Rattle.tsd_model.specs.Step.{targets_from}
 use Rattle.tsd_model.specs.Valid.{IsSized, IsRaw, IsValid}
-use Rattle.tsd_model.specs.World.{World, is_live}
-use Rattle.tsd_model.specs.Doomed.{settle}
-use Rattle.tsd_model.specs.Reach.{swept}
-use Rattle.tsd_model.specs.declared.records.Record.{Record}
-use Rattle.disk_laws.proofs.DoomLaws.{settle_is_valid}
-use Rattle.block_alloc.specs.LiveMap.{LiveMap}
-use Rattle.block_alloc.specs.LiveMap.{is_live as is_marked_in}
 use Rattle.block_alloc.specs.Worlds.{IsMapOf}
-use Rattle.graph_laws.specs.Counts.{stays}
-use Rattle.graph_laws.proofs.CommuteLaws.{settle-of_records, swept-of_records}
-use Rattle.graph_laws.proofs.CountLaws.{filter_twice}
-use Rattle.graph_laws.proofs.SettleLaws.{live-settle, holds-settle, length-settle}
 use Rattle.graph_laws.proofs.SweepLaws.{sweeps_to_valid}
-use Rattle.graph_laws.proofs.ToldLaws.{live-graph, raw-graph}
-use Rattle.graph_laws.proofs.WeightLaws.{length-settle_pairs}
-use Rattle.reclaim.specs.Ahead.{Kept, is_gone, Hides, IsAheadOf}
-use Rattle.image_world.specs.Sound.{AreSound}
-use Rattle.image_world.specs.Tables.{Tables, pairs_of}
-use Rattle.image_world.specs.Raw.{world_with, left_of, blank_of}
-use Rattle.image_world.specs.Debt.{graph_in}
 use Rattle.volume_laws.proofs.TableWorlds.{graph_laid_out, graph_raw, told_graph}
 
 -- ---- where nothing is asked of what is kept ahead

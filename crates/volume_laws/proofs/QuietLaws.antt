@@ -1,11 +1,7 @@
 -- When nothing is left to be done on the image of a device.
 use Rattle.std.proofs.Common.{◌≡◌, false, ◌∙◌, ap}
-use Rattle.image_device.specs.View.{View}
-use Rattle.image_world.specs.Fresh.{AreClosed}
-use Rattle.image_world.specs.Tables.{Tables}
-use Rattle.image_world.specs.Debt.{owed}
+use Rattle.volume_laws.proofs.Common.{View, AreClosed, Tables, owed, Volume, IsVolumeAt}
 use Rattle.volume_laws.specs.Quiet.{IsQuiet}
-use Rattle.volume_laws.specs.Volume.{Volume, IsVolumeAt}
 
 -- where a volume is at it
 pub quiet_at : (vol : Volume) (v : View) → IsVolumeAt vol v → AreClosed v.reads → vol.tables.is_sweeping ≡ false → owed vol.tables ≡ 0 → IsQuiet v.reads

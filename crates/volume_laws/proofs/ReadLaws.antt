@@ -1,27 +1,7 @@
 -- A block that is read.
 use Rattle.std.proofs.Common.{◌≡◌, ℕ, ◌<◌, ◌≤◌, Bool, true, false, not, cond, inl, inr, List, refl, sym, ◌∙◌, ap, subst, arith, Some, None}
-use Rattle.std.specs.Prelude.{is_some}
-use Rattle.std.proofs.lemmas.Bool.{cases_Bool}
-use Rattle.tsd_model.specs.World.{World, contents, is_live, has_number}
-use Rattle.tsd_model.specs.Doomed.{doomed, settle}
-use Rattle.tsd_model.specs.Reach.{reach, restricted, swept}
+use Rattle.volume_laws.proofs.Common.{is_some, cases_Bool, World, contents, is_live, has_number, doomed, settle, reach, restricted, swept, Rests, View, IsSound, rested, firm_image, Image, data_bytes, home, JournalRecord, IsRingAt, at_rested, IsGood, Tables, tables_of, world_with, left_of, data_on, Stands, world_of, live_with, contents_with, LeavesWorld, LeavesOwed, owed, Volume, IsVolumeAt, told_by, world_on}
 use Rattle.tsd_model.proofs.SizeLaws.{contents-restricted}
-use Rattle.image_device.specs.Calls.{Rests}
-use Rattle.image_device.specs.View.{View, IsSound}
-use Rattle.image_device.proofs.Moments.{rested, firm_image}
-use Rattle.image_layout.specs.Image.{Image, data_bytes}
-use Rattle.intent_journal.specs.Home.{home}
-use Rattle.intent_journal.specs.Records.{JournalRecord}
-use Rattle.intent_journal.specs.Ring.{IsRingAt}
-use Rattle.intent_journal.proofs.Uses.{at_rested}
-use Rattle.image_world.specs.Faults.{IsGood}
-use Rattle.image_world.specs.Tables.{Tables, tables_of}
-use Rattle.image_world.specs.Raw.{world_with, left_of, data_on}
-use Rattle.image_world.specs.Stands.{Stands, world_of}
-use Rattle.image_world.proofs.RawLaws.{live_with, contents_with}
-use Rattle.volume_laws.specs.Moments.{LeavesWorld, LeavesOwed}
-use Rattle.image_world.specs.Debt.{owed}
-use Rattle.volume_laws.specs.Volume.{Volume, IsVolumeAt, told_by, world_on}
 use Rattle.volume_laws.proofs.Committed.{told_like, told_inside}
 
 -- ---- the device

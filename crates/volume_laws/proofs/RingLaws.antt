@@ -1,17 +1,7 @@
 -- Batches behind the records of a ring, and how often is written for them.
 use Rattle.std.proofs.Common.{◌≡◌, ◌≢◌, ℕ, zero, suc, ◌+◌, ◌-◌, ◌≤◌, ◌<◌, ◌==◌, ◌||◌, nat_lt, Bool, true, false, cond, inl, inr, List, [], ◌++◌, ◌∷◌, length, refl, sym, ◌∙◌, ap, subst, arith, Result, Ok, Err}
-use Rattle.std.specs.Prelude.{OnOk}
-use Rattle.std.proofs.lemmas.Bool.{cases_Bool}
-use Rattle.std.proofs.lemmas.Bool.Decides.{nat_tests}
-use Rattle.image_device.specs.Calls.{Uses}
-use Rattle.image_device.specs.View.{View}
-use Rattle.image_device.specs.declared.device.Failed.{Failed}
-use Rattle.image_layout.specs.Ring.{records, bodies}
-use Rattle.image_layout.specs.declared.offset.Patch.{Patch}
-use Rattle.intent_journal.specs.Records.{JournalRecord, patches_of}
-use Rattle.intent_journal.specs.Ring.{committed, commit_writes, checkpoint_writes, is_full_for}
+use Rattle.volume_laws.proofs.Common.{OnOk, cases_Bool, nat_tests, Uses, View, Failed, records, bodies, Patch, JournalRecord, patches_of, committed, commit_writes, checkpoint_writes, is_full_for, Volume}
 use Rattle.volume_laws.specs.Rings.{HasBatch, HasBatches, CommitsOnce, batch_writes}
-use Rattle.volume_laws.specs.Volume.{Volume}
 use Rattle.volume_laws.proofs.Committed.{ok_map}
 
 -- ---- how often is written

@@ -1,11 +1,6 @@
 -- In the middle of reclaiming: the world is as at the start, and each step so far has been paid for.
 use Rattle.std.proofs.Common.{◌≡◌, ℕ, ◌≤◌, false, [], refl, ◌∙◌, arith, Result, Ok}
-use Rattle.image_device.specs.View.{View, IsSound}
-use Rattle.image_device.specs.declared.device.Failed.{Failed}
-use Rattle.volume_laws.specs.Volume.{Volume, IsVolumeAt, told_by}
-use Rattle.image_world.specs.Debt.{owed}
-use Rattle.volume_laws.specs.Operations.{IsOperation, IsWithin}
-use Rattle.volume_laws.specs.Writes.{due}
+use Rattle.volume_laws.proofs.Common.{View, IsSound, Failed, Volume, IsVolumeAt, told_by, owed, IsOperation, IsWithin, due}
 use Rattle.volume_laws.proofs.OperationLaws.{no_op, none_within, kept_then, op_answers, within_then, within_answers}
 
 -- the answer of a call that tells nothing

@@ -1,43 +1,11 @@
 -- A step of reclamation as an operation: the world stays, and less is owed.
 use Rattle.std.proofs.Common.{◌≡◌, ℕ, ◌+◌, ◌*◌, ◌<◌, ◌≤◌, Bool, true, false, cond, inl, inr, ⊎_elim, List, length, refl, sym, ◌∙◌, ap, subst, arith, Result, Ok, Err}
-use Rattle.std.specs.Prelude.{OnOk}
-use Rattle.tsd_model.specs.Doomed.{doomed, settle}
-use Rattle.tsd_model.specs.World.{World}
-use Rattle.image_device.specs.Calls.{Uses}
-use Rattle.image_device.specs.View.{View}
-use Rattle.image_device.specs.Runs.{LeavesOnly}
-use Rattle.image_device.proofs.Moments.{weakened}
-use Rattle.image_layout.specs.Image.{Image}
-use Rattle.image_layout.specs.declared.offset.Patch.{Patch}
-use Rattle.intent_journal.specs.Crash.{IsBefore, IsAfter, IsBeforeOrAfter}
-use Rattle.intent_journal.specs.Home.{home}
-use Rattle.intent_journal.specs.Records.{JournalRecord}
-use Rattle.intent_journal.specs.Ring.{committed, commit_writes, checkpoint_writes}
-use Rattle.graph_laws.specs.Steps.{stepped}
-use Rattle.graph_laws.proofs.SameGraphLaws.{graph_of_same, lost_by_graph, step_by_graph}
-use Rattle.graph_laws.proofs.StepLaws.{settle-stepped}
-use Rattle.graph_laws.specs.Counts.{doomed_size}
-use Rattle.graph_laws.proofs.WeightLaws.{step_lowers}
-use Rattle.pointer_table.specs.declared.out_step.OutStep.{OutStep}
-use Rattle.image_world.specs.Tables.{Tables, tables_of}
-use Rattle.image_world.specs.Raw.{world_with, left_of}
-use Rattle.image_world.specs.Stands.{Stands}
-use Rattle.image_world.proofs.AlikeLaws.{alike_tables}
-use Rattle.image_world.proofs.SoundLaws.{has_one}
-use Rattle.volume_laws.specs.Graphs.{IsStepNext}
-use Rattle.image_world.specs.Debt.{graph_in, owed}
-use Rattle.volume_laws.specs.Moments.{LeavesEither, LeavesWorld, LeavesOwed}
-use Rattle.volume_laws.specs.Steps.{IsStepPut, IsStepped}
-use Rattle.image_world.specs.Turns.{Turns}
-use Rattle.volume_laws.specs.Volume.{Volume, IsVolumeAt, world_on}
-use Rattle.volume_laws.specs.Writes.{batch_cost, due, IsPaid}
+use Rattle.volume_laws.proofs.Common.{OnOk, doomed, settle, World, Uses, View, LeavesOnly, weakened, Image, Patch, IsBefore, IsAfter, IsBeforeOrAfter, home, JournalRecord, committed, commit_writes, checkpoint_writes, stepped, graph_of_same, lost_by_graph, step_by_graph, settle-stepped, doomed_size, step_lowers, OutStep, Tables, tables_of, world_with, left_of, Stands, alike_tables, has_one, IsStepNext, graph_in, owed, LeavesEither, LeavesWorld, LeavesOwed, IsStepPut, IsStepped, Turns, Volume, IsVolumeAt, world_on, batch_cost, due, IsPaid, alike_outside, world_graph}
 use Rattle.volume_laws.proofs.Changed.{turned_had}
-use Rattle.image_world.proofs.AgreeLaws.{alike_outside}
 use Rattle.volume_laws.proofs.Costs.{commit_pays}
 use Rattle.volume_laws.proofs.Ops.{any_bytes, IsOp}
 use Rattle.volume_laws.proofs.StepWorlds.{world_stepped, graph_stepped}
 use Rattle.volume_laws.proofs.TableWorlds.{laid_out, graph_laid_out}
-use Rattle.image_world.proofs.DebtLaws.{world_graph}
 
 -- ---- what is owed
 pub step_owed : (t now : Tables) (s : OutStep) → IsStepNext t s → IsStepped t now s.block s.targets s.freed → owed t ≡ owed now + (cond s.freed 1 0 + length s.targets)

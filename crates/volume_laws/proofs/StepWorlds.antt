@@ -1,17 +1,7 @@
 -- The worlds that tables tell after a step of reclamation.
 use Rattle.std.proofs.Common.{◌≡◌, ℕ, Bool, true, false, List, [], ◌∷◌, ◌∙◌, refl, sym, ap}
-use Rattle.tsd_model.specs.World.{World}
-use Rattle.tsd_model.specs.Step.{without_pointer}
-use Rattle.tsd_model.specs.declared.geometry.Geometry.{Geometry}
-use Rattle.tsd_model.specs.declared.records.Record.{Record}
-use Rattle.graph_laws.specs.Graph.{world_with as world_of_parts, zeros_in, no_record}
-use Rattle.graph_laws.specs.Steps.{with_free, without_pointers, stepped}
-use Rattle.graph_laws.proofs.ToldLaws.{world_with-set_free}
+use Rattle.volume_laws.proofs.Common.{World, without_pointer, Geometry, Record, world_of_parts, zeros_in, no_record, with_free, without_pointers, stepped, world_with-set_free, Tables, pairs_of, world_with, graph_in, pairs_without, live_after, IsStepped}
 use Rattle.std.specs.Prelude.{replicate}
-use Rattle.image_world.specs.Tables.{Tables, pairs_of}
-use Rattle.image_world.specs.Raw.{world_with}
-use Rattle.image_world.specs.Debt.{graph_in}
-use Rattle.volume_laws.specs.Steps.{pairs_without, live_after, IsStepped}
 
 -- only the pairs are others
 pub without_parts : (a : ℕ) (bs : List ℕ) (w : World) → without_pointers w a bs ≡ record w { pairs = pairs_without w.pairs a bs }

@@ -1,29 +1,6 @@
 -- The worlds that tables tell: of one graph, whatever the blocks contain.
 use Rattle.std.proofs.Common.{◌≡◌, ℕ, ◌+◌, ◌<◌, true, false, not, List, [], ◌∷◌, length, refl, sym, ◌∙◌, ap, arith, ◌↔◌, subst}
-use Rattle.std.specs.Prelude.{filter}
-use Rattle.std.proofs.lemmas.Bool.{and_parts, not-true}
-use Rattle.std.proofs.lemmas.List.{nil_from_length}
-use Rattle.tsd_model.specs.Pairs.{holds, without_pair}
-use Rattle.tsd_model.specs.Step.{without_pointer}
-use Rattle.tsd_model.specs.World.{World, is_live, has_number}
-use Rattle.tsd_model.specs.Doomed.{doomed, settle}
-use Rattle.disk_laws.proofs.DoomLaws.{live_below}
-use Rattle.pointer_table.proofs.SlotLaws.{rising-pairs_in, length-pairs_in_le, slot_from_holds}
-use Rattle.block_alloc.specs.LiveMap.{is_live as is_marked_in}
-use Rattle.graph_laws.specs.Graph.{HasGraphOf}
-use Rattle.graph_laws.specs.RawGraph.{IsLaidOut, IsRawGraph}
-use Rattle.graph_laws.proofs.CommuteLaws.{settled_live, absent_raw}
-use Rattle.graph_laws.proofs.SameGraphLaws.{doomed_by_graph, doomed_pairs_by_graph, laid_out_by_graph, settle_by_graph, alike_have_graph}
-use Rattle.image_world.proofs.LikeLaws.{tables_like}
-use Rattle.graph_laws.specs.Counts.{stays, doomed_size}
-use Rattle.graph_laws.proofs.SettleLaws.{holds-settle}
-use Rattle.graph_laws.proofs.ToldLaws.{live-graph}
-use Rattle.image_world.specs.Sound.{AreSound}
-use Rattle.image_world.specs.Tables.{Tables, pairs_of}
-use Rattle.image_world.specs.Raw.{world_with, left_of, zeros_of, blank_of}
-use Rattle.image_world.proofs.RawLaws.{blocks_with, live_with}
-use Rattle.image_world.specs.Debt.{graph_in, owed}
-use Rattle.image_world.proofs.DebtLaws.{world_graph}
+use Rattle.volume_laws.proofs.Common.{filter, and_parts, not-true, nil_from_length, holds, without_pair, without_pointer, World, is_live, has_number, doomed, settle, live_below, rising-pairs_in, length-pairs_in_le, slot_from_holds, is_marked_in, HasGraphOf, IsLaidOut, IsRawGraph, settled_live, absent_raw, doomed_by_graph, doomed_pairs_by_graph, laid_out_by_graph, settle_by_graph, alike_have_graph, tables_like, stays, doomed_size, holds-settle, live-graph, AreSound, Tables, pairs_of, world_with, left_of, zeros_of, blank_of, blocks_with, live_with, graph_in, owed, world_graph}
 
 -- ---- graphs
 

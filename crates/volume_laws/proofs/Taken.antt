@@ -1,30 +1,8 @@
 -- Pairs of one block that are taken away, one after the other.
 use Rattle.std.proofs.Common.{◌≡◌, ℕ, ◌+◌, ◌<◌, ◌≤◌, ◌-◌, true, false, not, ◌&&◌, ◌==◌, Bool, List, [], ◌∷◌, ◌++◌, length, refl, sym, ◌∙◌, ap, subst, arith, take}
-use Rattle.std.specs.Prelude.{slice_set, slice_index, get_or}
-use Rattle.std.proofs.lemmas.Bool.{and_from}
-use Rattle.std.proofs.lemmas.List.{take_more, length-take}
-use Rattle.tsd_model.specs.Pairs.{holds, without_pair}
-use Rattle.tsd_model.specs.World.{World, has_number}
-use Rattle.image_device.specs.Image.{put_at}
-use Rattle.image_layout.specs.Areas.{counts_start, bitmap_start, format_gate, data_start}
-use Rattle.image_layout.specs.Image.{Image}
-use Rattle.image_layout.specs.declared.header.Header.{Header}
-use Rattle.image_layout.specs.declared.offset.Patch.{Patch}
-use Rattle.intent_journal.specs.Batch.{IsBatch, with_patch}
-use Rattle.intent_journal.specs.Home.{overlaid}
-use Rattle.intent_journal.proofs.Uses.{overlaid_with_patch}
-use Rattle.pointer_table.specs.Table.{pairs, IsTable}
-use Rattle.pointer_table.specs.Table.{Table as Pointers}
-use Rattle.pointer_table.specs.Changes.{IsSlotSector, KeepsStored}
-use Rattle.ref_counts.specs.Table.{Table as Counts}
-use Rattle.ref_counts.specs.Changes.{KeepsStored as KeepsCounts}
-use Rattle.graph_laws.proofs.StepLaws.{holds-without_pointers}
+use Rattle.volume_laws.proofs.Common.{slice_set, slice_index, and_from, take_more, length-take, holds, without_pair, World, has_number, put_at, counts_start, bitmap_start, format_gate, data_start, Image, Header, Patch, IsBatch, with_patch, overlaid, overlaid_with_patch, pairs, IsTable, Pointers, IsSlotSector, KeepsStored, Counts, KeepsCounts, holds-without_pointers, HasTables, Tables, pairs_of, world_with, zeros_of, Turns, AreHeld, MayTake, PairsAreTaken, pairs_without, with_slots_and_counts}
+use Rattle.std.specs.Prelude.{get_or}
 use Rattle.reclaim.proofs.HeldLaws.{has-at, not_before}
-use Rattle.image_world.specs.Sound.{HasTables}
-use Rattle.image_world.specs.Tables.{Tables, pairs_of}
-use Rattle.image_world.specs.Raw.{world_with, zeros_of}
-use Rattle.image_world.specs.Turns.{Turns}
-use Rattle.volume_laws.specs.Steps.{AreHeld, MayTake, PairsAreTaken, pairs_without, with_slots_and_counts}
 use Rattle.volume_laws.proofs.BlockLaws.{length-with_patch}
 use Rattle.volume_laws.proofs.StepWorlds.{without_parts}
 use Rattle.volume_laws.proofs.Dropped.{IsDropped, dropped}

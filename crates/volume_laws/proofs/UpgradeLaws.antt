@@ -1,34 +1,8 @@
 -- Records become those of version 2, with the header.
 use Rattle.std.proofs.Common.{◌≡◌, ◌≢◌, ℕ, ◌+◌, ◌≤◌, false, ◌==◌, inr, Bool, List, [], length, refl, sym, ◌∙◌, ap, subst, arith, Ok}
 use Rattle.std.specs.Prelude.{map}
-use Rattle.std.proofs.lemmas.Bool.Decides.{nat_tests}
-use Rattle.std.proofs.lemmas.List.{length-map}
-use Rattle.tsd_model.specs.Records.{upgraded, upgraded_record}
-use Rattle.image_device.specs.Image.{put_at}
-use Rattle.image_layout.specs.Areas.{header_sector, format_gate, caps_start}
-use Rattle.image_layout.specs.Header.{IsHeaderReading}
-use Rattle.image_layout.specs.Image.{Image, says_open}
-use Rattle.image_layout.specs.declared.header.Header.{Header}
-use Rattle.image_layout.specs.declared.offset.Patch.{Patch}
-use Rattle.intent_journal.specs.Home.{overlaid}
-use Rattle.intent_journal.proofs.Overlays.{put_here, put_elsewhere}
-use Rattle.pointer_table.specs.Table.{Table as Pointers}
-use Rattle.pointer_table.proofs.LoadingLaws.{stored_elsewhere}
-use Rattle.ref_counts.specs.Table.{Table as Counts}
-use Rattle.ref_counts.proofs.StoredLaws.{same_sectors as same_counts}
-use Rattle.block_alloc.specs.LiveMap.{LiveMap}
-use Rattle.block_alloc.proofs.StoredLaws.{same_sectors as same_bits}
-use Rattle.cap_store.specs.Store.{Store}
-use Rattle.cap_store.specs.Store.{upgraded as upgraded_store}
-use Rattle.cap_store.specs.Stored.{IsStored as AreKept}
+use Rattle.volume_laws.proofs.Common.{nat_tests, length-map, upgraded, upgraded_record, put_at, header_sector, format_gate, caps_start, IsHeaderReading, Image, says_open, Header, Patch, overlaid, put_here, put_elsewhere, Pointers, stored_elsewhere, Counts, same_counts, LiveMap, same_bits, Store, upgraded_store, AreKept, left_of, world_with, HasTables, AreSound, Tables, upgrade_change, owed, Turns, Volume, tables_in}
 use Rattle.image_world.specs.Changes.{upgraded_tables}
-use Rattle.image_world.specs.Raw.{left_of, world_with}
-use Rattle.image_world.specs.Sound.{HasTables, AreSound}
-use Rattle.image_world.specs.Tables.{Tables}
-use Rattle.image_world.proofs.ChangeLaws.{upgrade_change}
-use Rattle.image_world.specs.Debt.{owed}
-use Rattle.image_world.specs.Turns.{Turns}
-use Rattle.volume_laws.specs.Volume.{Volume, tables_in}
 use Rattle.volume_laws.proofs.Ops.{any_bytes, IsOp}
 
 sound_upgraded : (t : Tables) → AreSound t → AreSound (upgraded_tables t)

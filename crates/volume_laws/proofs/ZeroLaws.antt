@@ -1,14 +1,6 @@
 -- Data sectors of some blocks, one after another.
 use Rattle.std.proofs.Common.{◌≡◌, ◌≢◌, ℕ, zero, suc, ◌+◌, ◌<◌, ◌≤◌, true, false, ◌&&◌, ◌||◌, ◌==◌, nat_le, nat_lt, inl, inr, List, [], ◌∷◌, length, refl, sym, ◌∙◌, ap, arith}
-use Rattle.std.specs.Prelude.{slice_index}
-use Rattle.std.proofs.lemmas.Bool.{cases_Bool, or_parts}
-use Rattle.std.proofs.lemmas.Bool.Decides.{nat_tests}
-use Rattle.tsd_model.specs.declared.geometry.Geometry.{Geometry}
-use Rattle.tsd_model.specs.World.{has_number}
-use Rattle.image_device.specs.Calls.{Uses}
-use Rattle.image_device.specs.View.{View}
-use Rattle.image_layout.specs.Offsets.{data_sector}
-use Rattle.volume_laws.specs.Zeroed.{is_part, is_data}
+use Rattle.volume_laws.proofs.Common.{slice_index, cases_Bool, or_parts, nat_tests, Geometry, has_number, Uses, View, data_sector, is_part, is_data}
 
 same_number : (m k : ℕ) → m ≡ k → (m == k) ≡ true
 same_number m k e = grind (arith, nat_tests)

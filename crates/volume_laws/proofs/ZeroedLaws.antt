@@ -1,44 +1,12 @@
 -- A device where blocks got zeros before they are live.
 use Rattle.std.proofs.Common.{◌≡◌, ◌≢◌, ℕ, ◌+◌, ◌-◌, ◌<◌, ◌≤◌, true, false, ◌&&◌, ◌||◌, nat_le, nat_lt, ◌==◌, inl, inr, ⊎_elim, Bool, List, [], ◌∷◌, refl, sym, ◌∙◌, ap, subst, arith}
-use Rattle.std.proofs.lemmas.Bool.{cases_Bool, cases_lt, or_parts, both_ways}
-use Rattle.std.proofs.lemmas.Bool.Decides.{nat_tests}
-use Rattle.tsd_model.specs.declared.geometry.Geometry.{Geometry}
-use Rattle.tsd_model.specs.World.{World, has_number}
-use Rattle.image_device.specs.Image.{zeros}
-use Rattle.image_device.specs.View.{View}
-use Rattle.image_device.specs.Runs.{LeavesOnly, IsConfined}
-use Rattle.image_device.proofs.Moments.{weakened, joined}
-use Rattle.image_layout.specs.Areas.{header_sector, format_gate, data_start}
-use Rattle.image_layout.specs.Offsets.{data_sector}
-use Rattle.image_layout.specs.Image.{Image, sector_bytes}
-use Rattle.image_layout.specs.declared.offset.Patch.{Patch}
-use Rattle.intent_journal.specs.Crash.{IsBefore, IsBeforeOrAfter}
-use Rattle.intent_journal.specs.Home.{home, is_journal}
-use Rattle.intent_journal.specs.Batch.{has_home}
-use Rattle.intent_journal.specs.Records.{JournalRecord, patches_of}
-use Rattle.intent_journal.proofs.Uses.{home_missed, at_kept}
-use Rattle.intent_journal.specs.Ring.{IsRingAt}
-use Rattle.block_alloc.specs.LiveMap.{is_live as is_marked_in}
-use Rattle.image_world.specs.Alike.{AreAlike}
-use Rattle.image_world.specs.Stands.{Stands}
-use Rattle.image_world.specs.Tables.{Tables, header_on, tables_of}
-use Rattle.image_world.specs.Raw.{data_on}
+use Rattle.volume_laws.proofs.Common.{cases_Bool, cases_lt, or_parts, both_ways, nat_tests, Geometry, World, has_number, zeros, View, LeavesOnly, IsConfined, weakened, joined, header_sector, format_gate, data_start, data_sector, Image, sector_bytes, Patch, IsBefore, IsBeforeOrAfter, home, is_journal, has_home, JournalRecord, patches_of, home_missed, at_kept, IsRingAt, is_marked_in, AreAlike, Stands, Tables, header_on, tables_of, data_on, alike_tables, above_journal, AreFree, Volume, IsVolumeAt, world_on, LeavesEither, LeavesWorld, StandsForEither, AreUnused, is_part, is_data, firmed, AreMissed, IsZeroedAt, Turns, formatted_by, unused_stands, unused_agree}
 use Rattle.image_world.proofs.FreshLaws.{zero_bytes}
-use Rattle.image_world.proofs.AlikeLaws.{alike_tables}
 use Rattle.image_world.proofs.StandLaws.{stands_alike}
 use Rattle.image_layout.proofs.ThingLaws.{parts_apart}
-use Rattle.image_world.proofs.WrittenLaws.{above_journal}
-use Rattle.volume_laws.specs.Growing.{AreFree}
-use Rattle.volume_laws.specs.Volume.{Volume, IsVolumeAt, world_on}
-use Rattle.volume_laws.specs.Moments.{LeavesEither, LeavesWorld, StandsForEither}
-use Rattle.image_world.specs.Alike.{AreUnused}
-use Rattle.volume_laws.specs.Zeroed.{is_part, is_data, firmed, AreMissed, IsZeroedAt}
-use Rattle.image_world.specs.Turns.{Turns}
 use Rattle.volume_laws.proofs.Changed.{turned_world, turned_stands, has_its_tables}
 use Rattle.volume_laws.proofs.Committed.{image_geometry}
-use Rattle.image_world.proofs.AgreeLaws.{formatted_by}
 use Rattle.volume_laws.proofs.Made.{has_zeros}
-use Rattle.image_world.proofs.AgreeLaws.{unused_stands, unused_agree}
 
 -- ---- sectors
 -- below the data none is one of blocks

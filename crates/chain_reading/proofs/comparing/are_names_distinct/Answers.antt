@@ -1,13 +1,5 @@
 use Rattle.std.proofs.Common.{false, sym, ◌∙◌, ap, subst, Ok, Err}
-use Rattle.fs_trees.specs.Names.{are_distinct}
-use Rattle.fs_trees.specs.Fields.{entry_names}
-use Rattle.fs_laws.specs.Ways.{HoldsWrite}
-use Rattle.fs_port.specs.View.{state_of}
-use Rattle.fs_client.proofs.LookLaws.{no_look, then_looks, looks_as, looks_refused, looks_but_refuses}
-use Rattle.chain_layout.specs.Block.{cluster_of}
-use Rattle.chain_layout.specs.Held.{dir_cluster, entries_in}
-use Rattle.chain_reading.specs.Comparing.{AreFirstDistinct}
-use Rattle.chain_reading.specs.Finding.{placed_names}
+use Rattle.chain_reading.proofs.Common.{are_distinct, entry_names, HoldsWrite, state_of, no_look, then_looks, looks_as, looks_refused, looks_but_refuses, cluster_of, dir_cluster, entries_in, AreFirstDistinct, placed_names}
 use Rattle.chain_reading.proofs.NameLaws.{distinct_passes, distinct_stops}
 use Rattle.chain_reading.proofs.LoopLaws.{over_is}
 use Rattle.chain_reading.proofs.PageLaws.{page_there, page_again, pages_at, left_first, left_below, left_on, left_ends, left_stops}

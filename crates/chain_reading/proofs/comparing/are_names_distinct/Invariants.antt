@@ -1,4 +1,4 @@
-use Rattle.fs_trees.specs.Names.{are_distinct}
+use Rattle.chain_reading.proofs.Common.{are_distinct}
 use Rattle.chain_reading.proofs.PageLaws.{Comparing}
 use Rattle.chain_reading.proofs.comparing.are_names_distinct.Given as goal
 

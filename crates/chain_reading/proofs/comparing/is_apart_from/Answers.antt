@@ -1,9 +1,5 @@
 use Rattle.std.proofs.Common.{sym, ◌∙◌, ap, Ok, Err}
-use Rattle.fs_trees.specs.Fields.{entry_names}
-use Rattle.fs_client.proofs.LookLaws.{no_look, then_looks, looks_as, looks_refused, looks_but_refuses}
-use Rattle.chain_layout.specs.Block.{cluster_of}
-use Rattle.chain_layout.specs.Held.{dir_cluster, entries_in}
-use Rattle.chain_reading.specs.Comparing.{are_apart_from}
+use Rattle.chain_reading.proofs.Common.{entry_names, no_look, then_looks, looks_as, looks_refused, looks_but_refuses, cluster_of, dir_cluster, entries_in, are_apart_from}
 use Rattle.chain_reading.proofs.NameLaws.{apart_passes, apart_stops, apart_from_none}
 use Rattle.chain_reading.proofs.LoopLaws.{over_is}
 use Rattle.chain_reading.proofs.PageLaws.{page_there, left_first, left_below, left_on, left_ends, left_stops}

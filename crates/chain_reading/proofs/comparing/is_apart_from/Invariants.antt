@@ -1,6 +1,4 @@
-use Rattle.fs_trees.specs.Fields.{entry_names}
-use Rattle.chain_layout.specs.Held.{entries_in}
-use Rattle.chain_reading.specs.Comparing.{are_apart_from}
+use Rattle.chain_reading.proofs.Common.{entry_names, entries_in, are_apart_from}
 use Rattle.chain_reading.proofs.PageLaws.{Comparing}
 use Rattle.chain_reading.proofs.comparing.is_apart_from.Given as goal
 

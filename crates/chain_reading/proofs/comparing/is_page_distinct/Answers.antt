@@ -1,8 +1,5 @@
 use Rattle.std.proofs.Common.{sym, ◌∙◌, ap}
-use Rattle.fs_trees.specs.Fields.{entry_names}
-use Rattle.fs_client.proofs.LookLaws.{no_look, looks_as}
-use Rattle.chain_layout.specs.Block.{cluster_of}
-use Rattle.chain_layout.specs.Held.{dir_cluster, entries_in}
+use Rattle.chain_reading.proofs.Common.{entry_names, no_look, looks_as, cluster_of, dir_cluster, entries_in}
 use Rattle.chain_reading.proofs.NameLaws.{first_none, first_distinct, first_twice, first_alone}
 use Rattle.chain_reading.proofs.PageLaws.{first_page, pages_on, none_behind}
 use Rattle.chain_reading.proofs.comparing.is_page_distinct.Goals as goal

@@ -1,6 +1,5 @@
 use Rattle.std.proofs.Common.{◌≡◌, ◌∷◌, sym, ◌∙◌, ap, Some}
-use Rattle.chain_reading.specs.Asking.{tree_under}
-use Rattle.chain_reading.specs.Finding.{no_directory_found}
+use Rattle.chain_reading.proofs.Common.{tree_under, no_directory_found}
 use Rattle.chain_reading.proofs.KnownLaws.{is_known, has_directory, path_of_more, place_no_dir}
 use Rattle.chain_reading.proofs.finding.find_directory.Goals as goal
 

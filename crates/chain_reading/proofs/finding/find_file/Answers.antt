@@ -1,6 +1,5 @@
 use Rattle.std.proofs.Common.{◌≡◌, [], ◌∷◌, sym, ◌∙◌, ap, subst, Some}
-use Rattle.chain_reading.specs.Asking.{tree_under}
-use Rattle.chain_reading.specs.Finding.{IsNameFound, IsFileOf, no_file_found}
+use Rattle.chain_reading.proofs.Common.{tree_under, IsNameFound, IsFileOf, no_file_found}
 use Rattle.chain_reading.proofs.KnownLaws.{is_known, has_directory, path_of_one, path_of_two, a_file_there, a_name, no_name, place_lost}
 use Rattle.chain_reading.proofs.finding.find_file.Goals as goal
 

@@ -1,13 +1,5 @@
 use Rattle.std.proofs.Common.{◌≡◌, ◌+◌, ℕ, refl, sym, ◌∙◌, ap, subst, arith, Ok, Err, Option, Some, None}
-use Rattle.std.specs.List.{position_from}
-use Rattle.tsd_model.specs.Geometry.{block_len}
-use Rattle.chain_layout.specs.Listed.{has_name}
-use Rattle.chain_layout.specs.Block.{cluster_of}
-use Rattle.chain_layout.specs.Held.{dir_cluster, entries_in}
-use Rattle.fs_client.proofs.LookLaws.{no_look, then_looks, looks_as, looks_refused}
-use Rattle.chain_reading.specs.declared.finding.Lookup.TheVariants.{Taken, Free}
-use Rattle.chain_reading.specs.Standing.{IsPage}
-use Rattle.chain_reading.specs.Finding.{IsRoomiest}
+use Rattle.chain_reading.proofs.Common.{position_from, block_len, has_name, cluster_of, dir_cluster, entries_in, no_look, then_looks, looks_as, looks_refused, Taken, Free, IsPage, IsRoomiest}
 use Rattle.chain_reading.proofs.WalkLaws.{link_of}
 use Rattle.chain_reading.proofs.ListLaws.{page_there, own_entries}
 use Rattle.chain_reading.proofs.SearchLaws.{IsSearched, search_starts, search_on, search_ends, search_finds, place_within}

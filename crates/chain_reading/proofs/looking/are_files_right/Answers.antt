@@ -1,9 +1,5 @@
 use Rattle.std.proofs.Common.{◌<◌, true, false, refl, sym, subst, Ok, Err}
-use Rattle.fs_client.specs.May.{MayWrite}
-use Rattle.fs_client.proofs.LookLaws.{no_look, looks_as, looks_refused, then_looks}
-use Rattle.fs_client.proofs.PlaceLaws.{place_in}
-use Rattle.chain_layout.specs.Held.{entries_in}
-use Rattle.chain_layout.specs.Listed.{entry_blocks}
+use Rattle.chain_reading.proofs.Common.{MayWrite, no_look, looks_as, looks_refused, then_looks, place_in, entries_in, entry_blocks}
 use Rattle.chain_reading.proofs.LoopLaws.{may_still, file_told, files_go_on, files_stop, files_end, within_blocks, over_blocks}
 use Rattle.chain_reading.proofs.looking.are_files_right.Goals as goal
 

@@ -1,5 +1,4 @@
-use Rattle.chain_layout.specs.Held.{entries_in}
-use Rattle.chain_layout.specs.Listed.{entry_blocks}
+use Rattle.chain_reading.proofs.Common.{entries_in, entry_blocks}
 use Rattle.chain_reading.proofs.LoopLaws.{Visiting}
 use Rattle.chain_reading.proofs.looking.are_files_right.Given as goal
 

@@ -1,9 +1,5 @@
 use Rattle.std.proofs.Common.{◌+◌, true, false, nat_le, sym, ◌∙◌, ap, subst, arith, Ok, Err}
-use Rattle.fs_client.proofs.LookLaws.{no_look, looks_as, looks_refused, then_looks}
-use Rattle.fs_client.proofs.SetLaws.{on_disk}
-use Rattle.chain_layout.specs.Block.{cluster_of}
-use Rattle.chain_layout.specs.Listed.{entry_blocks}
-use Rattle.chain_reading.specs.Looking.{IsPageSeenAt, page_seen, listed_in}
+use Rattle.chain_reading.proofs.Common.{no_look, looks_as, looks_refused, then_looks, on_disk, cluster_of, entry_blocks, IsPageSeenAt, page_seen, listed_in}
 use Rattle.chain_reading.proofs.SeenLaws.{page_is}
 use Rattle.chain_reading.proofs.RightLaws.{entry_held_of, page_held_of}
 use Rattle.chain_reading.proofs.LoopLaws.{directory_begins, directory_over, directory_twice, directory_stops, files_are_wrong, directory_ends, directory_goes_on, files_told, led_may, within_is, over_is}

@@ -1,9 +1,5 @@
 use Rattle.std.proofs.Common.{◌==◌, sym, ◌∙◌, ap, subst, Ok, Err}
-use Rattle.fs_client.proofs.LookLaws.{no_look, looks_as, looks_refused, then_looks}
-use Rattle.fs_client.proofs.SetLaws.{on_disk}
-use Rattle.chain_layout.specs.Block.{cluster_of}
-use Rattle.chain_layout.specs.Held.{part_cluster}
-use Rattle.chain_reading.specs.Looking.{IsPartSeenAt, part_seen}
+use Rattle.chain_reading.proofs.Common.{no_look, looks_as, looks_refused, then_looks, on_disk, cluster_of, part_cluster, IsPartSeenAt, part_seen}
 use Rattle.chain_reading.proofs.SeenLaws.{part_is}
 use Rattle.chain_reading.proofs.RightLaws.{next_held_of}
 use Rattle.chain_reading.proofs.LoopLaws.{file_begins, file_over, file_twice, file_stops, file_ends, file_goes_on, led_may, within_is, over_is}

@@ -1,5 +1,4 @@
-use Rattle.fs_trees.specs.declared.ask.ShellKind.TheVariants.{Chain}
-use Rattle.fs_client.proofs.LookLaws.{looks_as, looks_refused, then_looks, may_again}
+use Rattle.chain_reading.proofs.Common.{Chain, looks_as, looks_refused, then_looks, may_again}
 use Rattle.fs_client.proofs.RootLaws.{root_may}
 use Rattle.chain_reading.proofs.TreeLaws.{pages_ahead, decided, all_right, not_right}
 use Rattle.chain_reading.proofs.looking.is_tree.Goals as goal

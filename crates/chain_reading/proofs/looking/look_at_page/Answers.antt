@@ -1,8 +1,5 @@
 use Rattle.std.proofs.Common.{sym, ◌∙◌, ap, None, Ok, Err}
-use Rattle.fs_client.specs.Held.{are_held}
-use Rattle.fs_client.proofs.LookLaws.{looks_as, looks_refused, then_looks, may_again}
-use Rattle.chain_layout.specs.Held.{blocks_in}
-use Rattle.chain_reading.specs.Standing.{IsPage}
+use Rattle.chain_reading.proofs.Common.{are_held, looks_as, looks_refused, then_looks, may_again, blocks_in, IsPage}
 use Rattle.chain_reading.proofs.SeenLaws.{no_page, seen_page, unseen_page, if_some, if_none}
 use Rattle.chain_reading.proofs.looking.look_at_page.Goals as goal
 

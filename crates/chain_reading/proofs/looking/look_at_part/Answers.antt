@@ -1,10 +1,5 @@
 use Rattle.std.proofs.Common.{sym, ◌∙◌, ap, None, Ok, Err}
-use Rattle.fs_client.specs.Held.{are_held}
-use Rattle.fs_client.proofs.LookLaws.{looks_as, looks_refused, then_looks, may_again}
-use Rattle.chain_layout.specs.Block.{cluster_of}
-use Rattle.chain_layout.specs.Held.{part_cluster}
-use Rattle.chain_layout.specs.Listed.{next_blocks}
-use Rattle.chain_reading.specs.Standing.{IsPartOfRoot}
+use Rattle.chain_reading.proofs.Common.{are_held, looks_as, looks_refused, then_looks, may_again, cluster_of, part_cluster, next_blocks, IsPartOfRoot}
 use Rattle.chain_reading.proofs.SeenLaws.{no_part, seen_part, unfilled, unheld, if_some, if_none}
 use Rattle.chain_reading.proofs.looking.look_at_part.Goals as goal
 

@@ -1,7 +1,5 @@
 use Rattle.std.proofs.Common.{◌+◌, length, sym, ◌∙◌, ap, arith, Ok, Err}
-use Rattle.chain_layout.specs.Block.{cluster_of}
-use Rattle.chain_layout.specs.Held.{part_cluster}
-use Rattle.fs_client.proofs.LookLaws.{no_look, then_looks, looks_as, looks_refused}
+use Rattle.chain_reading.proofs.Common.{cluster_of, part_cluster, no_look, then_looks, looks_as, looks_refused}
 use Rattle.chain_reading.proofs.SizeLaws.{count_starts, count_on, count_ends, count_part}
 use Rattle.chain_reading.proofs.reading.chain_size.Goals as goal
 

@@ -1,11 +1,5 @@
 use Rattle.std.proofs.Common.{◌++◌, [], refl, sym, ◌∙◌, ap, Ok, Err}
-use Rattle.tsd_model.specs.Geometry.{block_len}
-use Rattle.chain_layout.specs.Block.{cluster_of}
-use Rattle.chain_layout.specs.Held.{dir_cluster, entries_in}
-use Rattle.chain_reading.specs.Chained.{placed}
-use Rattle.chain_layout.specs.Listed.{least_above}
-use Rattle.fs_trees.specs.Fields.{entry_names}
-use Rattle.fs_client.proofs.LookLaws.{no_look, then_looks, looks_as, looks_refused}
+use Rattle.chain_reading.proofs.Common.{block_len, cluster_of, dir_cluster, entries_in, placed, least_above, entry_names, no_look, then_looks, looks_as, looks_refused}
 use Rattle.chain_reading.proofs.ListLaws.{look_starts, look_on, look_ends, page_there, least_more, own_entries, least_of}
 use Rattle.chain_reading.proofs.reading.least_above.Goals as goal
 

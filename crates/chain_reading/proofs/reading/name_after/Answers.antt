@@ -1,8 +1,6 @@
 use Rattle.std.proofs.Common.{sym, subst}
 use Rattle.fs_trees.specs.declared.ask.ShellAsk.TheVariants as ask
-use Rattle.fs_port.specs.Files.{Answers, TellsNext}
-use Rattle.fs_client.proofs.LookLaws.{then_looks}
-use Rattle.chain_reading.specs.Asking.{mounted_by}
+use Rattle.chain_reading.proofs.Common.{Answers, TellsNext, then_looks, mounted_by}
 use Rattle.chain_reading.proofs.KnownLaws.{is_known}
 use Rattle.chain_reading.proofs.ToldLaws.{next_told, ahead_again}
 use Rattle.chain_reading.proofs.reading.name_after.Goals as goal

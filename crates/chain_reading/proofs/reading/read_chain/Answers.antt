@@ -1,8 +1,5 @@
 use Rattle.std.proofs.Common.{◌-◌, ◌++◌, length, sym, ◌∙◌, ap, arith, Ok, Err}
-use Rattle.std.specs.Prelude.{take, drop}
-use Rattle.chain_layout.specs.Block.{cluster_of}
-use Rattle.chain_layout.specs.Held.{part_cluster}
-use Rattle.fs_client.proofs.LookLaws.{no_look, then_looks, looks_as, looks_refused}
+use Rattle.chain_reading.proofs.Common.{take, drop, cluster_of, part_cluster, no_look, then_looks, looks_as, looks_refused}
 use Rattle.chain_reading.proofs.SizeLaws.{count_part}
 use Rattle.chain_reading.proofs.CopyLaws.{copy_starts, copy_on, copy_ends, copy_full}
 use Rattle.chain_reading.proofs.reading.read_chain.Goals as goal

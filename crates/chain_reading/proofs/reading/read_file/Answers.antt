@@ -1,4 +1,4 @@
-use Rattle.fs_client.proofs.LookLaws.{then_looks}
+use Rattle.chain_reading.proofs.Common.{then_looks}
 use Rattle.chain_reading.proofs.ToldLaws.{part_told}
 use Rattle.chain_reading.proofs.reading.read_file.Goals as goal
 

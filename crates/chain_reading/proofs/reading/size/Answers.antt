@@ -1,4 +1,4 @@
-use Rattle.fs_client.proofs.LookLaws.{then_looks}
+use Rattle.chain_reading.proofs.Common.{then_looks}
 use Rattle.chain_reading.proofs.reading.size.Goals as goal
 
 pub returns-in-Ok-clause-looks : goal.returns-in-Ok-clause-looks

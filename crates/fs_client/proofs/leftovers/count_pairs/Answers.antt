@@ -1,8 +1,5 @@
 use Rattle.std.proofs.Common.{◌≡◌, ◌+◌, ◌≤◌, length, sym, ◌∙◌, ap, subst, arith, Ok, Err}
-use Rattle.std.specs.Prelude.{filter}
-use Rattle.tsd_model.specs.World.{has_number}
-use Rattle.tsd_model.specs.Step.{targets_from}
-use Rattle.fs_client.specs.Leftovers.{named_targets, targets_of}
+use Rattle.fs_client.proofs.Common.{filter, has_number, targets_from, named_targets, targets_of}
 use Rattle.fs_client.proofs.LookLaws.{no_look, then_looks, looks_as, looks_refused}
 use Rattle.fs_client.proofs.Counting.{rest_of, more_named, more_in_all, named_at_first, all_at_first, named_at_last, others_at_last}
 use Rattle.fs_client.proofs.leftovers.count_pairs.Goals as goal

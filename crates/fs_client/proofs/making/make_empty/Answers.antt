@@ -1,13 +1,8 @@
 use contract.BorrowLft.{⊑_static}
 use Rattle.std.proofs.Common.{◌<◌, sym, subst, Ok, Err}
 use Rattle.fs_trees.specs.declared.ask.ShellAsk.TheVariants as ask
-use Rattle.fs_port.specs.Files.{IsEitherTree}
-use Rattle.fs_client.specs.Client.{write_by}
-use Rattle.fs_client.specs.May.{MayWrite}
-use Rattle.tsd_model.specs.Step.{written}
+use Rattle.fs_client.proofs.Common.{IsEitherTree, write_by, MayWrite, written, files_by, root_alone, IsTrim}
 use Rattle.fs_client.proofs.RootLaws.{root_may}
-use Rattle.fs_client.specs.Changing.{files_by}
-use Rattle.fs_client.specs.Trimming.{root_alone, IsTrim}
 use Rattle.fs_client.proofs.RunLaws.{ready_still, runs_step, then_runs, runs_more}
 use Rattle.fs_client.proofs.MakeLaws.{stop_at_write, may_trim, stop_after, made}
 use Rattle.fs_client.proofs.making.make_empty.Goals as goal

@@ -1,4 +1,4 @@
-use Rattle.fs_client.specs.Trimming.{root_alone}
+use Rattle.fs_client.proofs.Common.{root_alone}
 use Rattle.fs_client.proofs.making.make_empty.Given as goal
 
 -- of an empty tree the root alone is kept

@@ -1,6 +1,6 @@
 use Rattle.std.proofs.Common.{ℕ, Ok, Err}
 use Rattle.fs_trees.specs.declared.refusal.FsRefusal.TheVariants as no
-use Rattle.fs_client.specs.May.{OnlyLooks}
+use Rattle.fs_client.proofs.Common.{OnlyLooks}
 use Rattle.fs_client.proofs.FreeLaws.{free_looks}
 use Rattle.fs_client.proofs.LookLaws.{looks_as, looks_refused, looks_but_refuses}
 use Rattle.fs_client.proofs.room.check_free.Goals as goal

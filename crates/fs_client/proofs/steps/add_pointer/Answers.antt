@@ -1,10 +1,6 @@
 use Rattle.std.proofs.Common.{◌&&◌, ◌==◌, refl}
-use Rattle.std.proofs.lemmas.Bool.{eq-eqb, and_from, or_left}
+use Rattle.fs_client.proofs.Common.{eq-eqb, and_from, or_left, attains_write, state_of, shown_at, link_by, pointed}
 use Rattle.tsd_model.specs.declared.replies.Reply.TheVariants as reply
-use Rattle.fs_laws.specs.Ways.{attains_write}
-use Rattle.fs_port.specs.View.{state_of}
-use Rattle.fs_client.specs.Client.{shown_at, link_by}
-use Rattle.fs_client.specs.Steps.{pointed}
 use Rattle.fs_client.proofs.StepLaws.{granted_by_form, went, step_ok, step_err}
 use Rattle.fs_client.proofs.RefusalLaws.{link_has_room, link_has_none}
 use Rattle.fs_client.proofs.steps.add_pointer.Goals as goal

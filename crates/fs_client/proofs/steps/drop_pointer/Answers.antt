@@ -1,11 +1,7 @@
 use Rattle.std.proofs.Common.{refl}
-use Rattle.std.proofs.lemmas.Bool.{eq-eqb}
+use Rattle.fs_client.proofs.Common.{eq-eqb, attains_write, state_of, shown_at, unlink_by, dropped}
 use Rattle.tsd_model.specs.declared.replies.Reply.TheVariants as reply
-use Rattle.fs_laws.specs.Ways.{attains_write}
-use Rattle.fs_port.specs.View.{state_of}
-use Rattle.fs_client.specs.Client.{shown_at, unlink_by}
 use Rattle.fs_client.proofs.LookLaws.{through_here, is_a_fault}
-use Rattle.fs_client.specs.Steps.{dropped}
 use Rattle.fs_client.proofs.StepLaws.{went, step_ok, step_err}
 use Rattle.fs_client.proofs.RefusalLaws.{delete_granted}
 use Rattle.fs_client.proofs.steps.drop_pointer.Goals as goal

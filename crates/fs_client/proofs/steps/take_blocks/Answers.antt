@@ -1,11 +1,7 @@
 use Rattle.std.proofs.Common.{refl}
-use Rattle.std.proofs.lemmas.Bool.{eq-eqb}
+use Rattle.fs_client.proofs.Common.{eq-eqb, attains_write, state_of, shown_at, alloc_by, taken}
 use Rattle.tsd_model.specs.declared.replies.Reply.TheVariants as reply
-use Rattle.fs_laws.specs.Ways.{attains_write}
-use Rattle.fs_port.specs.View.{state_of}
-use Rattle.fs_client.specs.Client.{shown_at, alloc_by}
 use Rattle.fs_client.proofs.LookLaws.{through_here}
-use Rattle.fs_client.specs.Steps.{taken}
 use Rattle.fs_client.proofs.StepLaws.{granted_by_form, went, step_ok, step_err, blocks_are}
 use Rattle.fs_client.proofs.RefusalLaws.{take_has_room, take_has_none}
 use Rattle.fs_client.proofs.steps.take_blocks.Goals as goal

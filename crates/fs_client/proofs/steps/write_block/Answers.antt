@@ -1,11 +1,7 @@
 use Rattle.std.proofs.Common.{refl}
-use Rattle.std.proofs.lemmas.Bool.{eq-eqb}
+use Rattle.fs_client.proofs.Common.{eq-eqb, attains_write, state_of, shown_at, write_by, written}
 use Rattle.tsd_model.specs.declared.replies.Reply.TheVariants as reply
-use Rattle.fs_laws.specs.Ways.{attains_write}
-use Rattle.fs_port.specs.View.{state_of}
-use Rattle.fs_client.specs.Client.{shown_at, write_by}
 use Rattle.fs_client.proofs.LookLaws.{through_here, is_a_fault}
-use Rattle.tsd_model.specs.Step.{written}
 use Rattle.fs_client.proofs.StepLaws.{went, step_ok, step_err}
 use Rattle.fs_client.proofs.RefusalLaws.{write_granted}
 use Rattle.fs_client.proofs.steps.write_block.Goals as goal

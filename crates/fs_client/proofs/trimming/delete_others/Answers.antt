@@ -1,9 +1,5 @@
 use Rattle.std.proofs.Common.{◌≡◌, ℕ, ◌<◌, Bool, true, false, refl, sym, ◌∙◌, ap, subst, arith, inl, inr, Ok, Err}
-use Rattle.std.proofs.lemmas.Bool.{cases_lt}
-use Rattle.tsd_model.specs.World.{has_number}
-use Rattle.tsd_model.specs.Pairs.{holds}
-use Rattle.disk_laws.proofs.DoomLaws.{live_below}
-use Rattle.fs_client.specs.Leftovers.{next_in}
+use Rattle.fs_client.proofs.Common.{cases_lt, has_number, holds, live_below, next_in}
 use Rattle.fs_client.proofs.LookLaws.{looks_refused}
 use Rattle.fs_client.proofs.TrimLaws.{trims_by_looks, then_trims, delete_still, none_deleted}
 use Rattle.fs_client.proofs.GoingLaws.{page_held, on_page, page_apart}

@@ -1,7 +1,5 @@
 use Rattle.std.proofs.Common.{◌==◌, length, take, get_or, refl, sym, ◌∙◌, ap, arith, inl, inr, Ok, Err}
-use Rattle.std.proofs.lemmas.Bool.{eq-eqb, or_cases, or_left, or_right, eqb-true}
-use Rattle.tsd_model.specs.World.{has_number, are_apart}
-use Rattle.tsd_model.specs.Pairs.{holds}
+use Rattle.fs_client.proofs.Common.{eq-eqb, or_cases, or_left, or_right, eqb-true, has_number, are_apart, holds}
 use Rattle.fs_client.proofs.TrimLaws.{then_trims, delete_still, none_deleted}
 use Rattle.fs_client.proofs.GoingLaws.{here_or_later, before_or_here, later_is_other, gone_still, drop_whole}
 use Rattle.fs_client.proofs.trimming.delete_page.Goals as goal

@@ -1,6 +1,5 @@
 use Rattle.std.proofs.Common.{◌≡◌, Bool, true, false, sym, ◌∙◌, ap, Ok, Err}
-use Rattle.tsd_model.specs.World.{is_live, has_number}
-use Rattle.tsd_model.specs.Pairs.{holds}
+use Rattle.fs_client.proofs.Common.{is_live, has_number, holds}
 use Rattle.fs_client.proofs.LookLaws.{no_look}
 use Rattle.fs_client.proofs.DropLaws.{is_false, pair_gone, target_stays}
 use Rattle.fs_client.proofs.TrimLaws.{trims_by_looks, trims_by_step, trims_as, trims_refused}

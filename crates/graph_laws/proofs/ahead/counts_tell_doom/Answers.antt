@@ -1,6 +1,4 @@
-use Rattle.std.proofs.lemmas.Bool.{not-true}
-use Rattle.tsd_model.specs.World.{has_number}
-use Rattle.tsd_model.specs.Doomed.{doomed}
+use Rattle.graph_laws.proofs.Common.{not-true, has_number, doomed}
 use Rattle.graph_laws.proofs.AheadLaws.{kept-new_blocks, kept_is_settled_count, kept-with_pointer, doomed_list-with_pointer, doomed_pairs-with_pointer, kept_deleted}
 use Rattle.graph_laws.proofs.MarkingLaws.{doomed_by_count, marking_of_deleted, marking_goes_on, marking_ends, count_ends, off_ends}
 use Rattle.graph_laws.proofs.WeightLaws.{step_keeps_counts}

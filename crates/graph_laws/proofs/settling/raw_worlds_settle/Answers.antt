@@ -2,7 +2,7 @@ use Rattle.graph_laws.proofs.CommuteLaws.{settle_once}
 use Rattle.graph_laws.proofs.SettleLaws.{graph-settle, led_has_none, none_is_led, settle_none}
 use Rattle.graph_laws.proofs.StepLaws.{none_lost, lost_none, some_lost}
 use Rattle.graph_laws.proofs.WeightLaws.{free_count-settle, length-settle_pairs}
-use Rattle.disk_laws.proofs.DoomLaws.{settle_is_valid}
+use Rattle.graph_laws.proofs.Common.{settle_is_valid}
 use Rattle.graph_laws.proofs.settling.raw_worlds_settle.Goals as goal
 
 pub returns-clause-valid : goal.returns-clause-valid

@@ -1,9 +1,5 @@
 use Rattle.std.proofs.Common.{◌≡◌, sym, ◌∙◌, ap, ℕ, List, Option, Some, None}
-use Rattle.std.specs.Prelude.{IfSome}
-use Rattle.script_text.specs.Pieces.{pieces}
-use Rattle.image_audit.specs.declared.listing.Listing.{Listing}
-use Rattle.image_audit.specs.Listing.{IsListing}
-use Rattle.image_audit.specs.ListingReading.{listing_in, listing_of}
+use Rattle.image_audit.proofs.Common.{IfSome, pieces, Listing, IsListing, listing_in, listing_of}
 use Rattle.image_audit.proofs.ListingLaws.{line_is, line_back, listing_of-cut}
 use Rattle.image_audit.proofs.listing.parse_listing.Goals as goal
 

@@ -1,13 +1,6 @@
 use Rattle.std.proofs.Common.{◌≡◌, ◌<◌, ◌≤◌, ◌+◌, ◌∷◌, ◌++◌, [], ℕ, List, length, take, true, ◌&&◌, nat_le, nat_lt, sym, ◌∙◌, ap, subst, arith}
-use Rattle.std.proofs.lemmas.Bool.{and_parts, ltb-true}
-use Rattle.std.proofs.lemmas.List.{take_all, length_push}
-use Rattle.std.specs.List.{range_with_len}
-use Rattle.std.specs.Prelude.{slice_index_or}
+use Rattle.image_audit.proofs.Common.{and_parts, ltb-true, take_all, length_push, range_with_len, slice_index_or, Geometry, has_number, length-range, has_number-range, told_by}
 use Rattle.tsd_model.proofs.RangeLaws.{range_next}
-use Rattle.tsd_model.specs.declared.geometry.Geometry.{Geometry}
-use Rattle.tsd_model.specs.World.{has_number}
-use Rattle.disk_laws.proofs.GraphLaws.{length-range, has_number-range}
-use Rattle.volume_laws.specs.Volume.{told_by}
 use Rattle.image_audit.proofs.LevelLaws.{has_at}
 use Rattle.image_audit.proofs.reached.primary_roots.Goals as goal
 

@@ -1,5 +1,5 @@
 use Rattle.std.proofs.Common.{◌≡◌}
-use Rattle.std.specs.List.{range_with_len}
+use Rattle.image_audit.proofs.Common.{range_with_len}
 use Rattle.image_audit.proofs.reached.primary_roots.Given as goal
 
 abbrev pub invariant-loop-block : goal.invariant-loop-block

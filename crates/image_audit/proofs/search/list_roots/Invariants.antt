@@ -1,5 +1,5 @@
 use Rattle.std.proofs.Common.{◌≡◌, length, take}
-use Rattle.image_audit.specs.Searching.{HasRoots}
+use Rattle.image_audit.proofs.Common.{HasRoots}
 use Rattle.image_audit.proofs.search.list_roots.Given as goal
 
 abbrev pub invariant-loop-root : goal.invariant-loop-root

@@ -1,7 +1,5 @@
 use Rattle.std.proofs.Common.{◌+◌, refl, ap, ◌∙◌, subst, length, arith, Some, None}
-use Rattle.std.proofs.lemmas.List.{length-set}
-use Rattle.tsd_model.specs.Next.{IsNextTarget}
-use Rattle.volume_laws.specs.Volume.{told_by}
+use Rattle.image_audit.proofs.Common.{length-set, IsNextTarget, told_by}
 use Rattle.image_audit.proofs.LevelLaws.{noted_next, source_done}
 use Rattle.image_audit.proofs.search.search_from.Goals as goal
 

@@ -1,9 +1,5 @@
 use Rattle.std.proofs.Common.{◌≡◌, ◌-◌, ◌≤◌, ℕ, List, length}
-use Rattle.std.specs.Prelude.{IsTrue}
-use Rattle.tsd_model.specs.World.{has_number}
-use Rattle.volume_laws.specs.Volume.{told_by}
-use Rattle.image_audit.specs.Paging.{IsPageOf}
-use Rattle.image_audit.specs.Searching.{IsSearching, SeenFrom, SeenTo}
+use Rattle.image_audit.proofs.Common.{IsTrue, has_number, told_by, IsPageOf, IsSearching, SeenFrom, SeenTo}
 use Rattle.image_audit.proofs.search.search_from.Given as goal
 
 abbrev pub invariant-loop-next : goal.invariant-loop-next

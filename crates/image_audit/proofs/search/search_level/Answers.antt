@@ -1,7 +1,5 @@
 use Rattle.std.proofs.Common.{◌≡◌, suc, ◌+◌, [], take, subst, arith}
-use Rattle.std.proofs.lemmas.List.{take_all}
-use Rattle.volume_laws.specs.Volume.{told_by}
-use Rattle.image_audit.specs.Searching.{IsSearching, NoneSeen, SeenFrom}
+use Rattle.image_audit.proofs.Common.{take_all, told_by, IsSearching, NoneSeen, SeenFrom}
 use Rattle.image_audit.proofs.LevelLaws.{level_ended}
 use Rattle.image_audit.proofs.search.search_level.Goals as goal
 

@@ -1,6 +1,5 @@
 use Rattle.std.proofs.Common.{◌≡◌, ℕ, List, [], length, take}
-use Rattle.volume_laws.specs.Volume.{told_by}
-use Rattle.image_audit.specs.Searching.{IsSearching, NoneSeen, SeenFrom}
+use Rattle.image_audit.proofs.Common.{told_by, IsSearching, NoneSeen, SeenFrom}
 use Rattle.image_audit.proofs.search.search_level.Given as goal
 
 abbrev pub invariant-loop-source : goal.invariant-loop-source

@@ -1,9 +1,6 @@
 use Rattle.std.proofs.Common.{◌≡◌, ℕ, [], ◌∷◌, List, length, false, refl, sym, ◌∙◌, subst, inr, arith}
-use Rattle.std.proofs.lemmas.Bool.{eqb-true}
-use Rattle.std.specs.Prelude.{◌<◌, slice_index_or}
-use Rattle.image_audit.specs.Searching.{NoneSeen}
-use Rattle.tsd_model.specs.World.{has_number}
-use Rattle.volume_laws.specs.Volume.{told_by}
+use Rattle.image_audit.proofs.Common.{eqb-true, slice_index_or, NoneSeen, has_number, told_by}
+use Rattle.std.specs.Prelude.{◌<◌}
 use Rattle.image_audit.proofs.LevelLaws.{level_inside}
 use Rattle.image_audit.proofs.search.search_levels.Goals as goal
 

@@ -1,6 +1,5 @@
 use Rattle.std.proofs.Common.{◌≡◌, [], length}
-use Rattle.volume_laws.specs.Volume.{told_by}
-use Rattle.image_audit.specs.Searching.{IsSearching, NoneSeen}
+use Rattle.image_audit.proofs.Common.{told_by, IsSearching, NoneSeen}
 use Rattle.image_audit.proofs.search.search_levels.Given as goal
 
 abbrev pub invariant-loop-depth : goal.invariant-loop-depth

@@ -1,8 +1,5 @@
 use Rattle.std.proofs.Common.{ℕ, ◌<◌}
-use Rattle.std.specs.Prelude.{IfSome}
-use Rattle.volume_laws.specs.Volume.{told_by}
-use Rattle.image_audit.specs.Certificates.{IsGoodEntry}
-use Rattle.image_audit.specs.Entries.{entry_at}
+use Rattle.image_audit.proofs.Common.{IfSome, told_by, IsGoodEntry, entry_at}
 use Rattle.image_audit.proofs.verifying.first_bad.Given as goal
 
 abbrev pub invariant-loop-block : goal.invariant-loop-block

@@ -1,8 +1,5 @@
 use Rattle.std.proofs.Common.{ℕ, ◌<◌}
-use Rattle.std.specs.Prelude.{IsTrue}
-use Rattle.volume_laws.specs.Volume.{told_by}
-use Rattle.image_audit.specs.Certificates.{IsClosedAt}
-use Rattle.image_audit.specs.Entries.{is_listed}
+use Rattle.image_audit.proofs.Common.{IsTrue, told_by, IsClosedAt, is_listed}
 use Rattle.image_audit.proofs.verifying.first_out.Given as goal
 
 -- of the blocks so far, each that is listed leads to listed ones

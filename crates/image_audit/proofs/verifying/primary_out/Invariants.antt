@@ -1,6 +1,5 @@
 use Rattle.std.proofs.Common.{ℕ, ◌<◌}
-use Rattle.std.specs.Prelude.{IsTrue}
-use Rattle.image_audit.specs.Entries.{is_listed}
+use Rattle.image_audit.proofs.Common.{IsTrue, is_listed}
 use Rattle.image_audit.proofs.verifying.primary_out.Given as goal
 
 abbrev pub invariant-loop-block : goal.invariant-loop-block

@@ -1,9 +1,5 @@
 use Rattle.std.proofs.Common.{◌≡◌, ◌-◌, ◌≤◌, ◌<◌, ℕ}
-use Rattle.std.specs.Prelude.{IsTrue}
-use Rattle.tsd_model.specs.Pairs.{holds}
-use Rattle.volume_laws.specs.Volume.{told_by}
-use Rattle.image_audit.specs.Entries.{is_listed}
-use Rattle.image_audit.specs.Paging.{IsPageOf}
+use Rattle.image_audit.proofs.Common.{IsTrue, holds, told_by, is_listed, IsPageOf}
 use Rattle.image_audit.proofs.verifying.target_out.Given as goal
 
 abbrev pub invariant-loop-target : goal.invariant-loop-target

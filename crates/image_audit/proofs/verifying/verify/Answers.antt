@@ -1,13 +1,7 @@
 use Rattle.std.proofs.Common.{◌≡◌, ◌≤◌, ℕ, true, length, ap, subst, arith}
-use Rattle.std.proofs.lemmas.Bool.{both_ways}
-use Rattle.tsd_model.specs.Pairs.{holds}
-use Rattle.tsd_model.specs.declared.geometry.Geometry.{Geometry}
+use Rattle.image_audit.proofs.Common.{both_ways, holds, Geometry, World, is_live, told_by, IsLeastPrimaryOut, IsLeastBadEntry, IsLeastOut, ListsPrimaries, HasGoodEntries, IsClosed, IsWholeWorld}
 use Rattle.tsd_model.specs.Valid.{IsSized}
-use Rattle.tsd_model.specs.World.{World, is_live}
-use Rattle.volume_laws.specs.Volume.{told_by}
 use Rattle.volume_laws.proofs.QuestionLaws.{told_size}
-use Rattle.image_audit.specs.Certificates.{IsLeastPrimaryOut, IsLeastBadEntry, IsLeastOut, ListsPrimaries, HasGoodEntries, IsClosed}
-use Rattle.image_audit.specs.Laws.{IsWholeWorld}
 use Rattle.image_audit.proofs.VerdictLaws.{shown_reached, found_primaries, found_closed, found_no_bad}
 use Rattle.image_audit.proofs.verifying.verify.Goals as goal
 

@@ -1,5 +1,5 @@
 use Rattle.std.proofs.Common.{sym}
-use Rattle.script_text.proofs.PiecesLaws.{cut_at, cut_none}
+use Rattle.image_audit.proofs.Common.{cut_at, cut_none}
 use Rattle.image_audit.proofs.words.cut.Goals as goal
 
 pub returns-in-Some : goal.returns-in-Some

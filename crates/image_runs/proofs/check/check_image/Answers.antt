@@ -1,9 +1,5 @@
 use Rattle.std.proofs.Common.{ℕ, List, ◌++◌, ◌∙◌, ap, subst, inl}
-use Rattle.image_device.specs.View.{IsLeftInPut}
-use Rattle.image_device.specs.Runs.{LeavesOnly}
-use Rattle.image_device.proofs.Moments.{weakened}
-use Rattle.image_runs.specs.Sending.{ProperFrontWasSent}
-use Rattle.image_world.specs.Behind.{behind, size_of_image}
+use Rattle.image_runs.proofs.Common.{IsLeftInPut, LeavesOnly, weakened, ProperFrontWasSent, behind, size_of_image}
 use Rattle.image_runs.proofs.Behind.{behind_said}
 use Rattle.image_runs.proofs.Opened.{not_stopped, spared_put, untouched_put}
 use Rattle.image_runs.proofs.Saying.{saying_moments, checked_whole, unchecked, cut_from}

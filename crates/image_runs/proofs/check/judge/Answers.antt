@@ -1,8 +1,5 @@
 use Rattle.std.proofs.Common.{◌∙◌, ap}
-use Rattle.tsd_model.specs.World.{World}
-use Rattle.tsd_core.proofs.AtLaws.{like_at}
-use Rattle.volume_laws.specs.Volume.{told_by, world_on}
-use Rattle.tsd_words.specs.Lines.{clean_line}
+use Rattle.image_runs.proofs.Common.{World, like_at, told_by, world_on, clean_line}
 use Rattle.image_runs.proofs.Saying.{clean_like}
 use Rattle.image_runs.proofs.check.judge.Goals as goal
 

@@ -1,6 +1,5 @@
 use Rattle.std.proofs.Common.{List, take, ◌∙◌, ap}
-use Rattle.std.proofs.lemmas.List.{take_all}
-use Rattle.tsd_model.specs.declared.caps.CapPair.{CapPair}
+use Rattle.image_runs.proofs.Common.{take_all, CapPair}
 use Rattle.image_runs.proofs.format.caps_of.Goals as goal
 
 pub returns-clause-value : goal.returns-clause-value

@@ -1,14 +1,5 @@
 use Rattle.std.proofs.Common.{◌≡◌, inl, ℕ, List, ◌++◌, ◌∙◌, ap, subst}
-use Rattle.tsd_model.specs.Run.{fresh_world}
-use Rattle.tsd_model.specs.declared.caps.CapPair.{CapPair}
-use Rattle.image_device.specs.View.{IsLeftInPut}
-use Rattle.image_device.specs.Runs.{LeavesOnly}
-use Rattle.image_device.proofs.Moments.{weakened}
-use Rattle.image_world.specs.Stands.{Stands}
-use Rattle.recovery.specs.Formatting.{IsFormatting}
-use Rattle.tsd_words.specs.Lines.{cap_lines}
-use Rattle.image_runs.specs.Sending.{ProperFrontWasSent}
-use Rattle.image_runs.specs.Behind.{sectors_behind}
+use Rattle.image_runs.proofs.Common.{fresh_world, CapPair, IsLeftInPut, LeavesOnly, weakened, Stands, IsFormatting, cap_lines, ProperFrontWasSent, sectors_behind}
 use Rattle.image_runs.proofs.Behind.{behind_format, behind_said}
 use Rattle.image_runs.proofs.Saying.{cut_from}
 use Rattle.image_runs.proofs.Formatted.{formatted_still, format_moments}

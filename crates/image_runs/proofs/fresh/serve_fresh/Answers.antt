@@ -1,14 +1,5 @@
 use Rattle.std.proofs.Common.{◌≡◌, List, refl, sym, subst, append-nil}
-use Rattle.image_device.specs.Runs.{LeavesOnly}
-use Rattle.image_world.specs.Stands.{Stands}
-use Rattle.recovery.specs.Formatting.{IsFormatting}
-use Rattle.tsd_model.specs.Run.{fresh_world}
-use Rattle.tsd_model.specs.declared.caps.CapPair.{CapPair}
-use Rattle.image_runs.specs.Server.{disk_rules}
-use Rattle.serving.specs.Voice.{spoken_counted}
-use Rattle.serving.specs.Ran.{moments, taking}
-use Rattle.image_runs.specs.Fresh.{single_world}
-use Rattle.serving.specs.Prompt.{IsOfPort, mark}
+use Rattle.image_runs.proofs.Common.{LeavesOnly, Stands, IsFormatting, fresh_world, CapPair, disk_rules, spoken_counted, moments, taking, single_world, IsOfPort, mark}
 use Rattle.image_runs.proofs.Behind.{behind_format, behind_formatted, behind_fresh}
 use Rattle.image_runs.proofs.FreshRuns.{Formatted, prompt_formatted, ran_formatted, ran_unformatted}
 use Rattle.image_runs.proofs.Started.{prompt_nothing}

@@ -1,12 +1,6 @@
 use Rattle.std.proofs.Common.{inl, inr, ℕ, [], refl, sym, ◌∙◌, ap, subst, append-nil, arith, lit<}
 use Rattle.std.specs.Prelude.{Err}
-use Rattle.image_device.specs.Counts.{Rose}
-use Rattle.tsd_words.specs.declared.status.Status.{Status}
-use Rattle.image_runs.specs.Server.{disk_rules, disk_work, placed_on}
-use Rattle.serving.specs.ModelRules.{Placed}
-use Rattle.serving.specs.Prompt.{IsOfPort, Promptly, mark}
-use Rattle.serving.specs.Voice.{spoken, spoken_counted}
-use Rattle.image_runs.specs.Served.{start_of}
+use Rattle.image_runs.proofs.Common.{Rose, Status, disk_rules, disk_work, placed_on, Placed, IsOfPort, Promptly, mark, spoken, spoken_counted, start_of}
 use Rattle.image_runs.proofs.Behind.{behind_then, size_of_core}
 use Rattle.image_runs.proofs.Opened.{not_foreign}
 use Rattle.image_runs.proofs.Started.{asked_image, placed_at, ends_opened, ends_unopened, judged_by, not_of_source, not_of_put, prompt_nothing}

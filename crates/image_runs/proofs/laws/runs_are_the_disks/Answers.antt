@@ -1,4 +1,4 @@
-use Rattle.image_world.specs.Stands.{Stands}
+use Rattle.image_runs.proofs.Common.{Stands}
 use Rattle.serving.proofs.ModelRuns.{model_run}
 use Rattle.image_runs.proofs.laws.runs_are_the_disks.Goals as goal
 

@@ -1,15 +1,6 @@
 use Rattle.std.proofs.Common.{◌≡◌, ℕ, ◌+◌, refl, ◌∙◌, ap, subst, arith}
 use Rattle.std.proofs.lemmas.Result.{err_from_is_err_and}
-use Rattle.tsd_model.specs.declared.geometry.Geometry.{Geometry}
-use Rattle.image_world.specs.Stands.{world_of}
-use Rattle.load_gen.specs.Load.{Generator, next_request}
-use Rattle.load_gen.specs.Requests.{seed_request}
-use Rattle.tsd_core.proofs.AtLaws.{at_volume, like_at}
-use Rattle.tsd_core.specs.Core.{state_on, told_world}
-use Rattle.image_device.specs.Counts.{Rose}
-use Rattle.image_device.proofs.Parts.{part_stays}
-use Rattle.image_world.specs.Behind.{behind}
-use Rattle.serving.proofs.Aside.{aside_then}
+use Rattle.image_runs.proofs.Common.{Geometry, world_of, Generator, next_request, seed_request, at_volume, like_at, state_on, told_world, Rose, part_stays, behind, aside_then}
 use Rattle.image_runs.proofs.Requests.{applied_more}
 use Rattle.image_runs.proofs.LoadRuns.{run_started, run_more, run_within, run_starved}
 use Rattle.image_runs.proofs.load.apply_all.Goals as goal

@@ -1,11 +1,5 @@
 use Rattle.std.proofs.Common.{◌≡◌, ◌+◌}
-use Rattle.image_device.specs.Runs.{LeavesPart}
-use Rattle.image_world.specs.Behind.{behind}
-use Rattle.image_world.specs.Stands.{world_of}
-use Rattle.load_gen.specs.Load.{load_after}
-use Rattle.tsd_core.specs.Core.{IsCoreAt, IsCoreReady, state_on, told_world}
-use Rattle.volume_laws.specs.Writes.{Works}
-use Rattle.image_runs.specs.Applying.{HasApplied, LeavesRun}
+use Rattle.image_runs.proofs.Common.{LeavesPart, behind, world_of, load_after, IsCoreAt, IsCoreReady, state_on, told_world, Works, HasApplied, LeavesRun}
 use Rattle.image_runs.proofs.load.apply_all.Given as goal
 
 abbrev pub invariant-loop-number : goal.invariant-loop-number

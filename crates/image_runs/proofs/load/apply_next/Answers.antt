@@ -1,4 +1,4 @@
-use Rattle.tsd_core.specs.Core.{state_on}
+use Rattle.image_runs.proofs.Common.{state_on}
 use Rattle.image_runs.proofs.Counted.{next_counted, not_counted, on_ok}
 use Rattle.image_runs.proofs.load.apply_next.Goals as goal
 

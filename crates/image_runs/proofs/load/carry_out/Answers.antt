@@ -1,13 +1,7 @@
 use Rattle.std.proofs.Common.{◌∙◌, ap, inl, sym, subst}
-use Rattle.std.specs.Prelude.{ℕ, IfOk}
-use Rattle.tsd_model.specs.World.{World}
-use Rattle.image_device.specs.Counts.{CountsFaultOf}
-use Rattle.image_device.proofs.Moments.{weakened}
-use Rattle.volume_laws.specs.Volume.{Volume}
-use Rattle.volume_laws.specs.Volume.{IsVolumeAt}
-use Rattle.tsd_core.proofs.AtLaws.{at_core}
+use Rattle.image_runs.proofs.Common.{IfOk, World, CountsFaultOf, weakened, Volume, IsVolumeAt, at_core, IsSummary}
+use Rattle.std.specs.Prelude.{ℕ}
 use Rattle.tsd_words.specs.declared.status.Status.TheVariants as status
-use Rattle.image_runs.specs.Applying.{IsSummary}
 use Rattle.image_runs.proofs.Behind.{behind_then, size_of_volume}
 use Rattle.image_runs.proofs.Opened.{not_foreign, spared_on}
 use Rattle.image_runs.proofs.Loaded.{loaded_on, load_moments, starved_alike, judged_on, unopened_on}

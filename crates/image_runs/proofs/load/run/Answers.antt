@@ -1,8 +1,5 @@
 use Rattle.std.proofs.Common.{ap, refl}
-use Rattle.image_world.specs.Stands.{world_of}
-use Rattle.tsd_core.specs.Core.{state_on}
-use Rattle.image_world.specs.Behind.{behind}
-use Rattle.serving.proofs.Aside.{aside_then}
+use Rattle.image_runs.proofs.Common.{world_of, state_on, behind, aside_then}
 use Rattle.image_runs.proofs.LoadRuns.{run_kept}
 use Rattle.image_runs.proofs.Loaded.{loaded_there, summed}
 use Rattle.image_runs.proofs.load.run.Goals as goal

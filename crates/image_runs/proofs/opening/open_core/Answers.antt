@@ -1,8 +1,5 @@
 use Rattle.std.proofs.Common.{◌≤◌, ◌+◌, sym, subst}
-use Rattle.volume_laws.specs.Volume.{Volume}
-use Rattle.volume_laws.specs.Writes.{due}
-use Rattle.volume_laws.specs.Volume.{IsVolumeAt}
-use Rattle.tsd_core.proofs.AtLaws.{at_core}
+use Rattle.image_runs.proofs.Common.{Volume, due, IsVolumeAt, at_core}
 use Rattle.image_runs.proofs.Opened.{state_of_none}
 use Rattle.image_runs.proofs.opening.open_core.Goals as goal
 

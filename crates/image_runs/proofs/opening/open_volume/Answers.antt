@@ -1,12 +1,7 @@
 use Rattle.std.proofs.Common.{◌≡◌, sym, ◌∙◌, ap, subst, arith}
 use Rattle.std.specs.Prelude.{Err}
-use Rattle.recovery.specs.declared.fault.OpenFault.{OpenFault}
-use Rattle.tsd_words.specs.declared.status.Status.{Status}
+use Rattle.image_runs.proofs.Common.{OpenFault, Status, home, owed, IsJudged, IsNotImage, IsUnopened, size_of_image}
 use Rattle.tsd_words.specs.declared.status.Status.TheVariants as status
-use Rattle.intent_journal.specs.Home.{home}
-use Rattle.image_world.specs.Debt.{owed}
-use Rattle.image_runs.specs.Opened.{IsJudged, IsNotImage, IsUnopened}
-use Rattle.image_world.specs.Behind.{size_of_image}
 use Rattle.image_runs.proofs.Behind.{behind_kept}
 use Rattle.image_runs.proofs.Opened.{image_fault_of, flag_of, judged_of, unopened_of, device_of, device_only}
 use Rattle.image_runs.proofs.opening.open_volume.Goals as goal

@@ -1,9 +1,5 @@
 use Rattle.std.proofs.Common.{◌≡◌, true, sym, subst}
-use Rattle.serving.specs.Ran.{Ran, moments, taking}
-use Rattle.serving.specs.Voice.{spoken}
-use Rattle.tsd_core.specs.Core.{Core, IsCoreAt, IsCoreReady, state_on}
-use Rattle.volume_laws.specs.Writes.{due}
-use Rattle.image_runs.specs.Server.{disk_rules, disk_work, placed_on}
+use Rattle.image_runs.proofs.Common.{Ran, moments, taking, spoken, Core, IsCoreAt, IsCoreReady, state_on, due, disk_rules, disk_work, placed_on}
 use Rattle.image_runs.proofs.Kept.{ran_here}
 use Rattle.image_runs.proofs.run.serve_core.Goals as goal
 

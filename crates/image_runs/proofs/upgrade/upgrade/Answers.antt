@@ -1,7 +1,5 @@
 use Rattle.std.proofs.Common.{inl}
-use Rattle.image_runs.specs.Opened.{IsJudged, IsNotImage, IsUnopened}
-use Rattle.recovery.specs.Opening.{IsSpared}
-use Rattle.image_device.proofs.Moments.{weakened}
+use Rattle.image_runs.proofs.Common.{IsJudged, IsNotImage, IsUnopened, IsSpared, weakened}
 use Rattle.image_runs.proofs.Behind.{behind_then, size_of_volume}
 use Rattle.image_runs.proofs.Opened.{not_foreign}
 use Rattle.image_runs.proofs.Upgraded.{by_device, counted_since, not_for_memory, upgrade_moments, upgraded_there}

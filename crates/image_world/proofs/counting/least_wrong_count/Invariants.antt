@@ -1,4 +1,4 @@
-use Rattle.image_world.specs.Tests.{AreSame}
+use Rattle.image_world.proofs.Common.{AreSame}
 use Rattle.image_world.proofs.counting.least_wrong_count.Given as goal
 
 abbrev pub invariant-loop-block : goal.invariant-loop-block

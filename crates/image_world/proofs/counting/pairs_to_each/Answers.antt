@@ -1,7 +1,6 @@
 use Rattle.std.proofs.Common.{◌≡◌, ◌+◌, ◌-◌, ◌<◌, length, take, get_or, set, subst, sym, ap, ◌∙◌, arith}
 use Rattle.std.proofs.Math.ListN.{length-set}
-use Rattle.std.proofs.lemmas.Grind.{get_or_default_zero}
-use Rattle.image_world.specs.Tests.{slots_to}
+use Rattle.image_world.proofs.Common.{get_or_default_zero, slots_to}
 use Rattle.image_world.proofs.CountLaws.{few_to, all_counted, found_more, none_counted, none_from}
 use Rattle.image_world.proofs.counting.pairs_to_each.Goals as goal
 use Rattle.image_world.proofs.counting.pairs_to_each.Goals.{in-Some, in_default}

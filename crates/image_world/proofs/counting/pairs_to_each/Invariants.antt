@@ -1,6 +1,5 @@
 use Rattle.std.proofs.Common.{◌≡◌, ℕ, ◌<◌, length, take}
-use Rattle.std.specs.Prelude.{slice_index}
-use Rattle.image_world.specs.Tests.{slots_to}
+use Rattle.image_world.proofs.Common.{slice_index, slots_to}
 use Rattle.image_world.proofs.counting.pairs_to_each.Given as goal
 
 abbrev pub invariant-loop-slot : goal.invariant-loop-slot

@@ -1,4 +1,4 @@
-use Rattle.image_world.specs.Tests.{IsLeastLoose}
+use Rattle.image_world.proofs.Common.{IsLeastLoose}
 use Rattle.image_world.proofs.ends.least_loose_pair.Given as goal
 
 abbrev pub invariant-loop-slot : goal.invariant-loop-slot

@@ -1,12 +1,10 @@
 use Rattle.std.proofs.Common.{sym, ap, ◌∙◌, subst, Err}
-use Rattle.image_device.specs.Counts.{Rose}
+use Rattle.image_world.proofs.Common.{Rose, Geometry, AreRight}
 use Rattle.block_alloc.specs.declared.fault.LoadFault.TheVariants as live_fault
 use Rattle.pointer_table.specs.declared.fault.TableFault.TheVariants as slot_fault
 use Rattle.ref_counts.specs.declared.fault.LoadFault.TheVariants as count_fault
 use Rattle.std.proofs.lemmas.Result.{err_from_is_err_and}
 use Rattle.image_device.proofs.Resting.{rests_joined}
-use Rattle.tsd_model.specs.declared.geometry.Geometry.{Geometry}
-use Rattle.image_world.specs.Faults.{AreRight}
 use Rattle.image_world.proofs.LoadLaws.{are_read, are_stored, do_fit, failed}
 use Rattle.image_world.proofs.CapsLaws.{same_after_caps, rose_after_caps, same_after_counts, rose_after_counts, loaded_is_no_fault}
 use Rattle.image_world.proofs.TestLaws.{right_on}

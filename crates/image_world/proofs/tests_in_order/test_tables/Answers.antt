@@ -1,11 +1,5 @@
 use Rattle.std.proofs.Common.{◌<◌, ℕ, List, sym, ap, ◌∙◌, subst, arith}
-use Rattle.std.specs.Prelude.{slice_index}
-use Rattle.std.proofs.lemmas.Grind.{get_or_default_zero}
-use Rattle.tsd_model.specs.declared.geometry.Geometry.{Geometry}
-use Rattle.image_layout.specs.Image.{Image}
-use Rattle.block_alloc.specs.Stored.{IsStored}
-use Rattle.image_world.specs.Faults.{IsLeastPrimary}
-use Rattle.image_world.specs.Tests.{IsLeastWrong}
+use Rattle.image_world.proofs.Common.{slice_index, get_or_default_zero, Geometry, Image, IsStored, IsLeastPrimary, IsLeastWrong}
 use Rattle.image_world.proofs.TestLaws.{ends_live, primaries_on, ends_on, least_end, least_count}
 use Rattle.image_world.proofs.tests_in_order.test_tables.Goals as goal
 

@@ -1,8 +1,5 @@
 use Rattle.std.proofs.Common.{sym}
-use Rattle.fs_client.proofs.LookLaws.{may_again, no_look, looks_but_refuses}
-use Rattle.fs_port.specs.Calls.{Stays}
-use Rattle.fs_client.specs.May.{MayWrite, Looked}
-use Rattle.inode_layout.specs.Block.{inode_of}
+use Rattle.inode_walks.proofs.Common.{may_again, no_look, looks_but_refuses, Stays, MayWrite, Looked, inode_of}
 use Rattle.inode_walks.proofs.FurtherLaws.{may_read, on_both, has_inode, further_read, lost, no_fault, only_faults}
 use Rattle.inode_walks.proofs.finding.child.Goals as goal
 

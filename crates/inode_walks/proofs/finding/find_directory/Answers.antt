@@ -1,7 +1,6 @@
 use Rattle.std.proofs.Common.{sym, ◌∙◌}
 use Rattle.fs_trees.specs.declared.refusal.FsRefusal.TheVariants as no
-use Rattle.fs_client.proofs.LookLaws.{looks_but_refuses}
-use Rattle.inode_walks.specs.Asking.{tree_under}
+use Rattle.inode_walks.proofs.Common.{looks_but_refuses, tree_under}
 use Rattle.inode_walks.proofs.FoundLaws.{a_dir_was, a_file_was, lost_directory, directory_found, file_in_place}
 use Rattle.inode_walks.proofs.finding.find_directory.Goals as goal
 

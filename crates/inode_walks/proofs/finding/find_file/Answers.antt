@@ -1,9 +1,6 @@
 use Rattle.std.proofs.Common.{◌≡◌, sym, ◌∙◌, subst, Option, Some, None}
-use Rattle.fs_trees.specs.declared.refusal.FsRefusal.{FsRefusal}
+use Rattle.inode_walks.proofs.Common.{FsRefusal, looks_but_refuses, tree_under, StandsAtPath, no_file_found}
 use Rattle.fs_trees.specs.declared.refusal.FsRefusal.TheVariants as no
-use Rattle.fs_client.proofs.LookLaws.{looks_but_refuses}
-use Rattle.inode_walks.specs.Asking.{tree_under}
-use Rattle.inode_walks.specs.Finding.{StandsAtPath, no_file_found}
 use Rattle.inode_walks.proofs.FoundLaws.{a_dir_was, a_file_was, lost_file, file_found, dir_in_place}
 use Rattle.inode_walks.proofs.finding.find_file.Goals as goal
 

@@ -1,6 +1,5 @@
 use Rattle.std.proofs.Common.{◌≡◌, ◌∷◌, ◌++◌, [], ◌∙◌, sym, subst, length, take, ◌-◌, ◌<◌, ◌≤◌}
-use Rattle.fs_client.proofs.LookLaws.{no_look, looks_as, looks_refused, looks_but_refuses}
-use Rattle.inode_walks.specs.Asking.{tree_under}
+use Rattle.inode_walks.proofs.Common.{no_look, looks_as, looks_refused, looks_but_refuses, tree_under}
 use Rattle.inode_walks.proofs.FoundLaws.{last_of, no_name, place_lost, place_is}
 use Rattle.inode_walks.proofs.finding.look_up.Goals as goal
 

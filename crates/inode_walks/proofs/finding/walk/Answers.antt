@@ -1,5 +1,5 @@
 use Rattle.std.proofs.Common.{Ok, Err}
-use Rattle.fs_client.proofs.LookLaws.{may_again, looks_as, then_looks}
+use Rattle.inode_walks.proofs.Common.{may_again, looks_as, then_looks}
 use Rattle.inode_walks.proofs.WalkingLaws.{root_may, root_inode, walk_begins, walks_on, walk_ends, walk_arrives, nothing_missing, still_open}
 use Rattle.inode_walks.proofs.finding.walk.Goals as goal
 

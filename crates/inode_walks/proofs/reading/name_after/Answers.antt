@@ -1,13 +1,6 @@
 use Rattle.std.proofs.Common.{sym, ◌∙◌, ap, subst, Option, Ok, Err}
-use Rattle.fs_trees.specs.Names.{Name}
+use Rattle.inode_walks.proofs.Common.{Name, inode_of, next_said, at, names_in, listed, Answers, TellsNext, looks_as, looks_refused, tree_under, mounted_by}
 use Rattle.fs_trees.specs.declared.ask.ShellAsk.TheVariants as ask
-use Rattle.inode_layout.specs.Block.{inode_of}
-use Rattle.inode_layout.specs.Said.{next_said}
-use Rattle.fs_trees.specs.Tree.{at, names_in}
-use Rattle.fs_trees.specs.Answer.{listed}
-use Rattle.fs_port.specs.Files.{Answers, TellsNext}
-use Rattle.fs_client.proofs.LookLaws.{looks_as, looks_refused}
-use Rattle.inode_walks.specs.Asking.{tree_under, mounted_by}
 use Rattle.inode_walks.proofs.TellLaws.{ls_answers, ls_refuses, next_told}
 use Rattle.inode_walks.proofs.reading.name_after.Goals as goal
 

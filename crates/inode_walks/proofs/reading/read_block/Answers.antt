@@ -1,11 +1,5 @@
 use Rattle.std.proofs.Common.{◌≡◌, ◌+◌, ◌-◌, ◌/◌, ◌%◌, ◌<◌, ◌≤◌, ◌++◌, length, min, sym, ◌∙◌, ap, subst, arith, Some}
-use Rattle.std.proofs.Math.Nat.{mod-lt}
-use Rattle.std.specs.Prelude.{slice_index}
-use Rattle.fs_client.proofs.LookLaws.{looks_as}
-use Rattle.fs_client.specs.May.{MayWrite}
-use Rattle.inode_layout.specs.Block.{inode_of}
-use Rattle.inode_layout.specs.Said.{blocks_said}
-use Rattle.tsd_model.specs.World.{contents}
+use Rattle.inode_walks.proofs.Common.{mod-lt, slice_index, looks_as, MayWrite, inode_of, blocks_said, contents}
 use Rattle.inode_walks.proofs.FileLaws.{place_named_by, number_at_place, may_look, block_part}
 use Rattle.inode_walks.proofs.ReadLaws.{block_full}
 use Rattle.inode_walks.proofs.reading.read_block.Goals as goal

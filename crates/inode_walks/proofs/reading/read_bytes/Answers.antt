@@ -1,7 +1,5 @@
 use Rattle.std.proofs.Common.{◌≡◌, ◌++◌, length, sym, ◌∙◌, ap, arith, Ok, Err}
-use Rattle.fs_client.proofs.LookLaws.{no_look, then_looks, looks_as, looks_refused}
-use Rattle.inode_layout.specs.Block.{inode_of}
-use Rattle.inode_walks.specs.Reading.{part, bytes_said}
+use Rattle.inode_walks.proofs.Common.{no_look, then_looks, looks_as, looks_refused, inode_of, part, bytes_said}
 use Rattle.inode_walks.proofs.PartLaws.{part_none, part_more, part_length}
 use Rattle.inode_walks.proofs.FileLaws.{stands_still}
 use Rattle.inode_walks.proofs.reading.read_bytes.Goals as goal

@@ -1,13 +1,5 @@
 use Rattle.std.proofs.Common.{◌≡◌, ◌≤◌, ◌+◌, min, sym, ◌∙◌, ap, subst, arith}
-use Rattle.fs_trees.specs.Tree.{at, bytes_in}
-use Rattle.fs_client.specs.May.{Looked}
-use Rattle.inode_walks.specs.Reading.{part, bytes_said}
-use Rattle.fs_trees.specs.Answer.{bytes}
-use Rattle.fs_port.specs.Files.{TellsPart}
-use Rattle.fs_client.proofs.LookLaws.{then_looks}
-use Rattle.inode_layout.specs.Block.{inode_of}
-use Rattle.inode_layout.specs.Said.{amount_said}
-use Rattle.inode_walks.specs.Asking.{tree_under}
+use Rattle.inode_walks.proofs.Common.{at, bytes_in, Looked, part, bytes_said, bytes, TellsPart, then_looks, inode_of, amount_said, tree_under}
 use Rattle.inode_walks.proofs.FileLaws.{found_long}
 use Rattle.inode_walks.proofs.TellLaws.{cat_answers, cat_refuses, none_told, part_told, part_answers, on_ok_too}
 use Rattle.inode_walks.proofs.reading.read_part.Goals as goal

@@ -1,9 +1,5 @@
 use Rattle.std.proofs.Common.{sym, subst}
-use Rattle.fs_trees.specs.Tree.{at, bytes_in}
-use Rattle.fs_trees.specs.Answer.{bytes}
-use Rattle.fs_port.specs.Files.{TellsSize}
-use Rattle.fs_client.proofs.LookLaws.{looks_as, looks_refused}
-use Rattle.inode_walks.specs.Asking.{tree_under}
+use Rattle.inode_walks.proofs.Common.{at, bytes_in, bytes, TellsSize, looks_as, looks_refused, tree_under}
 use Rattle.inode_walks.proofs.FileLaws.{found_long}
 use Rattle.inode_walks.proofs.TellLaws.{cat_answers, cat_refuses, size_told}
 use Rattle.inode_walks.proofs.reading.size.Goals as goal

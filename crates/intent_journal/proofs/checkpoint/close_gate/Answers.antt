@@ -1,8 +1,5 @@
 use Rattle.std.proofs.Common.{◌≡◌, true, ◌==◌, arith}
-use Rattle.std.proofs.lemmas.Bool.{and_from}
-use Rattle.std.proofs.lemmas.Bool.Decides.{nat_tests}
-use Rattle.image_device.proofs.Confined.{confined_start, confined_write}
-use Rattle.image_layout.specs.Ring.{gate_sector}
+use Rattle.intent_journal.proofs.Common.{and_from, nat_tests, confined_start, confined_write, gate_sector}
 use Rattle.intent_journal.proofs.checkpoint.close_gate.Goals as goal
 
 pub returns-then-is_open-clause-confined : goal.returns-then-is_open-clause-confined

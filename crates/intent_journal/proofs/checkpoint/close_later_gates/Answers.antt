@@ -1,7 +1,5 @@
 use Rattle.std.proofs.Common.{◌≡◌, ℕ, subst, arith}
-use Rattle.image_device.specs.Calls.{Uses}
-use Rattle.intent_journal.specs.Closing.{later_open}
-use Rattle.image_device.proofs.Moments.{uses_and}
+use Rattle.intent_journal.proofs.Common.{Uses, later_open, uses_and}
 use Rattle.intent_journal.proofs.checkpoint.close_later_gates.Goals as goal
 
 pub returns-clause-uses : goal.returns-clause-uses

@@ -1,10 +1,5 @@
 use Rattle.std.proofs.Common.{◌≡◌, ℕ, ◌<◌, ◌≤◌, ◌&&◌, nat_le, false, cond}
-use Rattle.image_device.specs.Calls.{Uses}
-use Rattle.image_device.specs.Runs.{IsConfined}
-use Rattle.image_layout.specs.Image.{gate_bytes}
-use Rattle.image_layout.specs.Ring.{records, gate_sector}
-use Rattle.intent_journal.specs.Closing.{later_open, is_listed_open}
-use Rattle.intent_journal.specs.Records.{is_gate_open}
+use Rattle.intent_journal.proofs.Common.{Uses, IsConfined, gate_bytes, records, gate_sector, later_open, is_listed_open, is_gate_open}
 use Rattle.intent_journal.proofs.checkpoint.close_later_gates.Given as goal
 
 abbrev pub invariant-loop-index : goal.invariant-loop-index

@@ -1,9 +1,5 @@
 use Rattle.std.proofs.Common.{◌+◌, refl, ◌∙◌, arith}
-use Rattle.std.proofs.lemmas.List.{take_rest}
-use Rattle.image_device.proofs.Confined.{confined_start, confined_wider, confined_joined}
-use Rattle.intent_journal.specs.Batch.{has_home}
-use Rattle.image_device.proofs.Moments.{uses_and}
-use Rattle.image_device.proofs.Resting.{uses_none}
+use Rattle.intent_journal.proofs.Common.{take_rest, confined_start, confined_wider, confined_joined, has_home, uses_and, uses_none}
 use Rattle.intent_journal.proofs.Lasts.{placed_start, placed_more, count_more, home_at}
 use Rattle.intent_journal.proofs.checkpoint.write_last_bodies.Goals as goal
 

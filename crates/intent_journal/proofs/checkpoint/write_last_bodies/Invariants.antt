@@ -1,9 +1,5 @@
 use Rattle.std.proofs.Common.{◌≡◌, ℕ, ◌+◌, ◌≤◌, cond, length, drop}
-use Rattle.image_device.specs.Calls.{Uses}
-use Rattle.image_device.specs.Runs.{IsConfined}
-use Rattle.intent_journal.specs.Batch.{has_home}
-use Rattle.intent_journal.specs.Home.{overlaid}
-use Rattle.intent_journal.specs.Ring.{last_patches}
+use Rattle.intent_journal.proofs.Common.{Uses, IsConfined, has_home, overlaid, last_patches}
 use Rattle.intent_journal.proofs.checkpoint.write_last_bodies.Given as goal
 
 abbrev pub invariant-loop-index : goal.invariant-loop-index

@@ -1,8 +1,6 @@
 use Rattle.std.proofs.Common.{◌+◌, length, refl, ◌∙◌, ap, arith}
-use Rattle.image_device.proofs.Confined.{confined_write}
-use Rattle.intent_journal.specs.Closing.{is_body_of}
+use Rattle.intent_journal.proofs.Common.{confined_write, is_body_of, uses_and}
 use Rattle.intent_journal.proofs.Bodies.{bodies_more, body_within, got_within}
-use Rattle.image_device.proofs.Moments.{uses_and}
 use Rattle.intent_journal.proofs.commit.write_bodies.Goals as goal
 
 pub loop-patch-preserved : goal.loop-patch-preserved

@@ -1,10 +1,5 @@
 use Rattle.std.proofs.Common.{◌≡◌, ℕ, ◌+◌, ◌<◌, length, Some}
-use Rattle.std.specs.List.{slice_get}
-use Rattle.image_device.specs.Calls.{Uses}
-use Rattle.image_device.specs.Runs.{IsConfined}
-use Rattle.image_layout.specs.Ring.{body_sector}
-use Rattle.image_layout.specs.declared.offset.Patch.{Patch}
-use Rattle.intent_journal.specs.Closing.{is_body_of}
+use Rattle.intent_journal.proofs.Common.{slice_get, Uses, IsConfined, body_sector, Patch, is_body_of}
 use Rattle.intent_journal.proofs.commit.write_bodies.Given as goal
 
 abbrev pub invariant-loop-patch : goal.invariant-loop-patch

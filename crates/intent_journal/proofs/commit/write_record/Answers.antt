@@ -1,6 +1,5 @@
 use Rattle.std.proofs.Common.{length, ap}
-use Rattle.image_device.proofs.Confined.{confined_wider, confined_write, confined_sync}
-use Rattle.intent_journal.specs.Closing.{is_in_record}
+use Rattle.intent_journal.proofs.Common.{confined_wider, confined_write, confined_sync, is_in_record}
 use Rattle.intent_journal.proofs.Bodies.{in_descriptor, in_bodies}
 use Rattle.intent_journal.proofs.commit.write_record.Goals as goal
 

@@ -1,5 +1,5 @@
 use Rattle.std.proofs.Common.{◌≡◌, drop}
-use Rattle.tsd_model.specs.World.{are_apart}
+use Rattle.intent_journal.proofs.Common.{are_apart}
 use Rattle.intent_journal.proofs.descriptor.are_distinct.Given as goal
 
 abbrev pub invariant-loop-index : goal.invariant-loop-index

@@ -1,7 +1,5 @@
 use Rattle.std.proofs.Common.{◌≡◌, ◌++◌, [], ◌∷◌, length, map, sym, ◌∙◌, ap, lit<, arith}
-use Rattle.std.specs.List.{range_with_len}
-use Rattle.std.proofs.lemmas.List.FromFn.{length-map-range_with_len, map-range_with_len_more}
-use Rattle.intent_journal.specs.Descriptor.{home_in}
+use Rattle.intent_journal.proofs.Common.{range_with_len, length-map-range_with_len, map-range_with_len_more, home_in}
 use Rattle.intent_journal.proofs.descriptor.first_homes.Goals as goal
 
 pub push-requires : goal.push-requires

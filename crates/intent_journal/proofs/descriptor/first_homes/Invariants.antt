@@ -1,6 +1,5 @@
 use Rattle.std.proofs.Common.{◌≡◌, map}
-use Rattle.std.specs.List.{range_with_len}
-use Rattle.intent_journal.specs.Descriptor.{home_in}
+use Rattle.intent_journal.proofs.Common.{range_with_len, home_in}
 use Rattle.intent_journal.proofs.descriptor.first_homes.Given as goal
 
 abbrev pub invariant-loop-index : goal.invariant-loop-index

@@ -1,6 +1,5 @@
 use Rattle.std.proofs.Common.{◌≡◌, ◌+◌, ◌*◌, ◌-◌, ◌++◌, take, length, flat_map, replicate}
-use Rattle.byteorder.specs.Endian.{little_bytes}
-use Rattle.intent_journal.specs.Batch.{homes_of}
+use Rattle.intent_journal.proofs.Common.{little_bytes, homes_of}
 use Rattle.intent_journal.proofs.descriptor.write_descriptor.Given as goal
 
 abbrev pub invariant-loop-patch : goal.invariant-loop-patch

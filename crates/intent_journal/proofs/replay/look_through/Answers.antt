@@ -1,6 +1,5 @@
 use Rattle.std.proofs.Common.{◌∙◌, ap, List}
-use Rattle.image_layout.specs.declared.offset.Patch.{Patch}
-use Rattle.intent_journal.specs.Home.{overlaid}
+use Rattle.intent_journal.proofs.Common.{Patch, overlaid}
 use Rattle.intent_journal.proofs.replay.look_through.Goals as goal
 
 pub returns-clause-bytes : goal.returns-clause-bytes

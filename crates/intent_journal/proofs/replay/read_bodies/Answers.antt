@@ -1,9 +1,6 @@
 use Rattle.std.proofs.Common.{◌≡◌, ◌+◌, length, get_or, List, ℕ, ◌∙◌, ap, arith}
-use Rattle.std.proofs.lemmas.List.{length_push}
-use Rattle.image_layout.specs.Ring.{body_sector}
+use Rattle.intent_journal.proofs.Common.{length_push, body_sector, uses_and, rests_joined}
 use Rattle.intent_journal.proofs.Bodies.{read_more}
-use Rattle.image_device.proofs.Moments.{uses_and}
-use Rattle.image_device.proofs.Resting.{rests_joined}
 use Rattle.intent_journal.proofs.replay.read_bodies.Goals as goal
 
 pub loop-home-preserved : goal.loop-home-preserved

@@ -1,7 +1,5 @@
 use Rattle.std.proofs.Common.{◌≡◌, ◌+◌, ◌++◌, length, map, get_or}
-use Rattle.std.specs.List.{range_with_len}
-use Rattle.image_device.specs.Calls.{Rests, Uses}
-use Rattle.image_layout.specs.Ring.{body_sector}
+use Rattle.intent_journal.proofs.Common.{range_with_len, Rests, Uses, body_sector}
 use Rattle.intent_journal.proofs.replay.read_bodies.Given as goal
 
 abbrev pub invariant-loop-home : goal.invariant-loop-home

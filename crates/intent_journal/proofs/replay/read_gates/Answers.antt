@@ -1,8 +1,6 @@
 use Rattle.std.proofs.Common.{◌∙◌, arith, length-set, Bool}
-use Rattle.intent_journal.specs.Records.{is_gate_open}
+use Rattle.intent_journal.proofs.Common.{is_gate_open, uses_and, rests_joined}
 use Rattle.intent_journal.proofs.Closings.{listed_more}
-use Rattle.image_device.proofs.Moments.{uses_and}
-use Rattle.image_device.proofs.Resting.{rests_joined}
 use Rattle.intent_journal.proofs.replay.read_gates.Goals as goal
 
 pub loop-index-preserved : goal.loop-index-preserved

@@ -1,7 +1,5 @@
 use Rattle.std.proofs.Common.{◌≡◌, ℕ, ◌<◌, length}
-use Rattle.image_device.specs.Calls.{Rests, Uses}
-use Rattle.intent_journal.specs.Closing.{is_listed_open}
-use Rattle.intent_journal.specs.Records.{is_gate_open}
+use Rattle.intent_journal.proofs.Common.{Rests, Uses, is_listed_open, is_gate_open}
 use Rattle.intent_journal.proofs.replay.read_gates.Given as goal
 
 abbrev pub invariant-loop-index : goal.invariant-loop-index

@@ -1,6 +1,5 @@
 use Rattle.std.proofs.Common.{◌≡◌, length, ◌∙◌, ap, arith}
-use Rattle.std.proofs.lemmas.List.FromFn.{length-map-range_with_len}
-use Rattle.intent_journal.specs.Descriptor.{count_in, home_in}
+use Rattle.intent_journal.proofs.Common.{length-map-range_with_len, count_in, home_in}
 use Rattle.intent_journal.proofs.Gates.{valid_room}
 use Rattle.intent_journal.proofs.replay.read_homes.Goals as goal
 

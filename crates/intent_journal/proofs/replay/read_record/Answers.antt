@@ -1,5 +1,5 @@
 use Rattle.std.proofs.Common.{◌≡◌, sym, ◌∙◌}
-use Rattle.image_device.specs.Image.{Image}
+use Rattle.intent_journal.proofs.Common.{Image}
 use Rattle.intent_journal.proofs.Bodies.{record_added}
 use Rattle.intent_journal.proofs.replay.read_record.Goals as goal
 

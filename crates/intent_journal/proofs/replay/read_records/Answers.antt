@@ -1,15 +1,7 @@
 use Rattle.std.proofs.Common.{◌≡◌, ◌++◌, length, List, refl, sym, ◌∙◌, ap, subst, arith}
-use Rattle.std.proofs.lemmas.Result.{err_from_is_err_and}
-use Rattle.std.specs.Prelude.{IsErrOf, Err}
+use Rattle.intent_journal.proofs.Common.{err_from_is_err_and, IsErrOf, Err, Image, Patch, is_valid, is_gate_open, descriptor_of, record_at, uses_and, uses_none, rests_none, rests_joined}
 use Rattle.intent_journal.specs.declared.ring.ReplayFault.TheVariants.{BadDescriptor}
-use Rattle.image_device.specs.Image.{Image}
-use Rattle.image_layout.specs.declared.offset.Patch.{Patch}
-use Rattle.intent_journal.specs.Descriptor.{is_valid}
-use Rattle.intent_journal.specs.Records.{is_gate_open, descriptor_of, record_at}
-use Rattle.image_device.proofs.Moments.{uses_and}
-use Rattle.image_device.proofs.Resting.{uses_none}
 use Rattle.intent_journal.proofs.Reading.{found_start, valid_start, found_more, valid_more, found_end, valid_end, bad_end}
-use Rattle.image_device.proofs.Resting.{rests_none, rests_joined}
 use Rattle.intent_journal.proofs.replay.read_records.Goals as goal
 
 pub loop-index-init : goal.loop-index-init

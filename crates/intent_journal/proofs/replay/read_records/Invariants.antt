@@ -1,6 +1,5 @@
 use Rattle.std.proofs.Common.{◌≡◌, ◌++◌, ◌-◌, length}
-use Rattle.image_device.specs.Calls.{Rests, Uses}
-use Rattle.intent_journal.specs.Records.{patches_of, open_from, open_records, are_valid_from, has_valid_records}
+use Rattle.intent_journal.proofs.Common.{Rests, Uses, patches_of, open_from, open_records, are_valid_from, has_valid_records}
 use Rattle.intent_journal.proofs.replay.read_records.Given as goal
 
 abbrev pub invariant-loop-index : goal.invariant-loop-index

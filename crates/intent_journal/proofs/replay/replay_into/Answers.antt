@@ -1,7 +1,6 @@
 use Rattle.std.proofs.Common.{◌∙◌, length, ap, arith}
-use Rattle.image_device.proofs.Moments.{uses_and, uses_within}
+use Rattle.intent_journal.proofs.Common.{uses_and, uses_within, rests_joined}
 use Rattle.intent_journal.proofs.Replaying.{looking, replaying, closing_most, gates_then, needed_then}
-use Rattle.image_device.proofs.Resting.{rests_joined}
 use Rattle.intent_journal.proofs.replay.replay_into.Goals as goal
 
 pub returns-in_err-read_records-clause-any_moment : goal.returns-in_err-read_records-clause-any_moment

@@ -1,5 +1,5 @@
 use Rattle.std.proofs.Common.{refl, sym}
-use Rattle.std.proofs.lemmas.Bool.{ne_eqb}
+use Rattle.intent_journal.proofs.Common.{ne_eqb}
 use Rattle.intent_journal.proofs.Lasts.{none_passed, held_at}
 use Rattle.intent_journal.proofs.ring.has_home.Goals as goal
 

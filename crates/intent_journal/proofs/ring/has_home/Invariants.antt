@@ -1,5 +1,5 @@
 use Rattle.std.proofs.Common.{◌≡◌, false, take}
-use Rattle.intent_journal.specs.Batch.{has_home}
+use Rattle.intent_journal.proofs.Common.{has_home}
 use Rattle.intent_journal.proofs.ring.has_home.Given as goal
 
 abbrev pub invariant-loop-patch : goal.invariant-loop-patch

@@ -1,5 +1,5 @@
 use Rattle.std.proofs.Common.{refl}
-use Rattle.std.proofs.lemmas.Bool.{ne_eqb}
+use Rattle.intent_journal.proofs.Common.{ne_eqb}
 use Rattle.intent_journal.proofs.Lasts.{last_held_at, found_on}
 use Rattle.intent_journal.proofs.ring.last_of.Goals as goal
 use Rattle.intent_journal.proofs.ring.last_of.Goals.{then-patch-sector, else-patch-sector}

@@ -1,8 +1,5 @@
 use Rattle.std.proofs.Common.{◌≡◌, false, take}
-use Rattle.image_device.specs.Image.{Image}
-use Rattle.intent_journal.specs.Batch.{has_home}
-use Rattle.intent_journal.specs.Home.{overlaid}
-use Rattle.std.specs.Option.{MatchOption}
+use Rattle.intent_journal.proofs.Common.{Image, has_home, overlaid, MatchOption}
 use Rattle.intent_journal.proofs.ring.last_of.Given as goal
 
 abbrev pub invariant-loop-patch : goal.invariant-loop-patch

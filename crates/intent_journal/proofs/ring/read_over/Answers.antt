@@ -1,7 +1,6 @@
 use Rattle.std.proofs.Common.{sym, ◌∙◌}
-use Rattle.std.proofs.lemmas.Result.{on_ok_weaker}
+use Rattle.intent_journal.proofs.Common.{on_ok_weaker, rests_none}
 use Rattle.intent_journal.proofs.Overlays.{overlaid_missed}
-use Rattle.image_device.proofs.Resting.{rests_none}
 use Rattle.intent_journal.proofs.ring.read_over.Goals as goal
 
 pub returns-in-Some-clause-bytes : goal.returns-in-Some-clause-bytes

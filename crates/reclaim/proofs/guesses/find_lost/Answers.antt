@@ -1,5 +1,4 @@
-use Rattle.graph_laws.proofs.StepLaws.{none_lost}
-use Rattle.reclaim.specs.Tables.{graph_of}
+use Rattle.reclaim.proofs.Common.{none_lost, graph_of}
 use Rattle.reclaim.proofs.CollectLaws.{lost_within}
 use Rattle.reclaim.proofs.StepLaws.{found_none}
 use Rattle.reclaim.proofs.guesses.find_lost.Goals as goal

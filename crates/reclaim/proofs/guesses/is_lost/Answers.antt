@@ -1,6 +1,5 @@
 use Rattle.std.proofs.Common.{◌≡◌, ◌<◌, arith, sym, ◌∙◌, ap, subst}
-use Rattle.tsd_model.specs.declared.geometry.Geometry.{Geometry}
-use Rattle.reclaim.specs.Tables.{is_uncounted}
+use Rattle.reclaim.proofs.Common.{Geometry, is_uncounted}
 use Rattle.reclaim.proofs.CollectLaws.{uncounted_lost, lost_uncounted}
 use Rattle.reclaim.proofs.guesses.is_lost.Goals as goal
 

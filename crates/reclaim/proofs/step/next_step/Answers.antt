@@ -1,5 +1,5 @@
 use Rattle.std.proofs.Common.{refl, ap, is_some}
-use Rattle.reclaim.specs.Tables.{graph_of}
+use Rattle.reclaim.proofs.Common.{graph_of}
 use Rattle.reclaim.proofs.StepLaws.{empty_none, some_doomed, popped_lost}
 use Rattle.reclaim.proofs.step.next_step.Goals as goal
 

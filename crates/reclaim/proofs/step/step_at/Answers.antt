@@ -1,8 +1,6 @@
 use Rattle.std.proofs.Common.{◌≡◌, ◌⊎◌, true, nat_le, length, refl, subst}
-use Rattle.std.specs.Prelude.{IsTrue, ◌↔◌}
-use Rattle.pointer_table.specs.declared.out_step.OutStep.{OutStep}
-use Rattle.reclaim.specs.Tables.{graph_of}
-use Rattle.reclaim.specs.Stepping.{MayStep, TakesAll}
+use Rattle.reclaim.proofs.Common.{IsTrue, OutStep, graph_of, MayStep, TakesAll}
+use Rattle.std.specs.Prelude.{◌↔◌}
 use Rattle.reclaim.proofs.StepLaws.{first_step, step_keeps, this_step, first_may_step, first_frees, first_wide}
 use Rattle.reclaim.proofs.step.step_at.Goals as goal
 

@@ -1,11 +1,5 @@
 use Rattle.std.proofs.Common.{◌+◌, inl, inr, ◌∙◌, ap, sym, arith}
-use Rattle.std.proofs.lemmas.Bool.{cases_eq}
-use Rattle.image_device.proofs.Confined.{confined_write}
-use Rattle.image_device.proofs.Moments.{uses_and}
-use Rattle.image_layout.specs.Image.{says_open}
-use Rattle.image_layout.specs.Ring.{gate_sector}
-use Rattle.intent_journal.specs.Home.{is_journal}
-use Rattle.intent_journal.proofs.Places.{gates_apart, in_journal}
+use Rattle.recovery.proofs.Common.{cases_eq, confined_write, uses_and, says_open, gate_sector, is_journal, gates_apart, in_journal}
 use Rattle.recovery.proofs.areas.close_gates.Goals as goal
 
 pub returns-in_err-write-clause-confined : goal.returns-in_err-write-clause-confined

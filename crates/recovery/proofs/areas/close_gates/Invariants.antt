@@ -1,8 +1,5 @@
 use Rattle.std.proofs.Common.{◌≡◌, ◌<◌, ℕ, false}
-use Rattle.image_device.specs.Calls.{Uses}
-use Rattle.image_device.specs.Runs.{IsConfined}
-use Rattle.intent_journal.specs.Home.{is_journal}
-use Rattle.intent_journal.specs.Records.{is_gate_open}
+use Rattle.recovery.proofs.Common.{Uses, IsConfined, is_journal, is_gate_open}
 use Rattle.recovery.proofs.areas.close_gates.Given as goal
 
 abbrev pub invariant-loop-index : goal.invariant-loop-index

@@ -1,8 +1,5 @@
 use Rattle.std.proofs.Common.{ℕ, ◌-◌, ◌<◌, ◌≤◌, ◌∙◌, ap, sym, arith}
-use Rattle.tsd_model.specs.declared.geometry.Geometry.{Geometry}
-use Rattle.image_layout.specs.Areas.{bitmap_start, slots_start}
-use Rattle.block_alloc.specs.Bytes.{bitmap_sector_bytes}
-use Rattle.block_alloc.specs.Fresh.{fresh_live}
+use Rattle.recovery.proofs.Common.{Geometry, bitmap_start, slots_start, bitmap_sector_bytes, fresh_live}
 use Rattle.recovery.proofs.AreaLaws.{bits_at, zeros_at}
 use Rattle.recovery.proofs.areas.fresh_sector.Goals as goal
 use Rattle.recovery.proofs.areas.fresh_sector.Goals.{else-sector-ge-CAPS_START-via-then-sector-ge-CAPS_START+else-sector-lt-COUNTS_START, else-sector-ge-CAPS_START-via-else-sector-ge-CAPS_START}

@@ -1,11 +1,5 @@
 use Rattle.std.proofs.Common.{◌≡◌, ℕ, ◌<◌, ◌≤◌, sym, subst, inl, refl, Ok}
-use Rattle.tsd_model.specs.declared.geometry.Geometry.{Geometry}
-use Rattle.image_device.proofs.Confined.{confined_sync}
-use Rattle.image_device.specs.Runs.{IsConfined}
-use Rattle.image_device.proofs.Outcomes.{on_ok}
-use Rattle.image_layout.specs.Areas.{sweep_flag}
-use Rattle.image_layout.specs.Header.{IsHeaderReading}
-use Rattle.recovery.specs.Areas.{fresh_end, fresh_bytes, is_fresh}
+use Rattle.recovery.proofs.Common.{Geometry, confined_sync, IsConfined, on_ok, sweep_flag, IsHeaderReading, fresh_end, fresh_bytes, is_fresh}
 use Rattle.recovery.proofs.AreaRuns.{but_gate, after_header, after_gates, after_tables, all_written, header_inside, gates_inside, inside_joined}
 use Rattle.recovery.proofs.areas.write_areas.Goals as goal
 

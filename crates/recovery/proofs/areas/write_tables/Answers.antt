@@ -1,10 +1,5 @@
 use Rattle.std.proofs.Common.{◌≡◌, ℕ, ◌≤◌, ◌<◌, ◌+◌, ◌-◌, nat_le, nat_lt, true, inl, inr, ◌∙◌, ap, sym, arith}
-use Rattle.std.proofs.lemmas.Bool.{cases_eq, cases_lt}
-use Rattle.std.proofs.lemmas.Bool.Decides.{nat_tests}
-use Rattle.image_device.proofs.Confined.{confined_write}
-use Rattle.image_device.proofs.Moments.{uses_and}
-use Rattle.image_layout.specs.Areas.{sweep_flag}
-use Rattle.recovery.specs.Areas.{fresh_bytes, fresh_end, is_fresh}
+use Rattle.recovery.proofs.Common.{cases_eq, cases_lt, nat_tests, confined_write, uses_and, sweep_flag, fresh_bytes, fresh_end, is_fresh}
 use Rattle.recovery.proofs.areas.write_tables.Goals as goal
 
 from_flag : (n : ℕ) → sweep_flag ≤ n → nat_le sweep_flag n ≡ true

@@ -1,10 +1,5 @@
 use Rattle.std.proofs.Common.{◌≡◌, ◌<◌, ◌≤◌, ◌-◌, nat_le, ℕ}
-use Rattle.cap_store.specs.Fresh.{fresh_records}
-use Rattle.cap_store.specs.Store.{AreRecords}
-use Rattle.image_device.specs.Calls.{Uses}
-use Rattle.image_device.specs.Runs.{IsConfined}
-use Rattle.image_layout.specs.Areas.{sweep_flag, caps_start}
-use Rattle.recovery.specs.Areas.{fresh_bytes, is_fresh}
+use Rattle.recovery.proofs.Common.{fresh_records, AreRecords, Uses, IsConfined, sweep_flag, caps_start, fresh_bytes, is_fresh}
 use Rattle.recovery.proofs.areas.write_tables.Given as goal
 
 abbrev pub invariant-loop-sector : goal.invariant-loop-sector

@@ -1,7 +1,5 @@
 use Rattle.std.proofs.Common.{◌∙◌, ap}
-use Rattle.image_layout.specs.Image.{says_open}
-use Rattle.image_device.proofs.Outcomes.{on_ok}
-use Rattle.image_world.proofs.FreshLaws.{fresh_stands}
+use Rattle.recovery.proofs.Common.{says_open, on_ok, fresh_stands}
 use Rattle.recovery.proofs.AreaRuns.{gate_inside, inside_joined}
 use Rattle.recovery.proofs.Formatted.{formatted_moments}
 use Rattle.recovery.proofs.FreshQuiet.{fresh_quiet}

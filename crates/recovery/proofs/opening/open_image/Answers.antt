@@ -1,13 +1,11 @@
 use Rattle.std.proofs.Common.{refl, ◌∙◌, ap, sym, subst, arith, rules}
 use Rattle.std.specs.Prelude.{Err}
-use Rattle.image_device.proofs.Moments.{uses_and}
-use Rattle.image_layout.specs.Image.{Image, says_open}
+use Rattle.recovery.proofs.Common.{uses_and, Image, says_open, HasHead}
 use Rattle.recovery.proofs.OpenRuns.{synced, read_still, opened_start, opened_sync, opened_head, opened_replay, replayed, loaded, opened_load, stood, opened_finish, opened_err, opened_device, is_device, quiet_uses, quiet_finish, quiet_paid, unwritten, owed_start, owed_sync, owed_head, owed_replay, owed_load, owed_finish, right_head}
 use Rattle.recovery.proofs.OpenCosts.{costs_none, costs_start, uses_replay, costs_replay, uses_load, costs_finish, costs_paid}
 use Rattle.recovery.proofs.SparedLaws.{by_image, by_other, by_replay, spared_head, spared_bad, spared_load, data_start_of, data_sync, data_head, data_replay, data_load, data_finish}
 use Rattle.recovery.specs.declared.fault.OpenFault.TheVariants as fault
 use Rattle.volume_laws.proofs.StepOps.{either_same}
-use Rattle.recovery.specs.Opening.{HasHead}
 use Rattle.recovery.proofs.opening.open_image.Goals as goal
 
 pub returns-in_err-ring-clause-any_moment : goal.returns-in_err-ring-clause-any_moment

@@ -1,7 +1,6 @@
 use Rattle.std.proofs.Common.{cond, ap}
 use Rattle.fs_trees.specs.declared.ask.ShellAsk.TheVariants as ask
-use Rattle.fs_port.specs.Files.{TellsSize}
-use Rattle.shell_server.specs.Shell.{files_after}
+use Rattle.shell_server.proofs.Common.{TellsSize, files_after}
 use Rattle.shell_server.proofs.AfterLaws.{served_after, carried_look}
 use Rattle.shell_server.proofs.SendLaws.{served}
 use Rattle.shell_server.proofs.answer.answer_cat.Goals as goal

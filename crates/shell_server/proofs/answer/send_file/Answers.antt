@@ -1,14 +1,10 @@
 use Rattle.std.proofs.Common.{◌≡◌, ◌≢◌, cond, ◌+◌, ◌<◌, ◌≤◌, [], ◌∷◌, ◌++◌, length, sym, ◌∙◌, ap, subst, arith, rules}
-use Rattle.hex.specs.Hex.{encode_lower}
+use Rattle.shell_server.proofs.Common.{encode_lower, TellsPart, AnswersByLine, ShellState, shell_step, shell_state, behind_then}
 use Rattle.fs_trees.specs.declared.ask.ShellAsk.TheVariants as ask
 use Rattle.fs_trees.specs.declared.refusal.FsRefusal.TheVariants as no
-use Rattle.fs_port.specs.Files.{TellsPart}
-use Rattle.shell_server.specs.Shell.{AnswersByLine, ShellState, shell_step}
-use Rattle.shell_server.specs.Kept.{shell_state}
 use Rattle.shell_server.proofs.CatLaws.{cat_answers, cat_in_parts, behind, line_end, line_headed, line_next, line_parts, no_size, not_refused, part_is, up_to, up_to_next, up_to_none, whole_line}
 use Rattle.shell_server.proofs.SendLaws.{line_served}
 use Rattle.shell_server.proofs.SpeakLaws.{speaks_none, speaks_put, speaks_look, speaks_lost, speaks_cut, speaks_end}
-use Rattle.core_blocks.proofs.BehindLaws.{behind_then}
 use Rattle.shell_server.proofs.answer.send_file.Goals as goal
 
 pub returns-in-Err : goal.returns-in-Err

@@ -1,12 +1,6 @@
 use Rattle.std.proofs.Common.{◌≡◌, ℕ, ◌-◌, List, ◌++◌, length, take}
-use Rattle.hex.specs.Hex.{encode_lower}
-use Rattle.fs_trees.specs.Answer.{bytes}
+use Rattle.shell_server.proofs.Common.{encode_lower, bytes, is_empty, data_head, shell_step, shell_state, IsSpeaking}
 use Rattle.fs_trees.specs.declared.ask.ShellAsk.TheVariants as ask
-use Rattle.tsd_model.specs.Verdict.{is_empty}
-use Rattle.shell_text.specs.Texts.{data_head}
-use Rattle.shell_server.specs.Shell.{shell_step}
-use Rattle.shell_server.specs.Kept.{shell_state}
-use Rattle.shell_server.specs.Speaking.{IsSpeaking}
 use Rattle.shell_server.proofs.answer.send_file.Given as goal
 
 abbrev pub invariant-loop-start : goal.invariant-loop-start

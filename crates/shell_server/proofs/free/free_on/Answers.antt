@@ -1,10 +1,6 @@
 use Rattle.std.proofs.Common.{◌≡◌, ℕ, sym, refl, ◌∙◌, ap}
-use Rattle.image_device.specs.Runs.{IsFirm}
+use Rattle.shell_server.proofs.Common.{IsFirm, step_on, core_view, behind_called, AreReady, FitsShell}
 use Rattle.fs_trees.specs.declared.ask.ShellAsk.TheVariants as ask
-use Rattle.fs_port.specs.Files.{step_on}
-use Rattle.core_blocks.specs.CoreView.{core_view}
-use Rattle.core_blocks.proofs.BehindLaws.{behind_called}
-use Rattle.shell_server.specs.Kept.{AreReady, FitsShell}
 use Rattle.shell_server.proofs.FreeLaws.{TellsFree, free_told, free_refused}
 use Rattle.shell_server.proofs.LookLaws.{looked_so}
 use Rattle.shell_server.proofs.free.free_on.Goals as goal

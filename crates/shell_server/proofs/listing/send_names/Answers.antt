@@ -1,15 +1,10 @@
 use Rattle.std.proofs.Common.{◌≡◌, ◌≢◌, cond, [], ◌∷◌, ◌++◌, sym, ◌∙◌, ap, subst, append_assoc, arith, rules}
 use Rattle.fs_trees.specs.declared.ask.ShellAsk.TheVariants as ask
 use Rattle.fs_trees.specs.declared.refusal.FsRefusal.TheVariants as no
-use Rattle.fs_port.specs.Files.{TellsNext}
-use Rattle.shell_text.specs.Texts.{names_head}
-use Rattle.shell_server.specs.Shell.{AnswersByLine, ShellState, shell_step}
-use Rattle.shell_server.specs.Kept.{shell_state}
-use Rattle.fs_laws.specs.Small.{IsNameListing}
+use Rattle.shell_server.proofs.Common.{TellsNext, names_head, AnswersByLine, ShellState, shell_step, shell_state, IsNameListing, behind_then}
 use Rattle.shell_server.proofs.LsLaws.{behind, first_is, lists, line_headed, ls_answers, ls_in_parts, ls_not_refused, next_is, no_names, said_all, said_most, said_next, said_none, said_piece, whole_line}
 use Rattle.shell_server.proofs.SendLaws.{line_served}
 use Rattle.shell_server.proofs.SpeakLaws.{speaks_none, speaks_put, speaks_look, speaks_lost, speaks_cut, speaks_end}
-use Rattle.core_blocks.proofs.BehindLaws.{behind_then}
 use Rattle.shell_server.proofs.listing.send_names.Goals as goal
 
 pub returns-in-Err : goal.returns-in-Err

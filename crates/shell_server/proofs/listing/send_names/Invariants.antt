@@ -1,10 +1,6 @@
 use Rattle.std.proofs.Common.{◌≡◌, List, ℕ}
-use Rattle.fs_trees.specs.Names.{Name}
-use Rattle.fs_trees.specs.Answer.{listed}
+use Rattle.shell_server.proofs.Common.{Name, listed, shell_step, shell_state, IsSpeaking}
 use Rattle.fs_trees.specs.declared.ask.ShellAsk.TheVariants as ask
-use Rattle.shell_server.specs.Shell.{shell_step}
-use Rattle.shell_server.specs.Kept.{shell_state}
-use Rattle.shell_server.specs.Speaking.{IsSpeaking}
 use Rattle.shell_server.proofs.LsLaws.{IsSaid}
 use Rattle.shell_server.proofs.listing.send_names.Given as goal
 

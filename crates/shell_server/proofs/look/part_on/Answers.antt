@@ -1,9 +1,6 @@
 use Rattle.std.proofs.Common.{◌≡◌, ℕ, cond, sym, ◌∙◌, ap}
-use Rattle.image_device.specs.Runs.{IsFirm}
+use Rattle.shell_server.proofs.Common.{IsFirm, TellsPart, behind_called, AreReady, FitsShell}
 use Rattle.fs_trees.specs.declared.ask.ShellAsk.TheVariants as ask
-use Rattle.fs_port.specs.Files.{TellsPart}
-use Rattle.core_blocks.proofs.BehindLaws.{behind_called}
-use Rattle.shell_server.specs.Kept.{AreReady, FitsShell}
 use Rattle.shell_server.proofs.LookLaws.{looked}
 use Rattle.shell_server.proofs.look.part_on.Goals as goal
 

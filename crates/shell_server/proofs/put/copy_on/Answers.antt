@@ -1,10 +1,6 @@
 use Rattle.std.proofs.Common.{◌≡◌, ℕ, ◌&&◌, cond, refl, sym, ◌∙◌, ap}
-use Rattle.image_device.specs.Runs.{IsFirm}
-use Rattle.fs_trees.specs.Names.{is_path}
+use Rattle.shell_server.proofs.Common.{IsFirm, is_path, core_view, behind_called, AreReady, FitsShell}
 use Rattle.fs_trees.specs.declared.ask.ShellAsk.TheVariants as ask
-use Rattle.core_blocks.specs.CoreView.{core_view}
-use Rattle.core_blocks.proofs.BehindLaws.{behind_called}
-use Rattle.shell_server.specs.Kept.{AreReady, FitsShell}
 use Rattle.shell_server.proofs.ChangeLaws.{carried}
 use Rattle.shell_server.proofs.CopyLaws.{copy_of_change, copy_unmounted, copy_stays}
 use Rattle.shell_server.proofs.put.copy_on.Goals as goal

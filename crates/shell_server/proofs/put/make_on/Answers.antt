@@ -1,7 +1,5 @@
 use Rattle.std.proofs.Common.{◌≡◌, ℕ, sym, ◌∙◌, ap}
-use Rattle.image_device.specs.Runs.{IsFirm}
-use Rattle.core_blocks.proofs.BehindLaws.{behind_called}
-use Rattle.shell_server.specs.Kept.{AreReady, FitsShell}
+use Rattle.shell_server.proofs.Common.{IsFirm, behind_called, AreReady, FitsShell}
 use Rattle.shell_server.proofs.MakeLaws.{carried_make}
 use Rattle.shell_server.proofs.put.make_on.Goals as goal
 

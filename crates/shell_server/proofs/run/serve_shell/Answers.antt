@@ -1,5 +1,5 @@
 use Rattle.std.proofs.Common.{◌≡◌, true, sym, subst}
-use Rattle.tsd_core.specs.Core.{Core, FitsReads, IsCoreReady}
+use Rattle.shell_server.proofs.Common.{Core, FitsReads, IsCoreReady}
 use Rattle.shell_server.proofs.run.serve_shell.Goals as goal
 
 pub returns-clause-ready : goal.returns-clause-ready

@@ -1,12 +1,8 @@
 use Rattle.std.proofs.Common.{ℕ, List, refl, sym, ap, subst, Err}
-use Rattle.std.specs.Prelude.{IfOk}
+use Rattle.fs_client.proofs.Common.{IfOk, At, IsAskCarriedOut, alloc_by, blocks_replied, AsksOnce}
 use Rattle.tsd_model.specs.declared.requests.Request.TheVariants as ask
-use Rattle.tsd_model.specs.declared.requests.Hint.TheVariants.{At}
 use Rattle.tsd_model.specs.declared.replies.Reply.TheVariants as reply
 use Rattle.fs_trees.specs.declared.refusal.FsRefusal.TheVariants as no
-use Rattle.fs_port.specs.Calls.{IsAskCarriedOut}
-use Rattle.fs_client.specs.Client.{alloc_by}
-use Rattle.fs_client.specs.Asks.{blocks_replied, AsksOnce}
 use Rattle.fs_client.proofs.OnceLaws.{failed}
 use Rattle.fs_client.proofs.FormLaws.{blocks_form, blocks_step, answered}
 use Rattle.fs_client.proofs.client.Client.alloc.Goals as goal

@@ -1,11 +1,8 @@
 use Rattle.std.proofs.Common.{refl, sym, ap, subst, Err}
-use Rattle.std.specs.Prelude.{IfOk}
+use Rattle.fs_client.proofs.Common.{IfOk, IsAskCarriedOut, link_by, done_replied, AsksOnce}
 use Rattle.tsd_model.specs.declared.requests.Request.TheVariants as ask
 use Rattle.tsd_model.specs.declared.replies.Reply.TheVariants as reply
 use Rattle.fs_trees.specs.declared.refusal.FsRefusal.TheVariants as no
-use Rattle.fs_port.specs.Calls.{IsAskCarriedOut}
-use Rattle.fs_client.specs.Client.{link_by}
-use Rattle.fs_client.specs.Asks.{done_replied, AsksOnce}
 use Rattle.fs_client.proofs.OnceLaws.{failed}
 use Rattle.fs_client.proofs.FormLaws.{linked_form, done_step, answered}
 use Rattle.fs_client.proofs.client.Client.link.Goals as goal

@@ -1,6 +1,5 @@
 use Rattle.std.proofs.Common.{cond, sym, ap}
-use Rattle.std.proofs.lemmas.Bool.{eq-eqb, ne_eqb}
-use Rattle.tsd_model.specs.declared.caps.Shown.TheVariants.{Nothing, Key}
+use Rattle.fs_client.proofs.Common.{eq-eqb, ne_eqb, Nothing, Key}
 use Rattle.fs_client.proofs.client.Client.shown.Goals as goal
 
 pub returns-then-block-self : goal.returns-then-block-self

@@ -1,12 +1,6 @@
 use Rattle.std.proofs.Common.{◌≡◌, refl, Option, None}
-use Rattle.std.proofs.lemmas.Bool.{eq-eqb}
+use Rattle.fs_client.proofs.Common.{eq-eqb, verdict, Rule, state_of, Looked, attains_write, shown_at, list_by}
 use Rattle.tsd_model.specs.declared.replies.Reply.TheVariants as reply
-use Rattle.tsd_model.specs.Verdict.{verdict}
-use Rattle.tsd_model.specs.declared.replies.Rule.{Rule}
-use Rattle.fs_port.specs.View.{state_of}
-use Rattle.fs_client.specs.May.{Looked}
-use Rattle.fs_laws.specs.Ways.{attains_write}
-use Rattle.fs_client.specs.Client.{shown_at, list_by}
 use Rattle.fs_client.proofs.LookLaws.{list_granted, list_looks, targets_listed, looked, gained, through_here, looks_ok, looks_err, is_a_fault, may_again}
 use Rattle.fs_client.proofs.client.Client.targets.Goals as goal
 

@@ -1,11 +1,8 @@
 use Rattle.std.proofs.Common.{ℕ, refl, sym, ap, subst, Err}
-use Rattle.std.specs.Prelude.{IfOk}
+use Rattle.fs_client.proofs.Common.{IfOk, IsAskCarriedOut, unlink_by, gone_replied, AsksOnce}
 use Rattle.tsd_model.specs.declared.requests.Request.TheVariants as ask
 use Rattle.tsd_model.specs.declared.replies.Reply.TheVariants as reply
 use Rattle.fs_trees.specs.declared.refusal.FsRefusal.TheVariants as no
-use Rattle.fs_port.specs.Calls.{IsAskCarriedOut}
-use Rattle.fs_client.specs.Client.{unlink_by}
-use Rattle.fs_client.specs.Asks.{gone_replied, AsksOnce}
 use Rattle.fs_client.proofs.OnceLaws.{failed}
 use Rattle.fs_client.proofs.FormLaws.{gone_form, gone_step, answered}
 use Rattle.fs_client.proofs.client.Client.unlink.Goals as goal

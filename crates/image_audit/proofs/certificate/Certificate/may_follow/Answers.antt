@@ -1,6 +1,5 @@
 use Rattle.std.proofs.Common.{sym, ap, subst, arith}
-use Rattle.std.proofs.lemmas.Bool.{leb-true}
-use Rattle.image_audit.specs.Listing.{Listed, MayFollow}
+use Rattle.image_audit.proofs.Common.{leb-true, Listed, MayFollow}
 use Rattle.image_audit.proofs.ListingLaws.{too_low}
 use Rattle.image_audit.proofs.certificate.Certificate.may_follow.Goals as goal
 

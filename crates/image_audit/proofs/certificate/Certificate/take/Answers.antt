@@ -1,8 +1,5 @@
 use Rattle.std.proofs.Common.{◌≡◌, refl, sym, ◌∙◌, ap, subst, false, Option}
-use Rattle.std.specs.Prelude.{unwrap_or}
-use Rattle.std.proofs.lemmas.Bool.{both_ways}
-use Rattle.image_audit.specs.declared.listing.Listing.{Listing}
-use Rattle.image_audit.specs.Listing.{Listed, MayFollow}
+use Rattle.image_audit.proofs.Common.{unwrap_or, both_ways, Listing, Listed, MayFollow}
 use Rattle.image_audit.proofs.certificate.Certificate.take.Goals as goal
 
 pub returns-in_default-clause-refused : goal.returns-in_default-clause-refused

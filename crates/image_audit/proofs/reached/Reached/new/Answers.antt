@@ -1,11 +1,5 @@
 use Rattle.std.proofs.Common.{◌≡◌, ◌<◌, length, sym, ◌∙◌, ap, subst, arith}
-use Rattle.std.proofs.lemmas.List.{take_at}
-use Rattle.std.specs.Prelude.{slice_index_or}
-use Rattle.tsd_model.specs.declared.geometry.Geometry.{Geometry}
-use Rattle.volume_laws.specs.Volume.{told_by}
-use Rattle.image_audit.specs.Depths.{AreReached}
-use Rattle.image_audit.specs.Laws.{IsWholeWorld}
-use Rattle.image_audit.specs.Searching.{IsSearched}
+use Rattle.image_audit.proofs.Common.{take_at, slice_index_or, Geometry, told_by, AreReached, IsWholeWorld, IsSearched}
 use Rattle.image_audit.proofs.SearchLaws.{search_done}
 use Rattle.image_audit.proofs.reached.Reached.new.Goals as goal
 

@@ -1,7 +1,5 @@
 use Rattle.std.proofs.Common.{ap, refl, arith}
-use Rattle.tsd_model.specs.declared.geometry.Geometry.{Geometry}
-use Rattle.disk_laws.proofs.DoomLaws.{live_below}
-use Rattle.volume_laws.specs.Volume.{told_by}
+use Rattle.image_audit.proofs.Common.{Geometry, live_below, told_by}
 use Rattle.image_audit.proofs.PageLaws.{told_rising, ended_at, next_at, page_at}
 use Rattle.image_audit.proofs.targets.Targets.next.Goals as goal
 

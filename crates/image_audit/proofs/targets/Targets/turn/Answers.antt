@@ -1,5 +1,5 @@
 use Rattle.std.proofs.Common.{refl, arith}
-use Rattle.volume_laws.specs.Volume.{told_by}
+use Rattle.image_audit.proofs.Common.{told_by}
 use Rattle.image_audit.proofs.PageLaws.{new_page, old_page}
 use Rattle.image_audit.proofs.targets.Targets.turn.Goals as goal
 

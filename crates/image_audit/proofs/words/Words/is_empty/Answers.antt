@@ -1,8 +1,6 @@
 use Rattle.std.proofs.Common.{◌≡◌, refl, Some, None, Bool, true, false, not, Option, List, ℕ, []}
-use Rattle.std.specs.Prelude.{is_some}
+use Rattle.image_audit.proofs.Common.{is_some, words_left, some_pieces}
 use Rattle.std.specs.Borrow.{Bor}
-use Rattle.script_text.specs.Pieces.{words_left}
-use Rattle.script_text.proofs.PiecesLaws.{some_pieces}
 use Rattle.image_audit.proofs.words.Words.is_empty.Goals as goal
 
 none_left : (o : Option (Bor (List ℕ))) (r : Bool) → is_some o ≡ not r → (r ≡ true → words_left o ≡ []) × (words_left o ≡ [] → r ≡ true)

@@ -1,5 +1,5 @@
 use Rattle.std.proofs.Common.{ap}
-use Rattle.image_world.specs.Behind.{behind}
+use Rattle.image_runs.proofs.Common.{behind}
 use Rattle.image_runs.proofs.Serving.{before_or_after, before_reply, refusal_asks}
 use Rattle.image_runs.proofs.server.CoreServerHandler.apply.Goals as goal
 

@@ -1,5 +1,5 @@
 use Rattle.std.proofs.Common.{ap}
-use Rattle.image_world.specs.Behind.{behind}
+use Rattle.image_runs.proofs.Common.{behind}
 use Rattle.image_runs.proofs.server.CoreServerHandler.close.Goals as goal
 
 pub returns-clause-aside : goal.returns-clause-aside

@@ -1,7 +1,5 @@
 use Rattle.std.proofs.Common.{◌≡◌, inl, ◌<◌, List, length, sym, ◌∙◌, ap, arith, length-set, position, Some, None}
-use Rattle.image_device.specs.Image.{IsSector}
-use Rattle.image_layout.specs.declared.offset.Patch.{Patch}
-use Rattle.image_layout.specs.Ring.{bodies}
+use Rattle.intent_journal.proofs.Common.{IsSector, Patch, bodies}
 use Rattle.intent_journal.proofs.Bools.{equal_numbers, still_room}
 use Rattle.intent_journal.proofs.Puts.{has_its_home, put_held, put_new, batch_held, batch_new}
 use Rattle.intent_journal.proofs.batch.Batch.put.Goals as goal

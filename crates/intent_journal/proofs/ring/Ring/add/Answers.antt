@@ -1,9 +1,5 @@
 use Rattle.std.proofs.Common.{List, sym, ◌∙◌, ap, subst}
-use Rattle.image_layout.specs.Image.{says_open}
-use Rattle.image_layout.specs.Ring.{gate_sector}
-use Rattle.image_layout.specs.declared.offset.Patch.{Patch}
-use Rattle.intent_journal.specs.Records.{JournalRecord}
-use Rattle.intent_journal.specs.Ring.{IsRingAt}
+use Rattle.intent_journal.proofs.Common.{says_open, gate_sector, Patch, JournalRecord, IsRingAt}
 use Rattle.intent_journal.proofs.Committing.{IsAdded, record_run, record_named, record_filled, writing, opening, added}
 use Rattle.intent_journal.proofs.ring.Ring.add.Given
 use Rattle.intent_journal.proofs.ring.Ring.add.Goals as goal

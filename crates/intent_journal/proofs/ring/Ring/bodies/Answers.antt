@@ -1,5 +1,5 @@
 use Rattle.std.proofs.Common.{sym, ◌∙◌, ap, length}
-use Rattle.intent_journal.specs.Records.{patches_of}
+use Rattle.intent_journal.proofs.Common.{patches_of}
 use Rattle.intent_journal.proofs.Parts.{patches_parted}
 use Rattle.intent_journal.proofs.ring.Ring.bodies.Goals as goal
 

@@ -1,10 +1,6 @@
 use Rattle.std.proofs.Common.{◌≡◌, ◌∙◌, List, ℕ, sym}
-use Rattle.image_device.specs.Image.{Image}
-use Rattle.image_device.proofs.Outcomes.{on_ok}
-use Rattle.image_device.proofs.Moments.{started, after_sync}
-use Rattle.intent_journal.specs.Crash.{IsBefore}
+use Rattle.intent_journal.proofs.Common.{Image, on_ok, started, after_sync, IsBefore, uses_within}
 use Rattle.intent_journal.proofs.Committing.{before_now}
-use Rattle.image_device.proofs.Moments.{uses_within}
 use Rattle.intent_journal.proofs.Emptying.{listed_at, closing_of_ring, ring_most, none_to_close}
 use Rattle.intent_journal.proofs.ring.Ring.checkpoint.Goals as goal
 

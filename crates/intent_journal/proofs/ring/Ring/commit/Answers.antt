@@ -1,9 +1,5 @@
 use Rattle.std.proofs.Common.{◌≡◌, List, ℕ, inl, sym, ◌∙◌}
-use Rattle.image_device.specs.Image.{Image}
-use Rattle.std.proofs.lemmas.List.{nil_from_length}
-use Rattle.image_device.proofs.Outcomes.{on_ok}
-use Rattle.image_device.proofs.Moments.{started, after_sync}
-use Rattle.intent_journal.specs.Crash.{IsBeforeOrAfter}
+use Rattle.intent_journal.proofs.Common.{Image, nil_from_length, on_ok, started, after_sync, IsBeforeOrAfter}
 use Rattle.intent_journal.proofs.Committing.{before_now}
 use Rattle.intent_journal.proofs.Emptying.{ring_most}
 use Rattle.intent_journal.proofs.Roomy.{only_made, then_added, done_added, written_last}

@@ -1,7 +1,5 @@
 use Rattle.std.proofs.Common.{sym, ◌∙◌, ap, List}
-use Rattle.image_layout.specs.declared.offset.Patch.{Patch}
-use Rattle.intent_journal.specs.Batch.{has_home}
-use Rattle.intent_journal.specs.Records.{patches_of}
+use Rattle.intent_journal.proofs.Common.{Patch, has_home, patches_of}
 use Rattle.intent_journal.proofs.Parts.{patches_parted}
 use Rattle.intent_journal.proofs.ring.Ring.holds.Goals as goal
 

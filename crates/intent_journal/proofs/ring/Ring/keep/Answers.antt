@@ -1,8 +1,5 @@
 use Rattle.std.proofs.Common.{◌≡◌, ◌+◌, ◌≤◌, ◌∷◌, [], ◌++◌, List, length, ℕ, sym, ◌∙◌, ap, arith, subst, lit<}
-use Rattle.image_layout.specs.declared.offset.Patch.{Patch}
-use Rattle.image_layout.specs.Ring.{bodies, records}
-use Rattle.intent_journal.specs.Parts.{ArePatchesOfRing, parted}
-use Rattle.intent_journal.specs.Records.{patches_of}
+use Rattle.intent_journal.proofs.Common.{Patch, bodies, records, ArePatchesOfRing, parted, patches_of}
 use Rattle.intent_journal.proofs.Parts.{length_parted, patches_parted, parts_push, view_push}
 use Rattle.intent_journal.proofs.ring.Ring.keep.Goals as goal
 

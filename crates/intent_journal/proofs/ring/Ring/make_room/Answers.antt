@@ -1,7 +1,5 @@
 use Rattle.std.proofs.Common.{◌≡◌, List, ℕ}
-use Rattle.image_device.specs.Image.{Image}
-use Rattle.image_device.proofs.Moments.{started}
-use Rattle.intent_journal.specs.Crash.{IsBefore}
+use Rattle.intent_journal.proofs.Common.{Image, started, IsBefore}
 use Rattle.intent_journal.proofs.Committing.{before_now}
 use Rattle.intent_journal.proofs.ring.Ring.make_room.Goals as goal
 

@@ -1,6 +1,5 @@
 use Rattle.std.proofs.Common.{sym, ◌∙◌, ap, subst}
-use Rattle.intent_journal.specs.Records.{patches_of}
-use Rattle.intent_journal.specs.Ring.{IsRing}
+use Rattle.intent_journal.proofs.Common.{patches_of, IsRing}
 use Rattle.intent_journal.proofs.Parts.{patches_parted}
 use Rattle.intent_journal.proofs.ring.Ring.patches.Goals as goal
 

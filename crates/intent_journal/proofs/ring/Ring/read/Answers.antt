@@ -1,6 +1,5 @@
 use Rattle.std.proofs.Common.{sym, ◌∙◌, ap}
-use Rattle.std.proofs.lemmas.Result.{on_ok_weaker}
-use Rattle.intent_journal.specs.Records.{patches_of}
+use Rattle.intent_journal.proofs.Common.{on_ok_weaker, patches_of}
 use Rattle.intent_journal.proofs.Lasts.{home_is}
 use Rattle.intent_journal.proofs.Parts.{patches_parted}
 use Rattle.intent_journal.proofs.ring.Ring.read.Goals as goal

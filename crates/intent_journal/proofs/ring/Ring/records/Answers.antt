@@ -1,5 +1,5 @@
 use Rattle.std.proofs.Common.{sym, ◌∙◌, ap, length, subst}
-use Rattle.intent_journal.specs.Ring.{IsRing}
+use Rattle.intent_journal.proofs.Common.{IsRing}
 use Rattle.intent_journal.proofs.Parts.{length_parted}
 use Rattle.intent_journal.proofs.ring.Ring.records.Goals as goal
 

@@ -1,6 +1,5 @@
 use Rattle.std.proofs.Common.{ℕ, ◌+◌, ◌<◌, ◌≤◌, cond, List, length, ◌∙◌, ap, subst, sym, arith}
-use Rattle.reclaim.specs.Ahead.{Kept, IsStepping, IsAheadOf, kept_ahead}
-use Rattle.reclaim.specs.Stepping.{after_step}
+use Rattle.reclaim.proofs.Common.{Kept, IsStepping, IsAheadOf, kept_ahead, after_step}
 use Rattle.reclaim.proofs.ToldLaws.{step_within, step_fits, step_ahead}
 use Rattle.reclaim.proofs.ahead.Ahead.done.Goals as goal
 

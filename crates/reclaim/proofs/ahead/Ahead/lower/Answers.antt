@@ -1,6 +1,5 @@
 use Rattle.std.proofs.Common.{length, ◌∙◌, ap, subst, sym}
-use Rattle.tsd_model.specs.World.{World}
-use Rattle.reclaim.specs.Ahead.{Kept, IsDeleting, kept_ahead}
+use Rattle.reclaim.proofs.Common.{World, Kept, IsDeleting, kept_ahead}
 use Rattle.reclaim.proofs.HidingLaws.{unhidden_settled}
 use Rattle.reclaim.proofs.ahead.Ahead.lower.Goals as goal
 

@@ -1,7 +1,5 @@
 use Rattle.std.proofs.Common.{◌<◌, length, subst, sym}
-use Rattle.std.specs.Prelude.{slice_index}
-use Rattle.tsd_model.specs.Step.{with_pointer}
-use Rattle.reclaim.specs.Ahead.{Kept, IsAdding, kept_ahead}
+use Rattle.reclaim.proofs.Common.{slice_index, with_pointer, Kept, IsAdding, kept_ahead}
 use Rattle.reclaim.proofs.ToldLaws.{count_fits, raise_ahead, marks_same}
 use Rattle.reclaim.proofs.ahead.Ahead.raise.Goals as goal
 

@@ -1,7 +1,5 @@
 use Rattle.std.proofs.Common.{◌<◌, length, subst, sym}
-use Rattle.std.specs.Prelude.{slice_index}
-use Rattle.tsd_model.specs.Step.{with_new_blocks}
-use Rattle.reclaim.specs.Ahead.{Kept, IsGrowing, kept_ahead}
+use Rattle.reclaim.proofs.Common.{slice_index, with_new_blocks, Kept, IsGrowing, kept_ahead}
 use Rattle.reclaim.proofs.ToldLaws.{count_fits, growing_within, grow_ahead, marks_same}
 use Rattle.reclaim.proofs.ahead.Ahead.raise_all.Goals as goal
 

@@ -1,5 +1,5 @@
 use Rattle.std.proofs.Common.{◌≡◌, length, ◌∙◌, ap, subst, sym}
-use Rattle.reclaim.specs.Ahead.{Kept, IsAheadOf, kept_ahead}
+use Rattle.reclaim.proofs.Common.{Kept, IsAheadOf, kept_ahead}
 use Rattle.reclaim.proofs.ToldLaws.{reset_ahead}
 use Rattle.reclaim.proofs.ahead.Ahead.reset.Goals as goal
 

@@ -1,7 +1,5 @@
 use Rattle.std.proofs.Common.{ℕ, ◌<◌}
-use Rattle.std.specs.Prelude.{IfSome, IsNone}
-use Rattle.graph_laws.specs.Steps.{IsLost}
-use Rattle.reclaim.specs.Tables.{graph_of}
+use Rattle.reclaim.proofs.Common.{IfSome, IsNone, IsLost, graph_of}
 use Rattle.reclaim.proofs.guesses.Guesses.look_for_lost.Given as goal
 
 abbrev pub invariant-loop-block : goal.invariant-loop-block

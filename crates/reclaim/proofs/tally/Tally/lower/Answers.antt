@@ -1,11 +1,6 @@
 use Rattle.std.proofs.Common.{◌≡◌, ◌+◌, ◌-◌, ◌||◌, ◌&&◌, ◌==◌, not, false, ◌∷◌, [], length, length-append, refl, sym, ◌∙◌, ap, subst, arith}
-use Rattle.std.proofs.lemmas.List.{length-set}
-use Rattle.std.specs.Prelude.{slice_index, slice_set}
-use Rattle.tsd_model.specs.World.{World, has_number}
+use Rattle.reclaim.proofs.Common.{length-set, slice_index, slice_set, World, has_number, is_gone, kept_ahead, left_at, IsCounting, graph_of}
 use Rattle.disk_laws.proofs.ReclaimLaws.{doomed_is_live}
-use Rattle.reclaim.specs.Ahead.{is_gone, kept_ahead}
-use Rattle.reclaim.specs.Counting.{left_at, IsCounting}
-use Rattle.reclaim.specs.Tables.{graph_of}
 use Rattle.reclaim.proofs.HidingLaws.{tables_with, graph_with, raw_twice, popped_unhidden, hidden_one, hides_as, none_waits}
 use Rattle.reclaim.proofs.TallyLaws.{counting_begun, counting_opened, counting_ended, number_fits, ahead_fits, deleting_counted, popped_gone, done_same, fresh_one}
 use Rattle.reclaim.proofs.tally.Tally.lower.Goals as goal

@@ -1,11 +1,5 @@
 use Rattle.std.proofs.Common.{◌+◌, ◌-◌, ◌&&◌, ◌||◌, ◌==◌, not, length, sym, ◌∙◌, ap, subst, arith}
-use Rattle.std.proofs.lemmas.Bool.{or_left, or_from}
-use Rattle.std.proofs.lemmas.List.{length-set}
-use Rattle.std.specs.Prelude.{slice_index}
-use Rattle.tsd_model.specs.World.{has_number}
-use Rattle.reclaim.specs.Ahead.{is_gone}
-use Rattle.reclaim.specs.Counting.{left_at, IsCounting}
-use Rattle.reclaim.specs.Tables.{graph_of}
+use Rattle.reclaim.proofs.Common.{or_left, or_from, length-set, slice_index, has_number, is_gone, left_at, IsCounting, graph_of}
 use Rattle.reclaim.proofs.TallyLaws.{target_fresh, target_counted, target_off, open_other, counting_closed, number_fits, done_same, fresh_one}
 use Rattle.reclaim.proofs.tally.Tally.lower_targets.Goals as goal
 

@@ -1,7 +1,5 @@
 use Rattle.std.proofs.Common.{◌≡◌, ◌+◌, ◌<◌, cond, length, sym, ◌∙◌, ap, subst, arith, get_or}
-use Rattle.std.proofs.lemmas.List.{length-set}
-use Rattle.std.specs.Prelude.{slice_index}
-use Rattle.tsd_model.specs.World.{has_number}
+use Rattle.reclaim.proofs.Common.{length-set, slice_index, has_number}
 use Rattle.reclaim.proofs.HeldLaws.{has-at, not_before, take-whole}
 use Rattle.reclaim.proofs.PlaceLaws.{raised_next}
 use Rattle.reclaim.proofs.tally.Tally.raise_all.Goals as goal

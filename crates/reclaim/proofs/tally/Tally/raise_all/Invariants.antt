@@ -1,7 +1,5 @@
 use Rattle.std.proofs.Common.{◌≡◌, ℕ, ◌+◌, cond, length, take}
-use Rattle.std.specs.Prelude.{slice_index}
-use Rattle.tsd_model.specs.World.{has_number}
-use Rattle.reclaim.specs.Tallies.{HasSameMarks}
+use Rattle.reclaim.proofs.Common.{slice_index, has_number, HasSameMarks}
 use Rattle.reclaim.proofs.tally.Tally.raise_all.Given as goal
 
 abbrev pub invariant-loop-target : goal.invariant-loop-target

@@ -1,5 +1,5 @@
 use Rattle.std.proofs.Common.{length, ◌∙◌, ap}
-use Rattle.reclaim.specs.Ahead.{is_gone}
+use Rattle.reclaim.proofs.Common.{is_gone}
 use Rattle.reclaim.proofs.PlaceLaws.{none_marked}
 use Rattle.reclaim.proofs.tally.Tally.reset.Goals as goal
 

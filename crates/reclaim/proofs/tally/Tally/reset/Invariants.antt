@@ -1,5 +1,5 @@
 use Rattle.std.proofs.Common.{◌≡◌, ℕ, ◌<◌, length}
-use Rattle.std.specs.Prelude.{slice_index}
+use Rattle.reclaim.proofs.Common.{slice_index}
 use Rattle.reclaim.proofs.tally.Tally.reset.Given as goal
 
 abbrev pub invariant-loop-block : goal.invariant-loop-block

@@ -1,6 +1,5 @@
 use Rattle.std.proofs.Common.{refl, ap, arith}
-use Rattle.std.specs.Prelude.{Result, Ok, Err, OnOk}
-use Rattle.image_world.specs.Behind.{behind}
+use Rattle.shell_server.proofs.Common.{Result, Ok, Err, OnOk, behind}
 use Rattle.serving.specs.Prompt.{mark}
 use Rattle.shell_server.proofs.server.ShellServerServerShellLines.answer.Goals as goal
 

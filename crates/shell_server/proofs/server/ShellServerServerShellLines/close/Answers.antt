@@ -1,6 +1,5 @@
 use Rattle.std.proofs.Common.{ap}
-use Rattle.image_world.specs.Behind.{behind}
-use Rattle.core_blocks.proofs.BehindLaws.{behind_of_core}
+use Rattle.shell_server.proofs.Common.{behind, behind_of_core}
 use Rattle.shell_server.proofs.server.ShellServerServerShellLines.close.Goals as goal
 
 pub returns-clause-aside : goal.returns-clause-aside

@@ -1,29 +1,7 @@
-use Rattle.volume_laws.proofs.OperationLaws.{spent_unless_ok, spent_on_err, works_of, committed_uses}
+use Rattle.volume.proofs.Common.{spent_unless_ok, spent_on_err, works_of, committed_uses, OnOk, Geometry, World, with_new_blocks, Patch, is_marked_in, AreSound, Tables, pairs_of, Parts, parts_of, with_parts, PartsFit, AreFree, IsGrown, Volume, tables_in, batch_cost, lost_cost, IsPaid, firmed, IsOp, op_at, op_done, op_told, op_paid, op_world, marked, zeroed_ring, zeroed_bytes, zeroed_moments, Kept, is_gone, IsAheadOf, graph_in, growing, none_gone, hides_none, none_hides, data_committed, batch_ok, zeroed_owed, on_ok}
 use Rattle.std.proofs.Common.{◌≡◌, ◌+◌, ◌*◌, ℕ, List, [], length, refl, sym, ◌∙◌, ap, subst, arith}
-use Rattle.std.specs.Prelude.{OnOk}
-use Rattle.tsd_model.specs.declared.geometry.Geometry.{Geometry}
-use Rattle.tsd_model.specs.World.{World}
-use Rattle.tsd_model.specs.Step.{with_new_blocks}
-use Rattle.image_layout.specs.declared.offset.Patch.{Patch}
-use Rattle.block_alloc.specs.LiveMap.{is_live as is_marked_in}
-use Rattle.image_world.specs.Sound.{AreSound}
-use Rattle.image_world.specs.Tables.{Tables, pairs_of}
-use Rattle.volume_laws.specs.Growing.{Parts, parts_of, with_parts, PartsFit, AreFree, IsGrown}
-use Rattle.volume_laws.specs.Volume.{Volume, tables_in}
-use Rattle.volume_laws.specs.Writes.{batch_cost, lost_cost, IsPaid}
-use Rattle.volume_laws.specs.Zeroed.{firmed}
 use Rattle.volume_laws.proofs.Made.{IsMade, has_zeros, made, fits}
-use Rattle.volume_laws.proofs.Ops.{IsOp, op_at, op_done, op_told, op_paid, op_world}
-use Rattle.volume_laws.proofs.Pointed.{marked}
-use Rattle.volume_laws.proofs.ZeroedLaws.{zeroed_ring, zeroed_bytes, zeroed_moments}
 use Rattle.std.proofs.Common.{Bool, true}
-use Rattle.reclaim.specs.Ahead.{Kept, is_gone, IsAheadOf}
-use Rattle.image_world.specs.Debt.{graph_in}
-use Rattle.volume_laws.proofs.AheadKept.{growing, none_gone, hides_none, none_hides}
-use Rattle.volume_laws.proofs.DataLaws.{data_committed}
-use Rattle.volume_laws.proofs.RingLaws.{batch_ok}
-use Rattle.volume_laws.proofs.OwedLaws.{zeroed_owed}
-use Rattle.image_device.proofs.Outcomes.{on_ok}
 use Rattle.volume.proofs.volume.Volume.add_blocks.Given
 use Rattle.volume.proofs.volume.Volume.add_blocks.Goals as goal
 

@@ -1,31 +1,5 @@
-use Rattle.volume_laws.specs.Writes.{batch_cost}
-use Rattle.volume_laws.proofs.OperationLaws.{committed_op, committed_within}
+use Rattle.volume.proofs.Common.{batch_cost, committed_op, committed_within, slice_index, Geometry, holds, is_live, with_pointer, Patch, pairs_in, MayBeHeld, Pointers, Counts, KeepsCounts, AreSound, Tables, left_of, world_with, Volume, tables_in, told_by, owed, graph_in, commits_once, any_bytes, IsOp, op_told, IsOpenTo, IsAdded, raw_absent, ends_within, count_room, left_pointer, owed_pointer, added, both_ways, World, IsAheadOf, is_gone, adding, graph_added, gone_added, hides_same, ok_here, if_here, two_patches}
 use Rattle.std.proofs.Common.{◌≡◌, ◌≤◌, ◌<◌, ℕ, List, true, false, sym, ◌∙◌, ap, subst, arith}
-use Rattle.std.specs.Prelude.{slice_index}
-use Rattle.tsd_model.specs.declared.geometry.Geometry.{Geometry}
-use Rattle.tsd_model.specs.Pairs.{holds}
-use Rattle.tsd_model.specs.World.{is_live}
-use Rattle.tsd_model.specs.Step.{with_pointer}
-use Rattle.image_layout.specs.declared.offset.Patch.{Patch}
-use Rattle.pointer_table.specs.Slots.{pairs_in}
-use Rattle.pointer_table.specs.Table.{MayBeHeld}
-use Rattle.pointer_table.specs.Table.{Table as Pointers}
-use Rattle.ref_counts.specs.Table.{Table as Counts}
-use Rattle.ref_counts.specs.Changes.{KeepsStored as KeepsCounts}
-use Rattle.image_world.specs.Sound.{AreSound}
-use Rattle.image_world.specs.Tables.{Tables}
-use Rattle.image_world.specs.Raw.{left_of, world_with}
-use Rattle.volume_laws.specs.Volume.{Volume, tables_in, told_by}
-use Rattle.image_world.specs.Debt.{owed, graph_in}
-use Rattle.volume_laws.proofs.RingLaws.{commits_once}
-use Rattle.volume_laws.proofs.Ops.{any_bytes, IsOp, op_told}
-use Rattle.volume_laws.proofs.Pointed.{IsOpenTo, IsAdded, raw_absent, ends_within, count_room, left_pointer, owed_pointer, added}
-use Rattle.std.proofs.lemmas.Bool.{both_ways}
-use Rattle.tsd_model.specs.World.{World}
-use Rattle.reclaim.specs.Ahead.{IsAheadOf, is_gone}
-use Rattle.volume_laws.proofs.AheadKept.{adding, graph_added, gone_added, hides_same}
-use Rattle.volume_laws.proofs.Outcomes.{ok_here, if_here}
-use Rattle.volume_laws.proofs.BlockLaws.{two_patches}
 use Rattle.volume.proofs.volume.Volume.add_pair.Given
 use Rattle.volume.proofs.volume.Volume.add_pair.Goals as goal
 

@@ -1,19 +1,5 @@
-use Rattle.volume_laws.proofs.Committed.{ok_map}
-use Rattle.tsd_model.specs.Step.{with_pointer}
-use Rattle.intent_journal.specs.Ring.{checkpoint_writes}
-use Rattle.volume_laws.specs.Operations.{IsOperation, IsWithin}
-use Rattle.volume_laws.specs.Rings.{CommitsOnce}
-use Rattle.volume_laws.proofs.OperationLaws.{kept_then, kept_fails, within_then, within_more, within_fails}
+use Rattle.volume.proofs.Common.{ok_map, with_pointer, checkpoint_writes, IsOperation, IsWithin, CommitsOnce, kept_then, kept_fails, within_then, within_more, within_fails, pairs_of, World, Geometry, owed, Volume, IsVolumeReady, told_by, settled_pairs, View, batch_cost, due, on_ok}
 use Rattle.std.proofs.Common.{[], ◌≡◌, ◌+◌, ◌<◌, ℕ, List, length, sym, ◌∙◌, ap, subst, arith}
-use Rattle.image_world.specs.Tables.{pairs_of}
-use Rattle.tsd_model.specs.World.{World}
-use Rattle.tsd_model.specs.declared.geometry.Geometry.{Geometry}
-use Rattle.image_world.specs.Debt.{owed}
-use Rattle.volume_laws.specs.Volume.{Volume, IsVolumeReady, told_by}
-use Rattle.volume_laws.proofs.Pointed.{settled_pairs}
-use Rattle.image_device.specs.View.{View}
-use Rattle.volume_laws.specs.Writes.{batch_cost, due}
-use Rattle.image_device.proofs.Outcomes.{on_ok}
 use Rattle.volume.proofs.volume.Volume.add_pointer.Goals as goal
 use Rattle.volume.proofs.volume.Volume.add_pointer.Goals.{then-len-self+in_ok-settle_all, else-len-self}
 

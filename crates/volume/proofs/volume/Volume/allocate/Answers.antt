@@ -1,15 +1,5 @@
-use Rattle.volume_laws.proofs.OperationLaws.{kept_then, kept_fails, within_then, within_fails}
+use Rattle.volume.proofs.Common.{kept_then, kept_fails, within_then, within_fails, Geometry, pairs_of, with_new_blocks, AreFree, owed, IsOperation, due, zeroed_cost, HasNewBlocks, HasBatches, JournalRecord, ok_map}
 use Rattle.std.proofs.Common.{◌≡◌, ◌≤◌, ◌+◌, ℕ, List, length, sym, ◌∙◌, ap, subst, arith}
-use Rattle.tsd_model.specs.declared.geometry.Geometry.{Geometry}
-use Rattle.image_world.specs.Tables.{pairs_of}
-use Rattle.tsd_model.specs.Step.{with_new_blocks}
-use Rattle.volume_laws.specs.Growing.{AreFree}
-use Rattle.image_world.specs.Debt.{owed}
-use Rattle.volume_laws.specs.Operations.{IsOperation}
-use Rattle.volume_laws.specs.Writes.{due, zeroed_cost}
-use Rattle.volume_laws.specs.Rings.{HasNewBlocks, HasBatches}
-use Rattle.intent_journal.specs.Records.{JournalRecord}
-use Rattle.volume_laws.proofs.Committed.{ok_map}
 use Rattle.volume_laws.proofs.Allocated.{told_free, told_room}
 use Rattle.volume.proofs.volume.Volume.allocate.Goals as goal
 

@@ -1,18 +1,6 @@
-use Rattle.volume_laws.proofs.OperationLaws.{committed_op, committed_uses}
+use Rattle.volume.proofs.Common.{committed_op, committed_uses, cases_Bool, swept, sweep_flag, AreSound, Tables, owed, Volume, tables_in, none_gone, any_bytes, IsOp, op_told, Failed, on_ok, sweep_left}
 use Rattle.std.proofs.Common.{◌≡◌, ℕ, List, [], ◌∷◌, true, false, inl, inr, sym, ◌∙◌, ap, subst, Ok}
-use Rattle.std.proofs.lemmas.Bool.{cases_Bool}
-use Rattle.tsd_model.specs.Reach.{swept}
-use Rattle.image_layout.specs.Areas.{sweep_flag}
-use Rattle.image_world.specs.Sound.{AreSound}
-use Rattle.image_world.specs.Tables.{Tables}
-use Rattle.image_world.specs.Debt.{owed}
-use Rattle.volume_laws.specs.Volume.{Volume, tables_in}
-use Rattle.volume_laws.proofs.AheadKept.{none_gone}
-use Rattle.volume_laws.proofs.Ops.{any_bytes, IsOp, op_told}
 use Rattle.volume.proofs.SweepOps.{flag_patch, flag_alone, open_op}
-use Rattle.image_device.specs.declared.device.Failed.{Failed}
-use Rattle.image_device.proofs.Outcomes.{on_ok}
-use Rattle.volume.specs.Sweeping.{sweep_left}
 use Rattle.volume.proofs.SweepCosts.{opened_left, flag_paid}
 use Rattle.volume.proofs.volume.Volume.begin_sweep.Given
 use Rattle.volume.proofs.volume.Volume.begin_sweep.Goals as goal

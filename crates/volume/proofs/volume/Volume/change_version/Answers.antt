@@ -1,26 +1,8 @@
 use Rattle.std.proofs.Common.{arith}
-use Rattle.volume_laws.specs.Writes.{batch_cost}
-use Rattle.image_world.specs.Debt.{owed}
-use Rattle.volume_laws.proofs.OperationLaws.{committed_op, committed_within}
+use Rattle.volume.proofs.Common.{batch_cost, owed, committed_op, committed_within, map, cases_eq, upgraded, upgraded_record, IsLawful, Geometry, IsHeaderReading, header_bytes, Store, caps_sector_bytes, AreKept, AreSound, Tables, Turns, Patch, Volume, tables_in, commits_once, any_bytes, IsOp, op_told}
 use Rattle.std.proofs.Common.{◌≡◌, ◌≤◌, inl, inr, List, length, refl, sym, ◌∙◌, ap, subst, Ok}
-use Rattle.std.specs.Prelude.{map}
-use Rattle.std.proofs.lemmas.Bool.{cases_eq}
-use Rattle.tsd_model.specs.Records.{upgraded, upgraded_record}
-use Rattle.tsd_model.specs.Geometry.{IsLawful}
-use Rattle.tsd_model.specs.declared.geometry.Geometry.{Geometry}
 use Rattle.tsd_model.specs.declared.records.Record.{Record}
-use Rattle.image_layout.specs.Header.{IsHeaderReading, header_bytes}
-use Rattle.cap_store.specs.Store.{Store}
-use Rattle.cap_store.specs.Stored.{caps_sector_bytes}
-use Rattle.cap_store.specs.Stored.{IsStored as AreKept}
 use Rattle.image_world.specs.Changes.{upgraded_tables}
-use Rattle.image_world.specs.Sound.{AreSound}
-use Rattle.image_world.specs.Tables.{Tables}
-use Rattle.image_world.specs.Turns.{Turns}
-use Rattle.image_layout.specs.declared.offset.Patch.{Patch}
-use Rattle.volume_laws.specs.Volume.{Volume, tables_in}
-use Rattle.volume_laws.proofs.RingLaws.{commits_once}
-use Rattle.volume_laws.proofs.Ops.{any_bytes, IsOp, op_told}
 use Rattle.volume_laws.proofs.UpgradeLaws.{upgrade_turn, no_upgrade, upgraded_in, upgrade_op}
 use Rattle.volume.proofs.volume.Volume.change_version.Given
 use Rattle.volume.proofs.volume.Volume.change_version.Goals as goal

@@ -1,20 +1,8 @@
 use Rattle.std.proofs.Common.{◌≡◌, ℕ, ◌≤◌, Bool, false, List, refl, sym, ◌∙◌, ap, subst, Result, Ok, Err, Some}
-use Rattle.std.specs.Prelude.{IfOk, IfErr, OnOk}
-use Rattle.tsd_model.specs.World.{World, free_count}
-use Rattle.tsd_model.specs.Placing.{chosen_run, runs}
-use Rattle.tsd_model.specs.declared.requests.PlaceKind.{PlaceKind}
+use Rattle.volume.proofs.Common.{IfOk, IfErr, OnOk, World, free_count, chosen_run, runs, PlaceKind, IsRefusalIn, chosen_in, free_in, IsMapOf, chosen_run_same, runs_same, free_count_same, blank_of, IsRunRefusal, map_of, Volume, tables_in, told_by}
 use Rattle.tsd_model.specs.declared.requests.Hint.TheVariants as hint_is
-use Rattle.block_alloc.specs.Choosing.{IsRunRefusal as IsRefusalIn}
-use Rattle.block_alloc.specs.Choosing.{chosen_run as chosen_in}
-use Rattle.block_alloc.specs.LiveMap.{free_count as free_in}
-use Rattle.block_alloc.specs.Worlds.{IsMapOf}
 use Rattle.block_alloc.specs.declared.choose.RunRefusal.{RunRefusal}
 use Rattle.block_alloc.specs.declared.choose.RunRefusal.TheVariants as refusal
-use Rattle.block_alloc.proofs.WorldLaws.{chosen_run_same, runs_same, free_count_same}
-use Rattle.image_world.specs.Raw.{blank_of}
-use Rattle.volume.specs.Refusals.{IsRunRefusal}
-use Rattle.volume_laws.proofs.QuestionLaws.{map_of}
-use Rattle.volume_laws.specs.Volume.{Volume, tables_in, told_by}
 use Rattle.volume.proofs.volume.Volume.choose_run.Goals as goal
 
 -- what the map chooses the world would choose

@@ -1,14 +1,5 @@
-use Rattle.volume_laws.proofs.OperationLaws.{committed_op, committed_uses}
+use Rattle.volume.proofs.Common.{committed_op, committed_uses, on_ok, doomed, sweep_flag, AreSound, Tables, graph_in, Volume, tables_in, any_bytes, IsOp, op_told, none_owed}
 use Rattle.std.proofs.Common.{◌≡◌, ℕ, List, [], ◌∷◌, false, refl, sym, ◌∙◌, ap, subst}
-use Rattle.image_device.proofs.Outcomes.{on_ok}
-use Rattle.tsd_model.specs.Doomed.{doomed}
-use Rattle.image_layout.specs.Areas.{sweep_flag}
-use Rattle.image_world.specs.Sound.{AreSound}
-use Rattle.image_world.specs.Tables.{Tables}
-use Rattle.image_world.specs.Debt.{graph_in}
-use Rattle.volume_laws.specs.Volume.{Volume, tables_in}
-use Rattle.volume_laws.proofs.Ops.{any_bytes, IsOp, op_told}
-use Rattle.volume_laws.proofs.TableWorlds.{none_owed}
 use Rattle.volume.proofs.SweepOps.{flag_patch, flag_alone, close_op, whole_has_none}
 use Rattle.volume.proofs.SweepCosts.{flag_due, flag_paid}
 use Rattle.volume.proofs.volume.Volume.close_flag.Given

@@ -1,42 +1,8 @@
-use Rattle.volume_laws.proofs.OperationLaws.{committed_op, committed_uses}
+use Rattle.volume.proofs.Common.{committed_op, committed_uses, both_ways, slice_index, Geometry, holds, without_pointer, settle, Patch, pairs_in, Pointers, Counts, KeepsCounts, AreSound, Tables, left_of, world_with, Volume, tables_in, told_by, owed, graph_in, commits_once, any_bytes, IsOp, op_told, on_ok, made, doomed, free_count, ok_map, owed_moments, World, LiveMap, graph, pairs, IsAheadOf, graph_of, deleting, graph_dropped, same_bits, graph_raw, ok_here, if_here, ok_if, two_patches}
 use Rattle.std.proofs.Common.{◌≡◌, ◌+◌, ◌<◌, ℕ, List, true, false, length, sym, ◌∙◌, ap, subst, arith}
-use Rattle.std.proofs.lemmas.Bool.{both_ways}
-use Rattle.std.specs.Prelude.{slice_index}
-use Rattle.tsd_model.specs.declared.geometry.Geometry.{Geometry}
-use Rattle.tsd_model.specs.Pairs.{holds}
-use Rattle.tsd_model.specs.Step.{without_pointer}
-use Rattle.tsd_model.specs.Doomed.{settle}
-use Rattle.image_layout.specs.declared.offset.Patch.{Patch}
-use Rattle.pointer_table.specs.Slots.{pairs_in}
-use Rattle.pointer_table.specs.Table.{Table as Pointers}
-use Rattle.ref_counts.specs.Table.{Table as Counts}
-use Rattle.ref_counts.specs.Changes.{KeepsStored as KeepsCounts}
-use Rattle.image_world.specs.Sound.{AreSound}
-use Rattle.image_world.specs.Tables.{Tables}
-use Rattle.image_world.specs.Raw.{left_of, world_with}
-use Rattle.volume_laws.specs.Volume.{Volume, tables_in, told_by}
-use Rattle.image_world.specs.Debt.{owed, graph_in}
-use Rattle.volume_laws.proofs.RingLaws.{commits_once}
-use Rattle.volume_laws.proofs.Ops.{any_bytes, IsOp, op_told}
 use Rattle.volume_laws.proofs.Dropped.{HoldsPair, IsDropped, less_slots, held_within, count_some, raw_held, left_dropped, dropped}
-use Rattle.image_device.proofs.Outcomes.{on_ok}
-use Rattle.volume_laws.specs.Moments.{made}
-use Rattle.tsd_model.specs.Doomed.{doomed}
-use Rattle.tsd_model.specs.World.{free_count}
-use Rattle.volume_laws.proofs.Committed.{ok_map}
 use Rattle.volume_laws.proofs.DropOwed.{owed_dropped, drop_paid, drop_counted}
-use Rattle.volume_laws.proofs.StepOps.{owed_moments}
-use Rattle.tsd_model.specs.World.{World}
-use Rattle.block_alloc.specs.LiveMap.{LiveMap}
-use Rattle.graph_laws.specs.Graph.{graph}
 use Rattle.graph_laws.specs.RawGraph.{IsRawGraph}
-use Rattle.pointer_table.specs.Table.{pairs}
-use Rattle.reclaim.specs.Ahead.{IsAheadOf}
-use Rattle.reclaim.specs.Tables.{graph_of}
-use Rattle.volume_laws.proofs.AheadKept.{deleting, graph_dropped, same_bits}
-use Rattle.volume_laws.proofs.TableWorlds.{graph_raw}
-use Rattle.volume_laws.proofs.Outcomes.{ok_here, if_here, ok_if}
-use Rattle.volume_laws.proofs.BlockLaws.{two_patches}
 use Rattle.volume.proofs.volume.Volume.drop_pair.Given
 use Rattle.volume.proofs.volume.Volume.drop_pair.Goals as goal
 

@@ -1,6 +1,4 @@
-use Rattle.tsd_model.specs.Doomed.{settle}
-use Rattle.tsd_model.specs.Step.{without_pointer}
-use Rattle.volume_laws.proofs.OperationLaws.{op_answers}
+use Rattle.volume.proofs.Common.{settle, without_pointer, op_answers}
 use Rattle.volume.proofs.volume.Volume.drop_pointer.Goals as goal
 
 pub returns-clause-operation : goal.returns-clause-operation

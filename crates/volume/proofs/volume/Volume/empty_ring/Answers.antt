@@ -1,13 +1,5 @@
-use Rattle.volume_laws.specs.Moments.{LeavesWorld}
-use Rattle.image_world.specs.Debt.{owed}
-use Rattle.volume_laws.proofs.OperationLaws.{as_either, spent_unless_ok, spent_on_err, works_of}
+use Rattle.volume.proofs.Common.{LeavesWorld, owed, as_either, spent_unless_ok, spent_on_err, works_of, Uses, checkpoint_writes, Volume, data_emptied, emptied_ok, before_moments, ok_map, kept_owed}
 use Rattle.std.proofs.Common.{◌≡◌, ℕ, [], refl, ap, subst, arith}
-use Rattle.image_device.specs.Calls.{Uses}
-use Rattle.intent_journal.specs.Ring.{checkpoint_writes}
-use Rattle.volume_laws.specs.Volume.{Volume}
-use Rattle.volume_laws.proofs.DataLaws.{data_emptied}
-use Rattle.volume_laws.proofs.Committed.{emptied_ok, before_moments, ok_map}
-use Rattle.volume_laws.proofs.OwedLaws.{kept_owed}
 use Rattle.volume.proofs.volume.Volume.empty_ring.Given
 use Rattle.volume.proofs.volume.Volume.empty_ring.Goals as goal
 

@@ -1,8 +1,5 @@
-use Rattle.volume_laws.proofs.OperationLaws.{kept_then, op_answers, op_fails}
+use Rattle.volume.proofs.Common.{kept_then, op_answers, op_fails, checkpoint_writes, batch_cost, taken_cost, unswept}
 use Rattle.std.proofs.Common.{◌+◌, ◌*◌, arith}
-use Rattle.intent_journal.specs.Ring.{checkpoint_writes}
-use Rattle.volume_laws.specs.Writes.{batch_cost}
-use Rattle.volume.specs.Sweeping.{taken_cost, unswept}
 use Rattle.volume.proofs.SweepCosts.{uses_most, uses_paid}
 use Rattle.volume.proofs.volume.Volume.end_open_sweep.Goals as goal
 

@@ -1,9 +1,6 @@
 use Rattle.std.proofs.Common.{inl, inr, sym, ◌∙◌, ap}
-use Rattle.std.proofs.lemmas.Bool.{cases_Bool, both_ways}
-use Rattle.volume_laws.specs.Volume.{Volume}
-use Rattle.volume_laws.proofs.OperationLaws.{no_op, none_within}
+use Rattle.volume.proofs.Common.{cases_Bool, both_ways, Volume, no_op, none_within, left_due}
 use Rattle.std.proofs.Common.{◌≡◌, true, false}
-use Rattle.volume.specs.Sweeping.{left_due}
 use Rattle.volume.proofs.SweepCosts.{open_paid, open_uses, still_paid, uses_none}
 use Rattle.volume.proofs.volume.Volume.end_sweep.Goals as goal
 

@@ -1,12 +1,6 @@
 use Rattle.std.proofs.Common.{◌≡◌, arith}
-use Rattle.volume_laws.specs.Moments.{LeavesWorld}
-use Rattle.image_world.specs.Debt.{owed}
-use Rattle.intent_journal.specs.Ring.{checkpoint_writes}
-use Rattle.volume_laws.proofs.OperationLaws.{as_either, spent_unless_ok, spent_on_err, works_of}
+use Rattle.volume.proofs.Common.{LeavesWorld, owed, checkpoint_writes, as_either, spent_unless_ok, spent_on_err, works_of, on_ok, Volume, ok_map}
 use Rattle.std.proofs.Common.{◌∙◌, ap}
-use Rattle.image_device.proofs.Outcomes.{on_ok}
-use Rattle.volume_laws.specs.Volume.{Volume}
-use Rattle.volume_laws.proofs.Committed.{ok_map}
 use Rattle.volume_laws.proofs.ErasedLaws.{erased_ok, erased_moments, erased_owed, erased_closed, erased_data}
 use Rattle.volume.proofs.volume.Volume.erase.Given
 use Rattle.volume.proofs.volume.Volume.erase.Goals as goal

@@ -1,13 +1,7 @@
 use Rattle.std.proofs.Common.{◌≡◌, true, ap, ◌∙◌, arith}
-use Rattle.image_world.specs.Debt.{owed}
-use Rattle.volume_laws.specs.Writes.{due}
-use Rattle.tsd_model.specs.World.{free_count}
-use Rattle.image_world.specs.Raw.{world_with, zeros_of}
-use Rattle.volume_laws.specs.Volume.{Volume, told_by}
-use Rattle.volume_laws.proofs.OperationLaws.{kept_then, op_answers, op_fails, op_ready, within_then, within_answers, within_fails, within_ready}
+use Rattle.volume.proofs.Common.{owed, due, free_count, world_with, zeros_of, Volume, told_by, kept_then, op_answers, op_fails, op_ready, within_then, within_answers, within_fails, within_ready, left_due}
 use Rattle.volume.proofs.FinishLaws.{free_left, free_then}
 use Rattle.std.proofs.Common.{◌+◌, ◌≤◌, sym, subst}
-use Rattle.volume.specs.Sweeping.{left_due}
 use Rattle.volume.proofs.SweepCosts.{ended_paid, uses_then}
 use Rattle.volume.proofs.volume.Volume.finish.Given
 use Rattle.volume.proofs.volume.Volume.finish.Goals as goal

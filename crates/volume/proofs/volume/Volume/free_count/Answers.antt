@@ -1,9 +1,5 @@
 use Rattle.std.proofs.Common.{◌≡◌, false, refl, ◌∙◌, ap}
-use Rattle.image_world.specs.Raw.{blank_of}
-use Rattle.volume_laws.specs.Volume.{Volume, tables_in, told_by}
-use Rattle.volume_laws.proofs.QuestionLaws.{map_of}
-use Rattle.tsd_model.specs.World.{free_count}
-use Rattle.block_alloc.proofs.WorldLaws.{free_count_same}
+use Rattle.volume.proofs.Common.{blank_of, Volume, tables_in, told_by, map_of, free_count, free_count_same}
 use Rattle.volume.proofs.volume.Volume.free_count.Goals as goal
 
 pub returns : goal.returns

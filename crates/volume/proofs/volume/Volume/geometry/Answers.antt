@@ -1,10 +1,6 @@
 use Rattle.std.proofs.Common.{ap, subst, arith}
-use Rattle.volume_laws.specs.Volume.{Volume}
-use Rattle.intent_journal.specs.Ring.{checkpoint_writes}
+use Rattle.volume.proofs.Common.{Volume, checkpoint_writes, Tables, AreSound, told_right, told_size}
 use Rattle.intent_journal.proofs.Emptying.{ring_most}
-use Rattle.image_world.specs.Tables.{Tables}
-use Rattle.image_world.specs.Sound.{AreSound}
-use Rattle.volume_laws.proofs.QuestionLaws.{told_right, told_size}
 use Rattle.volume.proofs.volume.Volume.geometry.Goals as goal
 
 pub returns-clause-told : goal.returns-clause-told

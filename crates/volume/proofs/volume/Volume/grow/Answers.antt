@@ -1,21 +1,6 @@
 use Rattle.std.proofs.Common.{◌≡◌, ℕ, List, ◌+◌, ◌*◌, ◌≤◌, length, sym, subst, ◌∙◌, ap, arith, Ok, Err}
-use Rattle.tsd_model.specs.Step.{with_new_blocks}
-use Rattle.tsd_model.specs.World.{World}
-use Rattle.tsd_model.specs.declared.geometry.Geometry.{Geometry}
-use Rattle.volume_laws.specs.Moments.{LeavesOwed}
-use Rattle.image_world.specs.Debt.{owed}
-use Rattle.intent_journal.specs.Ring.{checkpoint_writes}
-use Rattle.volume_laws.specs.Operations.{IsOperation, IsWithin}
-use Rattle.volume_laws.specs.Volume.{Volume}
-use Rattle.volume_laws.specs.Writes.{due, zeroed_cost}
-use Rattle.volume_laws.proofs.Committed.{ok_map}
-use Rattle.volume_laws.specs.Data.{KeepsData}
-use Rattle.volume_laws.specs.Rings.{HasBatch, HasNewBlocks}
-use Rattle.volume_laws.proofs.DataLaws.{data_then, data_both}
-use Rattle.intent_journal.specs.Records.{JournalRecord}
+use Rattle.volume.proofs.Common.{with_new_blocks, World, Geometry, LeavesOwed, owed, checkpoint_writes, IsOperation, IsWithin, Volume, due, zeroed_cost, ok_map, KeepsData, HasBatch, HasNewBlocks, data_then, data_both, JournalRecord, as_either, kept_moments, kept_fails, kept_failed, within_fails, works_of, works_joined, faults_after, grow_moments}
 use Rattle.volume_laws.proofs.Idle.{world_joined, owed_joined}
-use Rattle.volume_laws.proofs.OperationLaws.{as_either, kept_moments, kept_fails, kept_failed, within_fails, works_of, works_joined, faults_after}
-use Rattle.volume_laws.proofs.ZeroedLaws.{grow_moments}
 use Rattle.volume.proofs.volume.Volume.grow.Goals as goal
 
 pub returns-clause-operation : goal.returns-clause-operation

@@ -1,7 +1,5 @@
 use Rattle.std.proofs.Common.{◌≡◌, Bool, true, false, not, ◌&&◌, refl, sym, ◌∙◌, ap}
-use Rattle.tsd_model.specs.Pairs.{holds}
-use Rattle.volume_laws.proofs.QuestionLaws.{holds_told}
-use Rattle.volume_laws.specs.Volume.{Volume, tables_in, told_by}
+use Rattle.volume.proofs.Common.{holds, holds_told, Volume, tables_in, told_by}
 use Rattle.volume.proofs.volume.Volume.has.Goals as goal
 
 -- held, and not from a doomed block

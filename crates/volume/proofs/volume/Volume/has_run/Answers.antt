@@ -1,10 +1,6 @@
 use Rattle.std.proofs.Common.{◌≡◌, false, not, refl, ◌∙◌, ap}
-use Rattle.image_world.specs.Raw.{blank_of}
-use Rattle.volume_laws.specs.Volume.{Volume, tables_in, told_by}
-use Rattle.volume_laws.proofs.QuestionLaws.{map_of}
-use Rattle.tsd_model.specs.Placing.{runs}
+use Rattle.volume.proofs.Common.{blank_of, Volume, tables_in, told_by, map_of, runs, runs_same}
 use Rattle.tsd_model.specs.Verdict.{is_empty}
-use Rattle.block_alloc.proofs.WorldLaws.{runs_same}
 use Rattle.volume.proofs.volume.Volume.has_run.Goals as goal
 
 pub returns : goal.returns

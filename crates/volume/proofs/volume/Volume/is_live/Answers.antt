@@ -1,8 +1,5 @@
 use Rattle.std.proofs.Common.{◌≡◌, false, refl, ◌∙◌, ap}
-use Rattle.volume_laws.specs.Volume.{Volume, tables_in}
-use Rattle.volume_laws.proofs.QuestionLaws.{shown}
-use Rattle.tsd_model.specs.World.{is_live}
-use Rattle.volume_laws.specs.Volume.{told_by}
+use Rattle.volume.proofs.Common.{Volume, tables_in, shown, is_live, told_by}
 use Rattle.volume.proofs.volume.Volume.is_live.Goals as goal
 
 pub returns : goal.returns

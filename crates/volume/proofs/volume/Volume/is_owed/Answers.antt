@@ -1,10 +1,5 @@
 use Rattle.std.proofs.Common.{◌≡◌, ◌<◌, ℕ, inl, inr, true, nat_lt, arith}
-use Rattle.std.proofs.lemmas.List.{nil_from_length}
-use Rattle.std.proofs.lemmas.Bool.{cases_lt, lt-ltb}
-use Rattle.std.proofs.lemmas.Bool.Decides.{nat_tests}
-use Rattle.tsd_model.specs.Doomed.{doomed}
-use Rattle.image_world.specs.Debt.{graph_in}
-use Rattle.volume_laws.proofs.TableWorlds.{none_owed}
+use Rattle.volume.proofs.Common.{nil_from_length, cases_lt, lt-ltb, nat_tests, doomed, graph_in, none_owed}
 use Rattle.volume.proofs.volume.Volume.is_owed.Goals as goal
 
 below : (m n : ℕ) → nat_lt m n ≡ true → m < n

@@ -1,10 +1,5 @@
 use Rattle.std.proofs.Common.{◌≡◌, ℕ, ◌==◌, true, sym, ◌∙◌, ap, arith}
-use Rattle.std.proofs.lemmas.List.{nil_from_length}
-use Rattle.std.proofs.lemmas.Bool.Decides.{nat_tests}
-use Rattle.tsd_model.specs.Doomed.{doomed}
-use Rattle.image_world.specs.Debt.{graph_in, owed}
-use Rattle.volume_laws.specs.Volume.{Volume, tables_in}
-use Rattle.volume_laws.proofs.TableWorlds.{none_owed}
+use Rattle.volume.proofs.Common.{nil_from_length, nat_tests, doomed, graph_in, owed, Volume, tables_in, none_owed}
 use Rattle.volume.proofs.volume.Volume.is_settled.Goals as goal
 
 equal : (m n : ℕ) → (m == n) ≡ true → m ≡ n

@@ -1,8 +1,6 @@
 use Rattle.std.proofs.Common.{◌∙◌, sym, ap}
-use Rattle.image_world.specs.Raw.{blank_of}
-use Rattle.volume_laws.specs.Volume.{Volume, tables_in, told_by}
+use Rattle.volume.proofs.Common.{blank_of, Volume, tables_in, told_by, told_size}
 use Rattle.tsd_model.specs.Attained.{shown_level}
-use Rattle.volume_laws.proofs.QuestionLaws.{told_size}
 use Rattle.volume.proofs.volume.Volume.level_shown.Goals as goal
 
 pub returns : goal.returns

@@ -1,11 +1,7 @@
 use Rattle.std.proofs.Common.{rules, Err, List, false, ap, sym, ◌∙◌, subst}
 use Rattle.std.proofs.lemmas.Result.{err_from_is_err_and}
 use Rattle.image_device.proofs.Resting.{rests_joined}
-use Rattle.intent_journal.specs.Records.{JournalRecord}
-use Rattle.image_layout.specs.Areas.{sweep_flag}
-use Rattle.image_layout.specs.Image.{Image, says_open}
-use Rattle.volume_laws.specs.Volume.{IsVolumeAt}
-use Rattle.image_world.specs.Loaded.{tables_with}
+use Rattle.volume.proofs.Common.{JournalRecord, sweep_flag, Image, says_open, IsVolumeAt, tables_with}
 use Rattle.volume.proofs.Loaded.{loaded_good, loaded_at, loading_failed, parts_fit}
 use Rattle.volume.proofs.volume.Volume.load.Goals as goal
 

@@ -1,10 +1,5 @@
 use Rattle.std.proofs.Common.{◌≡◌, ℕ, false, inl, inr, ap, sym, ◌∙◌}
-use Rattle.std.proofs.lemmas.Bool.{cases_Bool}
-use Rattle.reclaim.specs.Ahead.{IsAheadOf, is_gone}
-use Rattle.image_world.specs.Debt.{graph_in, owed}
-use Rattle.volume_laws.specs.Volume.{Volume, tables_in}
-use Rattle.volume_laws.proofs.AheadKept.{none_gone, hides_same}
-use Rattle.volume_laws.proofs.TableWorlds.{none_owed}
+use Rattle.volume.proofs.Common.{cases_Bool, IsAheadOf, is_gone, graph_in, owed, Volume, tables_in, none_gone, hides_same, none_owed}
 use Rattle.volume.proofs.volume.Volume.make_ready.Goals as goal
 
 pub invariant_of-self : goal.invariant_of-self

@@ -1,19 +1,7 @@
-use Rattle.volume_laws.proofs.OperationLaws.{committed_op}
+use Rattle.volume.proofs.Common.{committed_op, on_ok, AreSound, Tables, graph_in, owed, Kept, is_gone, hides_stepped, ahead_then, gone_then, counted_then, graph_laid_out, MayPut, IsStepPut, IsStepped, with_all, Volume, tables_in, any_bytes, op_told, batch_ok, IsStepOf, step_of, step_paid, step_used, step_uses, step_most, owed_moments}
 use Rattle.std.proofs.Common.{◌≡◌, refl, sym, ◌∙◌, ap, subst, arith}
-use Rattle.image_device.proofs.Outcomes.{on_ok}
-use Rattle.image_world.specs.Sound.{AreSound}
-use Rattle.image_world.specs.Tables.{Tables}
 use Rattle.volume_laws.specs.Graphs.{IsStepNext}
-use Rattle.image_world.specs.Debt.{graph_in, owed}
-use Rattle.reclaim.specs.Ahead.{Kept, is_gone}
-use Rattle.volume_laws.proofs.AheadKept.{hides_stepped, ahead_then, gone_then, counted_then}
 use Rattle.volume_laws.proofs.Freed.{next_allowed}
-use Rattle.volume_laws.proofs.TableWorlds.{graph_laid_out}
-use Rattle.volume_laws.specs.Steps.{MayPut, IsStepPut, IsStepped, with_all}
-use Rattle.volume_laws.specs.Volume.{Volume, tables_in}
-use Rattle.volume_laws.proofs.Ops.{any_bytes, op_told}
-use Rattle.volume_laws.proofs.RingLaws.{batch_ok}
-use Rattle.volume_laws.proofs.StepOps.{IsStepOf, step_of, step_paid, step_used, step_uses, step_most, owed_moments}
 use Rattle.volume.proofs.volume.Volume.make_step.Given
 use Rattle.volume.proofs.volume.Volume.make_step.Goals as goal
 

@@ -1,12 +1,5 @@
 use Rattle.std.proofs.Common.{[], ◌≡◌, Bool, List, refl, sym, ◌∙◌, subst, length, Ok}
-use Rattle.image_device.specs.declared.device.Failed.{Failed}
-use Rattle.image_world.specs.Debt.{owed}
-use Rattle.volume_laws.specs.Operations.{IsOperation}
-use Rattle.volume_laws.specs.Steps.{IsStepPut}
-use Rattle.volume_laws.specs.Volume.{Volume, AreParts, tables_in, told_by}
-use Rattle.volume_laws.proofs.NextLaws.{are_tables}
-use Rattle.volume_laws.proofs.OperationLaws.{committed_op}
-use Rattle.volume_laws.proofs.Ops.{any_bytes, IsOp, op_told}
+use Rattle.volume.proofs.Common.{Failed, owed, IsOperation, IsStepPut, Volume, AreParts, tables_in, told_by, are_tables, committed_op, any_bytes, IsOp, op_told}
 use Rattle.volume.proofs.SweepRun.{IsSweepRun, AreMarksOf, run_none, run_made, run_failed, may_put, parts_then, marks_stay, cheap, lowers, step_op}
 use Rattle.volume.proofs.SweepCosts.{paid_failed, paid_all, used_all}
 use Rattle.volume.proofs.volume.Volume.make_sweep_steps.Given

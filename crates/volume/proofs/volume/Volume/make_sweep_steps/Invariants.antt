@@ -1,6 +1,5 @@
 use Rattle.std.proofs.Common.{length}
-use Rattle.volume.specs.Sweeping.{sweep_left}
-use Rattle.volume_laws.specs.Volume.{AreParts, tables_in}
+use Rattle.volume.proofs.Common.{sweep_left, AreParts, tables_in}
 use Rattle.volume.proofs.SweepRun.{IsSweepRun, AreMarksOf}
 use Rattle.volume.proofs.volume.Volume.make_sweep_steps.Given as goal
 

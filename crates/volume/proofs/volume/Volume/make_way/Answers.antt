@@ -1,12 +1,5 @@
-use Rattle.intent_journal.specs.Ring.{checkpoint_writes}
-use Rattle.volume_laws.proofs.OperationLaws.{no_op, none_within}
+use Rattle.volume.proofs.Common.{checkpoint_writes, no_op, none_within, Geometry, Volume, JournalRecord, patches_of, AreMissed, ok_map, free_inside}
 use Rattle.std.proofs.Common.{◌≡◌, List, [], inr, ◌<◌, ◌∙◌, ap, sym, subst}
-use Rattle.tsd_model.specs.declared.geometry.Geometry.{Geometry}
-use Rattle.volume_laws.specs.Volume.{Volume}
-use Rattle.intent_journal.specs.Records.{JournalRecord, patches_of}
-use Rattle.volume_laws.specs.Zeroed.{AreMissed}
-use Rattle.volume_laws.proofs.Committed.{ok_map}
-use Rattle.volume_laws.proofs.ZeroedLaws.{free_inside}
 use Rattle.volume.proofs.volume.Volume.make_way.Goals as goal
 
 pub holds_data-requires : goal.holds_data-requires

@@ -1,12 +1,5 @@
 use Rattle.std.proofs.Common.{◌≡◌, length, sym, ◌∙◌, ap}
-use Rattle.tsd_model.specs.World.{World}
-use Rattle.tsd_model.specs.Doomed.{doomed}
-use Rattle.image_world.specs.Tables.{Tables}
-use Rattle.reclaim.specs.Tables.{graph_of}
-use Rattle.image_world.specs.Debt.{graph_in}
-use Rattle.volume_laws.specs.Volume.{Volume}
-use Rattle.volume_laws.proofs.NextLaws.{same_graph, are_tables, have_counts}
-use Rattle.volume_laws.proofs.TableWorlds.{none_owed}
+use Rattle.volume.proofs.Common.{World, doomed, Tables, graph_of, graph_in, Volume, same_graph, are_tables, have_counts, none_owed}
 use Rattle.volume.proofs.volume.Volume.next.Goals as goal
 
 pub find_step-requires-clause-tables : goal.find_step-requires-clause-tables

@@ -1,11 +1,5 @@
 use Rattle.std.proofs.Common.{◌≡◌, ℕ, Bool, false, not, ◌&&◌, List, refl, sym, ◌∙◌, ap, arith}
-use Rattle.tsd_model.specs.Pairs.{holds}
-use Rattle.pointer_table.specs.Table.{pairs}
-use Rattle.reclaim.specs.Ahead.{is_gone}
-use Rattle.image_world.specs.Raw.{blank_of}
-use Rattle.image_world.specs.Tables.{Tables}
-use Rattle.volume_laws.specs.Volume.{Volume, tables_in, told_by}
-use Rattle.volume_laws.proofs.QuestionLaws.{holds_told, source_stays, source_none, source_gone}
+use Rattle.volume.proofs.Common.{holds, pairs, is_gone, blank_of, Tables, Volume, tables_in, told_by, holds_told, source_stays, source_none, source_gone}
 use Rattle.volume.proofs.volume.Volume.next_source.Goals as goal
 
 -- what is told held

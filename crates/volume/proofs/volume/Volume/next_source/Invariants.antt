@@ -1,6 +1,5 @@
 use Rattle.std.proofs.Common.{◌-◌, ◌≤◌}
-use Rattle.volume_laws.specs.Volume.{told_by}
-use Rattle.volume_laws.proofs.QuestionLaws.{NoneBetween}
+use Rattle.volume.proofs.Common.{told_by, NoneBetween}
 use Rattle.volume.proofs.volume.Volume.next_source.Given as goal
 
 -- none of the sources so far stays

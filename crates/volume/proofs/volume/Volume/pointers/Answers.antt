@@ -1,6 +1,5 @@
 use Rattle.std.proofs.Common.{◌≡◌, false, length, refl, ◌∙◌, ap, arith}
-use Rattle.volume_laws.specs.Volume.{Volume, tables_in, told_by}
-use Rattle.volume_laws.proofs.QuestionLaws.{pairs_told}
+use Rattle.volume.proofs.Common.{Volume, tables_in, told_by, pairs_told}
 use Rattle.volume.proofs.volume.Volume.pointers.Goals as goal
 
 pub overflow_sub-result : goal.overflow_sub-result

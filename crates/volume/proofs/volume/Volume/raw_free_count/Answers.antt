@@ -1,7 +1,5 @@
 use Rattle.std.proofs.Common.{ap, ◌∙◌}
-use Rattle.tsd_model.specs.World.{free_count}
-use Rattle.image_world.specs.Raw.{world_with, zeros_of}
-use Rattle.volume_laws.specs.Volume.{Volume, tables_in}
+use Rattle.volume.proofs.Common.{free_count, world_with, zeros_of, Volume, tables_in}
 use Rattle.volume.proofs.FinishLaws.{raw_free}
 use Rattle.volume.proofs.volume.Volume.raw_free_count.Goals as goal
 

@@ -1,21 +1,6 @@
 use Rattle.std.proofs.Common.{◌≡◌, arith}
-use Rattle.volume_laws.specs.Moments.{LeavesWorld}
-use Rattle.image_world.specs.Debt.{owed}
-use Rattle.intent_journal.specs.Ring.{checkpoint_writes}
-use Rattle.volume_laws.proofs.OperationLaws.{as_either, spent_unless_ok, spent_on_err, works_of}
+use Rattle.volume.proofs.Common.{LeavesWorld, owed, checkpoint_writes, as_either, spent_unless_ok, spent_on_err, works_of, Geometry, IsLawful, block_len, on_ok, data_bytes, home, JournalRecord, IsRingAt, AreSound, Tables, Volume, data_rested, ok_map, told_inside}
 use Rattle.std.proofs.Common.{◌<◌, List, [], sym, ◌∙◌, ap, subst, Some}
-use Rattle.tsd_model.specs.declared.geometry.Geometry.{Geometry}
-use Rattle.tsd_model.specs.Geometry.{IsLawful, block_len}
-use Rattle.image_device.proofs.Outcomes.{on_ok}
-use Rattle.image_layout.specs.Image.{data_bytes}
-use Rattle.intent_journal.specs.Home.{home}
-use Rattle.intent_journal.specs.Records.{JournalRecord}
-use Rattle.intent_journal.specs.Ring.{IsRingAt}
-use Rattle.image_world.specs.Sound.{AreSound}
-use Rattle.image_world.specs.Tables.{Tables}
-use Rattle.volume_laws.specs.Volume.{Volume}
-use Rattle.volume_laws.proofs.DataLaws.{data_rested}
-use Rattle.volume_laws.proofs.Committed.{ok_map, told_inside}
 use Rattle.volume_laws.proofs.ReadLaws.{rested_at, rested_world, rested_moments, rested_owed, read_bytes}
 use Rattle.volume.proofs.volume.Volume.read_block.Given
 use Rattle.volume.proofs.volume.Volume.read_block.Goals as goal

@@ -1,28 +1,8 @@
-use Rattle.volume_laws.specs.Writes.{batch_cost}
-use Rattle.volume_laws.proofs.OperationLaws.{committed_op, committed_within}
+use Rattle.volume.proofs.Common.{batch_cost, committed_op, committed_within, OnOk, OnErr, slice_set, kept, with_caps, Header, Patch, with_patch, Pointers, Counts, LiveMap, Store, Tables, left_of, world_with, Volume, tables_in, owed, put_ok, Turns, commits_once, any_bytes, IsOp, op_told, AreSound}
 use Rattle.std.proofs.Common.{◌≡◌, ℕ, Bool, List, [], ◌∷◌, length, sym, ◌∙◌, ap, subst, arith, Result}
-use Rattle.std.specs.Prelude.{OnOk, OnErr, slice_set}
-use Rattle.tsd_model.specs.Records.{kept}
-use Rattle.tsd_model.specs.Step.{with_caps}
 use Rattle.tsd_model.specs.declared.caps.CapPair.{CapPair}
-use Rattle.image_layout.specs.declared.header.Header.{Header}
-use Rattle.image_layout.specs.declared.offset.Patch.{Patch}
-use Rattle.intent_journal.specs.Batch.{with_patch}
-use Rattle.pointer_table.specs.Table.{Table as Pointers}
-use Rattle.ref_counts.specs.Table.{Table as Counts}
-use Rattle.block_alloc.specs.LiveMap.{LiveMap}
-use Rattle.cap_store.specs.Store.{Store}
 use Rattle.cap_store.specs.Changes.{KeepsStored}
-use Rattle.image_world.specs.Tables.{Tables}
-use Rattle.image_world.specs.Raw.{left_of, world_with}
-use Rattle.volume_laws.specs.Volume.{Volume, tables_in}
-use Rattle.image_world.specs.Debt.{owed}
-use Rattle.volume_laws.proofs.BlockLaws.{put_ok}
-use Rattle.image_world.specs.Turns.{Turns}
-use Rattle.volume_laws.proofs.RingLaws.{commits_once}
-use Rattle.volume_laws.proofs.Ops.{any_bytes, IsOp, op_told}
 use Rattle.volume_laws.proofs.Kept.{caps_set, left_with_caps, owed_kept}
-use Rattle.image_world.specs.Sound.{AreSound}
 use Rattle.volume.proofs.volume.Volume.set_caps.Given
 use Rattle.volume.proofs.volume.Volume.set_caps.Goals as goal
 

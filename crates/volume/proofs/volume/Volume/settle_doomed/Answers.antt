@@ -1,8 +1,5 @@
 use Rattle.std.proofs.Common.{◌+◌, refl, arith}
-use Rattle.volume_laws.proofs.OperationLaws.{op_answers, op_fails, within_answers, within_fails}
-use Rattle.volume_laws.proofs.SettlingLaws.{settling_none, settling_more, settling_op, settling_cost}
-use Rattle.volume_laws.proofs.RingLaws.{batches_step, batches_same, batches_within}
-use Rattle.image_world.specs.Debt.{owed}
+use Rattle.volume.proofs.Common.{op_answers, op_fails, within_answers, within_fails, settling_none, settling_more, settling_op, settling_cost, batches_step, batches_same, batches_within, owed}
 use Rattle.volume.proofs.volume.Volume.settle_doomed.Goals as goal
 
 pub loop-init : goal.loop-init

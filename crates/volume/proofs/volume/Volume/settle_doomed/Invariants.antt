@@ -1,7 +1,5 @@
 use Rattle.std.proofs.Common.{ℕ, ◌+◌, ◌≤◌}
-use Rattle.volume_laws.specs.Rings.{HasBatches}
-use Rattle.image_world.specs.Debt.{owed}
-use Rattle.volume_laws.proofs.SettlingLaws.{IsSettling}
+use Rattle.volume.proofs.Common.{HasBatches, owed, IsSettling}
 use Rattle.volume.proofs.volume.Volume.settle_doomed.Given as goal
 
 abbrev pub invariant-loop : goal.invariant-loop

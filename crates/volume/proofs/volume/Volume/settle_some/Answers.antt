@@ -1,7 +1,5 @@
 use Rattle.std.proofs.Common.{◌+◌, refl, arith}
-use Rattle.volume_laws.proofs.OperationLaws.{op_answers, op_fails, within_answers, within_fails}
-use Rattle.volume_laws.proofs.SettlingLaws.{settling_none, settling_more, settling_op, settling_cost}
-use Rattle.volume_laws.proofs.RingLaws.{batches_step, batches_within}
+use Rattle.volume.proofs.Common.{op_answers, op_fails, within_answers, within_fails, settling_none, settling_more, settling_op, settling_cost, batches_step, batches_within}
 use Rattle.volume.proofs.volume.Volume.settle_some.Goals as goal
 
 pub loop-step-init : goal.loop-step-init

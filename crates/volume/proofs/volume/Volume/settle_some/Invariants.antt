@@ -1,10 +1,6 @@
 use Rattle.std.proofs.Common.{◌+◌, ◌*◌, ◌≤◌}
-use Rattle.intent_journal.specs.Ring.{checkpoint_writes}
+use Rattle.volume.proofs.Common.{checkpoint_writes, doomed, graph_in, owed, HasBatches, IsSettling}
 use Rattle.std.proofs.Common.{length}
-use Rattle.tsd_model.specs.Doomed.{doomed}
-use Rattle.image_world.specs.Debt.{graph_in, owed}
-use Rattle.volume_laws.specs.Rings.{HasBatches}
-use Rattle.volume_laws.proofs.SettlingLaws.{IsSettling}
 use Rattle.volume.proofs.volume.Volume.settle_some.Given as goal
 
 -- each step so far took something away, and was no dearer than 69 writes

@@ -1,11 +1,5 @@
 use Rattle.std.proofs.Common.{[], arith, ap, sym, subst, Ok, true, false, Bool}
-use Rattle.image_world.specs.Debt.{owed}
-use Rattle.volume_laws.specs.Operations.{IsOperation, IsWithin}
-use Rattle.volume_laws.specs.Volume.{Volume}
-use Rattle.volume_laws.specs.Writes.{due}
-use Rattle.volume_laws.proofs.OperationLaws.{no_op, op_answers, op_fails, none_within, within_answers, within_fails}
-use Rattle.volume_laws.specs.Rings.{HasBatch}
-use Rattle.volume_laws.proofs.RingLaws.{batch_none}
+use Rattle.volume.proofs.Common.{owed, IsOperation, IsWithin, Volume, due, no_op, op_answers, op_fails, none_within, within_answers, within_fails, HasBatch, batch_none}
 use Rattle.volume.proofs.volume.Volume.settle_step.Goals as goal
 
 pub returns-in-None-clause-operation : goal.returns-in-None-clause-operation

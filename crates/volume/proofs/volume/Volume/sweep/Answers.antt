@@ -1,15 +1,7 @@
-use Rattle.image_world.specs.Debt.{owed}
-use Rattle.volume_laws.proofs.OperationLaws.{kept_then, then_kept, kept_fails, op_answers, op_fails, op_ready}
+use Rattle.volume.proofs.Common.{owed, kept_then, then_kept, kept_fails, op_answers, op_fails, op_ready, swept, reach, World, free_count, has_number, world_with, zeros_of, Volume, told_by, checkpoint_writes, batch_cost, due, sweep_cost, taken_cost, unswept}
 use Rattle.std.proofs.Common.{◌≡◌, true, refl, sym, ◌∙◌, ap, arith}
-use Rattle.tsd_model.specs.Reach.{swept, reach}
-use Rattle.tsd_model.specs.World.{World, free_count, has_number}
-use Rattle.image_world.specs.Raw.{world_with, zeros_of}
-use Rattle.volume_laws.specs.Volume.{Volume, told_by}
 use Rattle.volume.proofs.FinishLaws.{free_restricted, free_then}
 use Rattle.std.proofs.Common.{◌+◌, ◌*◌, ◌≤◌, subst}
-use Rattle.intent_journal.specs.Ring.{checkpoint_writes}
-use Rattle.volume_laws.specs.Writes.{batch_cost, due}
-use Rattle.volume.specs.Sweeping.{sweep_cost, taken_cost, unswept}
 use Rattle.volume.proofs.SweepCosts.{uses_most, sweep_begins, sweep_ends, sweep_paid}
 use Rattle.volume.proofs.volume.Volume.sweep.Given
 use Rattle.volume.proofs.volume.Volume.sweep.Goals as goal

@@ -1,7 +1,5 @@
 use Rattle.std.proofs.Common.{◌≡◌, false, refl, sym, ◌∙◌, ap}
-use Rattle.tsd_model.specs.Step.{targets_from}
-use Rattle.volume_laws.proofs.QuestionLaws.{targets_stay, targets_gone}
-use Rattle.volume_laws.specs.Volume.{Volume, tables_in, told_by}
+use Rattle.volume.proofs.Common.{targets_from, targets_stay, targets_gone, Volume, tables_in, told_by}
 use Rattle.volume.proofs.volume.Volume.targets_from.Goals as goal
 
 pub returns-then-is_doomed : goal.returns-then-is_doomed

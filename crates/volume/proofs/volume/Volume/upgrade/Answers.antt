@@ -1,11 +1,5 @@
 use Rattle.std.proofs.Common.{◌≡◌, ◌+◌, [], ap, arith}
-use Rattle.tsd_model.specs.Records.{upgraded}
-use Rattle.intent_journal.specs.Ring.{checkpoint_writes}
-use Rattle.image_world.specs.Debt.{owed}
-use Rattle.volume_laws.specs.Volume.{Volume}
-use Rattle.volume_laws.specs.Writes.{batch_cost}
-use Rattle.volume_laws.proofs.OperationLaws.{then_kept, op_fails, within_then, within_fails}
-use Rattle.volume_laws.proofs.RingLaws.{batch_of_none}
+use Rattle.volume.proofs.Common.{upgraded, checkpoint_writes, owed, Volume, batch_cost, then_kept, op_fails, within_then, within_fails, batch_of_none}
 use Rattle.volume.proofs.volume.Volume.upgrade.Goals as goal
 
 pub returns-in_err-change_version-clause-cost : goal.returns-in_err-change_version-clause-cost

@@ -1,24 +1,6 @@
-use Rattle.volume_laws.proofs.OperationLaws.{spent_unless_ok, spent_on_err, works_of, committed_uses}
+use Rattle.volume.proofs.Common.{spent_unless_ok, spent_on_err, works_of, committed_uses, OnOk, Geometry, block_len, filled, with_contents, View, Volume, IsVolumeAt, world_on, JournalRecord, Uses, committed, commit_writes, Tables, batch_cost, IsPaid, LeavesEither, length-filled, paid, written_ok, written_moments, told_geometry, told_inside, ok_map, written_owed, data_committed, written_keeps, commits_once, KeepsData}
 use Rattle.std.proofs.Common.{◌≡◌, ◌<◌, ◌≤◌, List, [], ◌∷◌, length, refl, sym, ◌∙◌, ap, subst, arith}
-use Rattle.std.specs.Prelude.{ℕ, OnOk}
-use Rattle.tsd_model.specs.declared.geometry.Geometry.{Geometry}
-use Rattle.tsd_model.specs.Geometry.{block_len}
-use Rattle.tsd_model.specs.Step.{filled, with_contents}
-use Rattle.image_device.specs.View.{View}
-use Rattle.volume_laws.specs.Volume.{Volume, IsVolumeAt, world_on}
-use Rattle.intent_journal.specs.Records.{JournalRecord}
-use Rattle.image_device.specs.Calls.{Uses}
-use Rattle.intent_journal.specs.Ring.{committed, commit_writes}
-use Rattle.image_world.specs.Tables.{Tables}
-use Rattle.volume_laws.specs.Writes.{batch_cost, IsPaid}
-use Rattle.volume_laws.specs.Moments.{LeavesEither}
-use Rattle.volume_laws.proofs.BlockLaws.{length-filled}
-use Rattle.volume_laws.proofs.Costs.{paid}
-use Rattle.volume_laws.proofs.Committed.{written_ok, written_moments, told_geometry, told_inside, ok_map}
-use Rattle.volume_laws.proofs.OwedLaws.{written_owed}
-use Rattle.volume_laws.proofs.DataLaws.{data_committed, written_keeps}
-use Rattle.volume_laws.proofs.RingLaws.{commits_once}
-use Rattle.volume_laws.specs.Data.{KeepsData}
+use Rattle.std.specs.Prelude.{ℕ}
 use Rattle.volume.proofs.volume.Volume.write_block.Goals as goal
 
 -- the bytes as the body has them are those of the clause

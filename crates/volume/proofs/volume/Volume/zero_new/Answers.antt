@@ -1,17 +1,8 @@
 use Rattle.std.proofs.Common.{◌≡◌, ◌<◌, ℕ, true, ◌∙◌, ap, sym, subst}
-use Rattle.tsd_model.specs.declared.geometry.Geometry.{Geometry}
-use Rattle.tsd_model.specs.World.{has_number}
+use Rattle.volume.proofs.Common.{Geometry, has_number, IsConfined, Volume, is_data, data_confined, ok_map, free_inside, data_unused, zero_done, zeroed_at, journal_low, unused_owed, on_ok}
 use Rattle.image_device.specs.Image.{zeros}
-use Rattle.image_device.specs.Runs.{IsConfined}
 use Rattle.image_layout.specs.Offsets.{data_sector}
-use Rattle.volume_laws.specs.Volume.{Volume}
-use Rattle.volume_laws.specs.Zeroed.{is_data}
-use Rattle.volume_laws.proofs.DataLaws.{data_confined}
-use Rattle.volume_laws.proofs.Committed.{ok_map}
 use Rattle.volume_laws.proofs.Loose.{unused_moments}
-use Rattle.volume_laws.proofs.ZeroedLaws.{free_inside, data_unused, zero_done, zeroed_at, journal_low}
-use Rattle.volume_laws.proofs.OwedLaws.{unused_owed}
-use Rattle.image_device.proofs.Outcomes.{on_ok}
 use Rattle.volume.proofs.volume.Volume.zero_new.Goals as goal
 
 pub zero_blocks-outcome-requires : goal.zero_blocks-outcome-requires
