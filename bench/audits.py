@@ -1,4 +1,5 @@
-"""What `audit` and `verify` take beside `check`, of the largest disk with every block in one chain, the longest search."""
+"""What `audit` and `verify` take beside `check`, of the largest disk with every block in one chain, the longest
+search."""
 
 from __future__ import annotations
 

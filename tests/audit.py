@@ -1,6 +1,6 @@
-"""The commands `audit` and `verify` (docs/FORMAT.md, "Certificates"): worked disks, each answer at its least block and pair;
-graphs drawn at random with certificates that are spoiled, against a model; lines in every form and cut everywhere; the disk
-that a load of 2,000 requests leaves; and a chain of a million blocks.
+"""The commands `audit` and `verify` (docs/FORMAT.md, "Certificates"): worked disks, each answer at its least block and
+pair; graphs drawn at random with certificates that are spoiled, against a model; lines in every form and cut everywhere;
+the disk that a load of 2,000 requests leaves; and a chain of a million blocks.
 """
 
 from __future__ import annotations
@@ -76,7 +76,8 @@ def world_of(blocks: int, primaries: int, pairs: Sequence[Pair]) -> World:
     """A world of these pointers, whose blocks are empty."""
     live = set(range(primaries)) | {block for pair in pairs for block in pair}
     records = (bytes.fromhex(R + W),) * primaries
-    return World(Geometry(1, blocks, primaries, 4 * blocks), 1, {block: bytes(512) for block in live}, set(pairs), records)
+    contents = {block: bytes(512) for block in live}
+    return World(Geometry(1, blocks, primaries, 4 * blocks), 1, contents, set(pairs), records)
 
 
 def lay(path: Path, world: World) -> None:
@@ -98,7 +99,8 @@ def both_results(name: str, path: Path, world: World, program: Program) -> Itera
 
 def chain_results(path: Path, program: Program) -> Iterator[Result]:
     """A chain of four blocks that requests made, each answer to its certificate, and lines cut everywhere."""
-    lines = [b"open 1"] + [b"alloc 1 %d %s %d 1" % (block, (b"-", W.encode())[block == 0], block + 1) for block in range(3)]
+    shown = [W.encode(), b"-", b"-"]
+    lines = [b"open 1"] + [b"alloc 1 %d %s %d 1" % (block, shown[block], block + 1) for block in range(3)]
     run = program.run([path, "fresh", "8", "1", R, W, "near"], b"\n".join(lines) + b"\n")
     yield compared("a chain is made", (0, b"ok\nblocks 1\nblocks 2\nblocks 3\n"), (run.status, run.out))
     run = program.run([path, "audit"])
@@ -108,10 +110,12 @@ def chain_results(path: Path, program: Program) -> Iterator[Result]:
         yield compared(f"the model, {text!r:.60}", answer + b"\n", answer_to(text, world))
         run = program.run([path, "verify"], text)
         yield compared(f"verify, {text!r:.60}", (0, answer + b"\n", b""), tuple(run))
-        found = [tuple(program.run_in_pieces([path, "verify"], text, sizes)) for sizes in SIZES if len(text) < 1000 or sizes > (1,)]
+        cuts = [sizes for sizes in SIZES if len(text) < 1000 or sizes > (1,)]
+        found = [tuple(program.run_in_pieces([path, "verify"], text, sizes)) for sizes in cuts]
         yield compared(f"in pieces, {text!r:.60}", [(0, answer + b"\n", b"")] * len(found), found)
     for line in UNSPELLED:
-        found = [program.run([path, "verify"], text).out for text in (line, line + b"\n", CHAIN + line, CHAIN + line + b"\n" + CHAIN)]
+        texts = (line, line + b"\n", CHAIN + line, CHAIN + line + b"\n" + CHAIN)
+        found = [program.run([path, "verify"], text).out for text in texts]
         yield compared(f"no form, {line!r:.60}", [b"no form 1\n"] * 2 + [b"no form 5\n"] * 2, found)
 
 
@@ -166,7 +170,8 @@ def spoiled(numbers: random.Random, world: World) -> bytes:
             rows[at] = (*rows[at][:2], numbers.choice([None, *range(world.geometry.n + 1)]))
         elif kind == 3:
             new = numbers.randrange(world.geometry.n)
-            rows = sorted({row[0]: row for row in [*rows, (new, numbers.randrange(4), numbers.randrange(world.geometry.n))]}.values())
+            row = (new, numbers.randrange(4), numbers.randrange(world.geometry.n))
+            rows = sorted({row[0]: row for row in [*rows, row]}.values())
         elif kind == 4 and numbers.randrange(4) == 0:
             rows.insert(at, rows[at])
         elif kind == 5:
@@ -198,7 +203,8 @@ def load_results(path: Path, program: Program) -> Iterator[Result]:
     world = read_image(path.read_bytes())
     text = certificate_of(world)
     yield compared("the certificate after a load", (0, text, b""), tuple(program.run([path, "audit"])))
-    yield compared("it is answered yes", (0, b"yes %d\n" % text.count(b"\n"), b""), tuple(program.run([path, "verify"], text)))
+    yes = b"yes %d\n" % text.count(b"\n")
+    yield compared("it is answered yes", (0, yes, b""), tuple(program.run([path, "verify"], text)))
 
 
 def mirror_results(folder: Path, program: Program) -> Iterator[Result]:
@@ -206,7 +212,8 @@ def mirror_results(folder: Path, program: Program) -> Iterator[Result]:
     one, two = folder / "one.img", folder / "two.img"
     lay(one, world_of(8, 1, ((0, 1), (1, 2), (2, 3))))
     yield compared("a certificate of a mirror", (0, CHAIN, b""), tuple(program.run(["mirror", one, two, "audit"])))
-    yield compared("verified on a mirror", (0, b"yes 4\n", b""), tuple(program.run(["mirror", one, two, "verify"], CHAIN)))
+    verified = tuple(program.run(["mirror", one, two, "verify"], CHAIN))
+    yield compared("verified on a mirror", (0, b"yes 4\n", b""), verified)
     yield compared("the copy, verified alone", (0, b"yes 4\n", b""), tuple(program.run([two, "verify"], CHAIN)))
 
 
@@ -221,9 +228,11 @@ def large_results(path: Path, program: Program) -> Iterator[Result]:
     found = passed("a chain of a million") if (run.status, run.out) == (0, text) else failed(
         "a chain of a million", f"{run.status} {run.error!r}, {len(run.out)} bytes")
     yield found
-    yield compared("a chain of a million, verified", (0, b"yes %d\n" % LARGE, b""), tuple(program.run([path, "verify"], text)))
+    verified = tuple(program.run([path, "verify"], text))
+    yield compared("a chain of a million, verified", (0, b"yes %d\n" % LARGE, b""), verified)
     cut = text[:text.rindex(b"block")]
-    yield compared("without its last block", b"no open %d %d\n" % (LARGE - 2, LARGE - 1), program.run([path, "verify"], cut).out)
+    refused = b"no open %d %d\n" % (LARGE - 2, LARGE - 1)
+    yield compared("without its last block", refused, program.run([path, "verify"], cut).out)
 
 
 def run(context: Context) -> Iterator[Result]:

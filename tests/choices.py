@@ -1,6 +1,7 @@
-"""Which free blocks are taken, where the search goes by groups of 256: each kind of placement, hints at the edges of
-groups, inside, past the disk and at the greatest number, in disks whose groups are full, empty, or hold few free blocks
-at their edges. What is expected is sorted by rank as docs/FORMAT.md gives it, without any groups.
+"""Which free blocks are taken, where the search goes by groups of 256, stretches of 16 groups and regions of 16
+stretches: each kind of placement, hints at the edges of all three, inside, past the disk and at the greatest number, in
+disks whose groups and regions are full, empty, or hold few free blocks at their edges. What is expected is sorted by
+rank as docs/FORMAT.md gives it, without any groups.
 
 Each block that was taken is given back before the next request, so all requests to one disk meet the same free blocks.
 """
@@ -22,6 +23,8 @@ from program import Program
 NAME = "choices"
 W = WRITE_CAP.hex()
 GROUP = 256
+STRETCH = 16 * GROUP
+REGION = 16 * STRETCH
 LAST_HINT = 2**32 - 1
 COUNTS = (1, 2, 31, 32)
 SMALL_BLOCKS = 5 * GROUP + 24
@@ -100,6 +103,11 @@ def hints_of(blocks: int) -> List[int]:
     return edges + [blocks, blocks + 700, 2**31, LAST_HINT - GROUP, LAST_HINT]
 
 
+def asks_at(hints: List[int]) -> List[Ask]:
+    """Requests of both words for few and for many blocks, with each of these hints."""
+    return [Ask(word, hint, count) for hint in hints for count in COUNTS for word in ("alloc", "contig")]
+
+
 def small_disks(rng: random.Random) -> Dict[str, Set[int]]:
     """Sets of free blocks of a disk of six groups, the last of them cut off."""
     blocks = range(1, SMALL_BLOCKS)
@@ -121,7 +129,7 @@ def small_disks(rng: random.Random) -> Dict[str, Set[int]]:
 def small_results(context: Context, program: Program) -> Iterator[Result]:
     """Disks of six groups, for each kind, hint and count."""
     path = context.folder / "choices.img"
-    asks = [Ask(word, hint, count) for hint in hints_of(SMALL_BLOCKS) for count in COUNTS for word in ("alloc", "contig")]
+    asks = asks_at(hints_of(SMALL_BLOCKS))
     for name, free in small_disks(context.random("small choices")).items():
         write_disk(path, SMALL_BLOCKS, free)
         ascending = sorted(free)
@@ -131,7 +139,7 @@ def small_results(context: Context, program: Program) -> Iterator[Result]:
 
 
 def holes_of(rng: random.Random, blocks: int) -> Set[int]:
-    """Holes of a large disk: a few hundred runs of free blocks, some over edges of groups, and one in its last block."""
+    """Holes of a large disk: a few hundred runs of free blocks, some over edges of groups, and its last block."""
     free = {blocks - 1}
     for _ in range(400):
         first = rng.choice((rng.randrange(1, blocks), GROUP * rng.randrange(1, blocks // GROUP) - rng.randrange(12)))
@@ -139,16 +147,31 @@ def holes_of(rng: random.Random, blocks: int) -> Set[int]:
     return free
 
 
+def long_hints(blocks: int) -> List[int]:
+    """Hints at the edges of stretches and regions."""
+    return [edge + step for edge in (STRETCH, REGION, blocks - REGION, blocks - STRETCH) for step in (-1, 0, 1)]
+
+
+def edges_of_regions(blocks: int) -> Set[int]:
+    """A few free blocks on both sides of each edge between two regions, and the last block of all."""
+    return {edge + step for edge in range(REGION, blocks, REGION) for step in (-40, -3, -2, -1, 0, 1)} | {blocks - 1}
+
+
 def large_results(context: Context, program: Program) -> Iterator[Result]:
     """A large disk with holes, and the same with few live blocks in the places of the holes."""
     path, rng = context.folder / "holes.img", context.random("large choices")
     blocks = CHECKED_BLOCKS if is_checked(program) else LARGE_BLOCKS
-    hints = [*hints_of(blocks), *(rng.randrange(blocks) for _ in range(10))]
-    asks = [Ask(word, hint, count) for hint in hints for count in COUNTS for word in ("alloc", "contig")]
+    hints = [*hints_of(blocks), *long_hints(blocks), *(rng.randrange(blocks) for _ in range(10))]
+    asks = asks_at(hints)
     holes = holes_of(rng, blocks)
     write_disk(path, blocks, holes)
     for place in PLACES:
         yield result(f"{blocks} blocks with holes", program, path, place, list(rows_of(place, sorted(holes), asks)))
+    edges = sorted(edges_of_regions(blocks))
+    write_disk(path, blocks, set(edges))
+    for place in PLACES:
+        yield result(f"{blocks} blocks, free at edges of regions", program, path, place,
+                     list(rows_of(place, edges, asks)))
     write_disk(path, blocks, set(range(1, blocks)) - holes)
     ascending = sorted(set(range(1, blocks)) - holes)
     for place in PLACES:

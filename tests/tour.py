@@ -1,4 +1,5 @@
-"""What the documents offer to try, pasted into a shell as it stands, in a fresh folder with a `tsd` that runs the program."""
+"""What the documents offer to try, pasted into a shell as it stands, in a fresh folder with a `tsd` that runs the
+program."""
 
 from __future__ import annotations
 
