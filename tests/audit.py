@@ -1,6 +1,6 @@
 """The commands `audit` and `verify` (docs/FORMAT.md, "Certificates"): worked disks, each answer at its least block and
-pair; graphs drawn at random with certificates that are spoiled, against a model; lines in every form and cut everywhere;
-the disk that a load of 2,000 requests leaves; and a chain of a million blocks.
+pair; graphs drawn at random with certificates that are spoiled, against a model; lines in every form and cut
+everywhere; the disk that a load of 2,000 requests leaves; and a chain of a million blocks.
 """
 
 from __future__ import annotations

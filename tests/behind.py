@@ -1,5 +1,5 @@
-"""What lies behind the image in a file stays, whatever the command: bytes from the disk's total of sectors on, which may
-be anybody's. Each command is done over a file that is longer than its disk and full of drawn bytes.
+"""What lies behind the image in a file stays, whatever the command: bytes from the disk's total of sectors on, which
+may be anybody's. Each command is done over a file that is longer than its disk and full of drawn bytes.
 """
 
 from __future__ import annotations

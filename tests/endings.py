@@ -31,8 +31,8 @@ Word = Union[str, bytes]
 
 USAGES: Sequence[List[Word]] = (
     ["run"], ["run", "nearest"], ["run", "Near"], ["run", ""], ["run", "near", "x"], ["serve"], ["serve", "1"],
-    ["check", "x"], ["Check"], ["check "], ["upgrade", "2"], ["audit", "1"], ["verify", "-"], ["open"], [""], ["run near"],
-    [b"\xff"], ["run", b"\xff"],
+    ["check", "x"], ["Check"], ["check "], ["upgrade", "2"], ["audit", "1"], ["verify", "-"], ["open"], [""],
+    ["run near"], [b"\xff"], ["run", b"\xff"],
     ["fresh", "7", "1", R, W, "near"], ["fresh", "1048577", "1", R, W, "near"], ["fresh", "8", "0", R, W, "near"],
     ["fresh", "8", "3", R, W, "near"], ["fresh", "8", "16", R, W, "near"], ["fresh", "+8", "1", R, W, "near"],
     ["fresh", "00000000008", "1", R, W, "near"], ["fresh", "4294967304", "1", R, W, "near"],

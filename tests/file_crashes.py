@@ -2,8 +2,8 @@
 
 A case makes a disk with two primary blocks, keeps something under the one that isn't the root, and then has lines of
 the shell carried out under the other. Each image must stand for a world in which the tree under the root is the one
-after the lines that were answered, or after one more, and in which what the root doesn't reach is as it was. Some images are
-opened by the program itself: it must find that tree, and leave nothing that the contents don't name.
+after the lines that were answered, or after one more, and in which what the root doesn't reach is as it was. Some
+images are opened by the program itself: it must find that tree, and leave nothing that the contents don't name.
 """
 
 from __future__ import annotations
