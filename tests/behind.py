@@ -97,7 +97,7 @@ def size_results(context: Context, size: Tuple[int, int, int, int]) -> Iterator[
     total = sectors_of(blocks, sectors, slots)
     path.write_bytes(drawn.randbytes(SECTOR * (total + MORE)))
     behind = path.read_bytes()[SECTOR * total:]
-    run = runner.run([path, "format", *map(str, size[:3]), str(primaries), SEED])
+    run = runner.run(["--overwrite", path, "format", *map(str, size[:3]), str(primaries), SEED])
     name = f"{blocks} blocks of {sectors}"
     yield compared(f"{name}: format", (0, total), (run.status, total_of(path.read_bytes())))
     yield compared(f"{name}: format leaves what lies behind", behind, path.read_bytes()[SECTOR * total:])
@@ -122,10 +122,10 @@ def fresh_results(context: Context) -> Iterator[Result]:
     text = changes(Caps("aa" * 16, "bb" * 16))
     for path in (one, two):
         path.write_bytes(content)
-    run = runner.run([one, *words], text)
+    run = runner.run(["--overwrite", one, *words], text)
     total = total_of(one.read_bytes())
     yield compared("fresh", (0, content[SECTOR * total:]), (run.status, one.read_bytes()[SECTOR * total:]))
-    run = runner.run(["mirror", one, two, "run", "near"], text)
+    run = runner.run(["--overwrite", "mirror", one, two, "run", "near"], text)
     yield compared("a mirror", 0, run.status)
     for path in (one, two):
         yield compared(f"a mirror leaves what lies behind {path.name}", content[SECTOR * total:],

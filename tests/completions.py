@@ -1,5 +1,5 @@
 """Completion in bash and in zsh, each the real shell at a terminal, which is asked what may stand at the end of a line;
-and that the man page is set without a warning. A shell that isn't there is skipped."""
+and that the man pages are set without a warning. A shell that isn't there is skipped."""
 
 from __future__ import annotations
 
@@ -33,11 +33,15 @@ PLACES = frozenset({"low", "near", "spread", "zone"})
 TOPICS = frozenset({"mirror", "requests", "replies"})
 SECTORS = frozenset({"1", "2", "4", "8"})
 CASES: Dict[str, FrozenSet[str]] = {
-    "tsd ": IMAGES | {"mirror", "help", "--help", "--version", "-"},
+    "tsd ": IMAGES | {"mirror", "help", "--help", "--version", "--overwrite", "-"},
+    "tsd --overwrite o": frozenset({"other.img"}),
+    "tsd --overwrite disk.img sh": frozenset({"shell"}),
+    "tsd --overwrite mirror disk.img other.img run ": PLACES,
     "tsd o": frozenset({"other.img"}),
     "tsd disk.img sh": frozenset({"shell"}),
     "tsd disk.img run ": PLACES,
     "tsd disk.img serve s": frozenset({"spread"}),
+    "tsd disk.img group ": PLACES,
     "tsd disk.img shell ": frozenset({"inode", "chain"}),
     "tsd disk.img shell inode 0 @": IMAGES,
     "tsd disk.img shell inode 0 @disk.img ": PLACES,
@@ -54,10 +58,30 @@ CASES: Dict[str, FrozenSet[str]] = {
     "tsd mirror disk.img other.img run ": PLACES,
     "tsd mirror disk.img other.img fresh 8 ": SECTORS,
 }
+# Of tsd-shell.
+CASES.update({
+    "tsd-shell ": IMAGES,
+    "tsd-shell disk.img ": frozenset({"inode", "chain"}),
+    "tsd-shell disk.img c": frozenset({"chain"}),
+    "tsd-shell disk.img inode 0 ": PLACES,
+    "tsd-shell disk.img inode 0 --cap-file ": IMAGES,
+    "tsd-shell --cap-file disk.img o": frozenset({"other.img"}),
+    "tsd-shell disk.img inode 0 near --l": frozenset({"--limit"}),
+})
+# Of tsd-hub.
+CASES.update({
+    "tsd-hub ": IMAGES,
+    "tsd-hub disk.img ": PLACES,
+    "tsd-hub disk.img near --so": frozenset({"--socket"}),
+    "tsd-hub disk.img near --socket ": IMAGES,
+    "tsd-hub --per-user 4 disk.img s": frozenset({"spread"}),
+    "tsd-hub disk.img near --mode ": frozenset({"600", "660", "666"}),
+    "tsd-hub --stats o": frozenset({"other.img"}),
+})
 
 BASH = f"""
 PS1='{PROMPT.decode()}'
-. '%s/completions/tsd.bash'
+for file in '%s'/completions/*.bash; do . "$file"; done
 bind 'set completion-query-items 0'
 bind 'set page-completions off'
 bind 'set completion-display-width 0'
@@ -150,18 +174,19 @@ def in_shell(name: str, script: str, context: Context) -> Iterator[Result]:
         shell.end()
 
 
-def man_page(context: Context) -> Result:
-    """The page is set, and nothing is told of it."""
-    name = "the man page is set without a warning"
-    if shutil.which("groff") is None:
-        return skipped(name, "no groff is there")
-    words = ["groff", "-ww", "-man", "-Tutf8", "-z", str(context.top / "man" / "tsd.1")]
-    ran = subprocess.run(words, capture_output=True, text=True)
-    return compared(name, (0, ""), (ran.returncode, ran.stderr))
+def man_pages(context: Context) -> Iterator[Result]:
+    """Each page is set, and nothing is told of it."""
+    for page in sorted((context.top / "man").glob("*.1")):
+        name = f"the man page {page.name} is set without a warning"
+        if shutil.which("groff") is None:
+            yield skipped(name, "no groff is there")
+            continue
+        ran = subprocess.run(["groff", "-ww", "-man", "-Tutf8", "-z", str(page)], capture_output=True, text=True)
+        yield compared(name, (0, ""), (ran.returncode, ran.stderr))
 
 
 def run(context: Context) -> Iterator[Result]:
-    """Both shells, and the page."""
+    """Both shells, and the pages."""
     yield from in_shell("bash", BASH, context)
     yield from in_shell("zsh", ZSH, context)
-    yield man_page(context)
+    yield from man_pages(context)

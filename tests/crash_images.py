@@ -100,12 +100,13 @@ def sectors_in(data: bytes) -> Iterator[Tuple[int, bytes]]:
 
 
 class Progress:
-    """How far a run has come at a moment, as the judge needs it: bytes sent, syncs that answered, whether input was
-    taken, and whether the format gate was opened or another sector than that was written, or begun to be."""
+    """How far a run has come at a moment, as the judge needs it: bytes sent, syncs that answered, bytes taken, whether
+    input was taken, and whether the format gate was opened or another sector than that was written, or begun to be."""
 
     def __init__(self) -> None:
         self.sent = 0
         self.syncs = 0
+        self.taken = 0
         self.took_input = False
         self.opened_gate = False
         self.wrote_elsewhere = False
@@ -131,6 +132,7 @@ def moments(medium: Medium, events: Sequence[Event]) -> Iterator[Tuple[int, Prog
         elif event.kind == PUT:
             progress.sent += max(event.answer, 0)
         elif event.kind == INPUT:
+            progress.taken += max(event.answer, 0)
             progress.took_input |= event.answer > 0
         if event.kind in (WRITE, SYNC, PUT):
             yield number, progress

@@ -28,6 +28,7 @@ from judging import (
     course_of_requests, course_of_upgrade, difference, judge_image, matching,
 )
 from parts import Context, Result, failed, passed, skipped
+from program import without_length
 from recording import NoRecorder, Recorder, Recording
 
 NAME = "crashes"
@@ -259,7 +260,7 @@ class History:
     def ask(self, words: Tuple[object, ...], text: bytes, status: int, out: bytes, error: bytes) -> None:
         """One run over an opened image."""
         recording = self.recorder.run(self.scratch, words, text)
-        if (recording.status, recording.out, recording.error) != (status, out, error):
+        if (recording.status, recording.out, without_length(recording.error)) != (status, out, error):
             raise Different(f"an image opened by `{' '.join(map(str, words))}` with\n{text.decode(errors='replace')}\n"
                             f"gave {recording.status} {recording.error!r}\n{recording.out!r}\n"
                             f"where this is right: {status} {error!r}\n{out!r}")

@@ -10,7 +10,7 @@ from disk_model import SECTOR, Geometry, World
 from image_reader import Fault, read_image
 from image_writer import FIELDS, Image
 from parts import Context, Result, compared, failed
-from program import Program, write_image
+from program import Program, without_length, write_image
 
 READ_CAP, WRITE_CAP = b"\xaa" * 16, b"\xbb" * 16
 SIZE_FIELDS = ("sectors", "blocks", "primaries", "slots")
@@ -61,7 +61,8 @@ def line_result(name: str, line: str, content: bytes, context: Context, program:
     """What `check` puts of an image, and what the reader of tests/ says; one that is none isn't changed."""
     path = context.folder / "cut.img"
     write_image(path, content)
-    run = tuple(program.run([path, "check"]))
+    status, out, told = program.run([path, "check"])
+    run = status, out, without_length(told)
     is_sound = line.startswith("clean")
     error = b"" if is_sound else f"tsd: not an image: {line}\n".encode()
     found = compared(name, (0 if is_sound else 3, f"{line}\n".encode(), error), run)

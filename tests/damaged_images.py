@@ -10,7 +10,7 @@ from disk_model import SECTOR, Geometry, World, digests
 from image_reader import Fault, read_image
 from image_writer import FIELDS, FORMAT_GATE, RECORDS, SWEEP_FLAG, Image, gate_at
 from parts import Context, Result, compared, failed, passed
-from program import Program, write_image
+from program import Program, without_length, write_image
 
 SEED = "00" * 32
 PAIRS = {(0, 2), (0, 3), (1, 4), (2, 5), (3, 5), (5, 6), (6, 6)}
@@ -254,7 +254,8 @@ def fault_result(name: str, line: str, image: Image, context: Context, program: 
     error = f"tsd: not an image: {line}\n".encode()
     expected = [(3, line.encode() + b"\n", error)] + [(3, b"", error)] * len(OTHER_COMMANDS)
     write_image(path, text)
-    runs = [tuple(program.run([path] + words)) for words in (["check"], *OTHER_COMMANDS)]
+    all_runs = [program.run([path] + words) for words in (["check"], *OTHER_COMMANDS)]
+    runs = [(run.status, run.out, without_length(run.error)) for run in all_runs]
     found = compared(name, expected, runs)
     if found.text:
         return found

@@ -269,7 +269,7 @@ def write_results(recorder: Recorder, program: Program, image: Path) -> Iterator
 # --- what a format leaves ---
 
 def format_results(recorder: Recorder, image: Path) -> Iterator[Result]:
-    """Two disks over a file that holds anything: which sectors are written, with what, and which are left."""
+    """Two disks over a file that begins as a disk does and holds anything: which sectors are written, with what, and which are left."""
     yield from formatted_results(recorder, image, Size(8, 1, 8, 1), 18, {
         0: b"TSDISK01" + numbers(1, 1, 8, 1, 8), 1: b"\1", 132: caps_of(1), 135: b"\1",
     }, [2, 117, 119, 121, 123, 125, 127, 129, 131, 133, 134, 136, 137])
@@ -295,7 +295,7 @@ def formatted_results(
     end, rubbish = 160, b"\xee" * SECTOR
     image.unlink(missing_ok=True)
     image.touch(mode=0o600)
-    image.write_bytes(rubbish * end)
+    image.write_bytes(b"TSDISK01" + (rubbish * end)[8:])
     recording = recorder.run(image, size.words())
     kinds = [event.kind for event in recording.events]
     name = f"a format of {size.blocks} blocks of {size.sectors}"

@@ -30,7 +30,7 @@ from judging import (
 )
 from parts import Context, Result, failed, passed, skipped
 from recording import INPUT, PUT, READ, SYNC, WRITE, NoRecorder, Recorder, Recording
-from rows import CHAIN_OF_40, POINTERS_32, Row
+from rows import CHAIN_OF_40, POINTERS_32, Row, course_of_groups
 
 NAME = "failing_calls"
 READ_CAP, WRITE_CAP = b"\xaa" * 16, b"\xbb" * 16
@@ -155,6 +155,8 @@ def scenes(recorder: Recorder, image: Path) -> List[Scene]:
               lambda: course_of_requests(before, disk(), CAPS, requests, False)),
         Scene("serve", 4, data, ("serve", "low"), text_of(requests[:8], True),
               lambda: course_of_requests(before, disk(), CAPS, requests[:8], True)),
+        Scene("group", 2, data, ("group", "low"), text_of(requests, True),
+              lambda: course_of_groups(before, disk(), CAPS, requests)),
         Scene("fresh", 1, b"", fresh_words, text_of(requests[:3], False),
               lambda: course_of_requests(nothing, fresh(), CAPS, requests[:3], False, formats=True)),
         Scene("format", 1, b"", ("format", 8, 1, 32, 2, SEED.hex()), b"", formatted),
@@ -293,7 +295,7 @@ class Trying:
     def requests_in(self, taken: int) -> int:
         """How many whole requests stand in so many bytes of the input."""
         text = self.scene.text[:taken]
-        if self.scene.words[0] != "serve":
+        if self.scene.words[0] not in ("serve", "group"):
             return text.count(b"\n")
         count = at = 0
         while at + 2 <= len(text) and at + 2 + int.from_bytes(text[at:at + 2], "little") <= len(text):

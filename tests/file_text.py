@@ -52,7 +52,7 @@ def parse_data(word: bytes) -> Optional[bytes]:
     if word == b"-":
         return b""
     is_whole = 2 <= len(word) <= MOST_DIGITS and len(word) % 2 == 0
-    return bytes.fromhex(word.decode()) if is_whole and all(byte in DIGITS for byte in word) else None
+    return bytes.fromhex(word.decode()) if is_whole and not set(word) - set(DIGITS) else None
 
 
 def parse_ask(line: bytes, kind: str) -> Optional[Ask]:

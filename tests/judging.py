@@ -36,7 +36,8 @@ class Course:
 
     `before` is what a crash before the first sync may leave. `formats`: the run makes the disk first, and `old_gate` is
     what the sector of the format gate reads as before that. `takes_input`: nothing is carried out before a byte of
-    input was taken. `is_one_answer`: many requests with one answer in the end.
+    input was taken. `is_one_answer`: many requests with one answer in the end. `ends`: of group commit, where each
+    request ends in the input; `boundaries`: the only numbers of requests that may be on the disk.
     """
 
     def __init__(self, before: Sequence[Standing], start: Standing, formats: bool = False) -> None:
@@ -47,6 +48,8 @@ class Course:
         self.old_gate = ZEROS
         self.takes_input = False
         self.is_one_answer = False
+        self.ends: Optional[List[int]] = None
+        self.boundaries: Optional[List[int]] = None
 
     def out(self) -> bytes:
         """All that the run sends."""
@@ -68,7 +71,18 @@ class Course:
         if self.takes_input and not progress.took_input:
             return self.prefixes[:1]
         whole = min(self.whole_answers(progress.sent), last)
+        if self.ends is not None:
+            return self.of_groups(whole, self.requests_in(progress.taken))
         return self.prefixes[whole:whole + 2]
+
+    def requests_in(self, taken: int) -> int:
+        """Of group commit: how many whole requests are among so many bytes of the input."""
+        return bisect_right(self.ends or [], taken)
+
+    def of_groups(self, answered: int, taken: int) -> List[Standing]:
+        """Of group commit: every answered request counts, and none that was not taken."""
+        counts = range(answered, taken + 1)
+        return [self.prefixes[count] for count in counts if self.boundaries is None or count in self.boundaries]
 
     def while_formatting(self, progress: Progress) -> List[Standing]:
         """The same before the format gate is open and firm."""

@@ -6,6 +6,7 @@ values come from `tsd help mirror` and README."""
 from __future__ import annotations
 
 import os
+import random
 import resource
 import signal
 import subprocess
@@ -25,6 +26,8 @@ FRESH = ["fresh", "8", "1", R, W, "near"]
 WRITE_ONE = f"open 1\nwrite 1 0 {W} 01\n".encode()
 READ_ONE = f"open 1\nread 1 0 {R}\n".encode()
 SECTOR = 512
+# What stands behind the name of an image in that of its mark.
+MARK = ".went-on-alone"
 CHECKED = b"clean 1 7 0\n"
 SCRIPTS: Sequence[tuple] = (
     (["run", "near"], READ_ONE, b"ok\ndata 01\n"),
@@ -38,6 +41,13 @@ SCRIPTS: Sequence[tuple] = (
 def without_end(image: Path) -> bytes:
     """The bytes of an image up to the last that isn't zero: behind its end a file reads as zeros."""
     return image.read_bytes().rstrip(b"\0")
+
+
+def differing(one: bytes, two: bytes) -> int:
+    """In how many sectors these differ: behind its end a file reads as zeros."""
+    length = -(-max(len(one), len(two)) // SECTOR) * SECTOR
+    one, two = one.ljust(length, b"\0"), two.ljust(length, b"\0")
+    return sum(one[at:at + SECTOR] != two[at:at + SECTOR] for at in range(0, length, SECTOR))
 
 
 def at_most(count: int) -> Callable[[], None]:
@@ -84,8 +94,9 @@ def copied_results(folder: Path, program: Program) -> Iterator[Result]:
         if content is not None:
             two.touch(mode=0o600)
             two.write_bytes(content)
-        run = program.run(["mirror", one, two, "run", "near"], READ_ONE)
-        yield compared(f"over a second image that is {name}", (0, b"ok\ndata 01\n", b""), tuple(run))
+        wanted = f"tsd: {two}: {differing(before, content or b'')} sectors were copied to it from {one}\n".encode()
+        run = program.run(["--overwrite", "mirror", one, two, "run", "near"], READ_ONE)
+        yield compared(f"over a second image that is {name}", (0, b"ok\ndata 01\n", wanted), tuple(run))
         yield compared(f"it becomes a copy, {name}", without_end(one), without_end(two))
     one.unlink()
     two.unlink()
@@ -107,12 +118,60 @@ def lost_results(folder: Path, program: Program) -> Iterator[Result]:
     run = program.run(["mirror", one, two, "run", "near"], READ_ONE, at_most(100 * SECTOR))
     yield compared("a second image that is full while it is copied", (11, b"ok\ndata 01\n"), (run.status, run.out))
     yield compared("the side that is lost is told", b"tsd: side lost, second", run.error.splitlines()[-1])
+    wanted = f"tsd: {two}: {differing(one.read_bytes(), two.read_bytes())} sectors were copied to it from {one}\n"
     run = program.run(["mirror", one, two, "run", "near"], READ_ONE)
-    yield compared("brought back in the next run", (0, b"ok\ndata 01\n", b""), tuple(run))
+    yield compared("brought back in the next run", (0, b"ok\ndata 01\n", wanted.encode()), tuple(run))
     yield compared("both are alike again", without_end(one), without_end(two))
     run = program.run(["mirror", one, two, *FRESH], b"", at_most(3 * SECTOR))
     yield compared("both are full", (4, b""), (run.status, run.out))
     yield compared("a device fault is told", b"tsd: device fault", run.error.splitlines()[-1])
+
+
+# What is changed in an image that a write was answered on: the byte's offset, what it becomes, and what `check` says.
+BITMAP = 135
+CHANGES: Sequence[Tuple[str, int, int, bytes]] = (
+    ("its format gate closed", 1 * SECTOR, 0, b"not-formatted\n"),
+    ("another magic", 0, 0, b"header magic\n"),
+    ("block 1 live with a count of 1", 134 * SECTOR + 4, 1, b"damaged count 1 1 0\n"),
+    ("a primary block that isn't live", BITMAP * SECTOR, 0, b"damaged primary 0\n"),
+)
+OPENING: Sequence[Sequence[str]] = (
+    ["run", "near"], ["serve", "near"], ["check"], ["upgrade"], ["audit"], ["verify"], ["load", "00" * 32, "5", "near"],
+    ["shell", "inode", "0", W, "near"], ["copyfs", "inode", "0", W, "chain", "0", W, "near"],
+)
+
+
+def tested_results(folder: Path, program: Program) -> Iterator[Result]:
+    """A first image that stands for no world is refused before the copying: the second one, a good disk, is as it was
+    to the byte, and so is the first. `check` says what is wrong with the first one, the others nothing."""
+    one, two = folder / "bad.img", folder / "good.img"
+    program.run([two, *FRESH], WRITE_ONE)
+    good = two.read_bytes()
+    bad: List[Tuple[str, bytes, bytes]] = [
+        ("an empty file", b"", b"not-formatted\n"),
+        ("random bytes", random.Random(58).randbytes(len(good)), b"not-formatted\n"),
+    ]
+    for name, at, value, line in CHANGES:
+        changed = bytearray(good.ljust(max(len(good), at + 1), b"\0"))
+        changed[at] = value
+        bad.append((name, bytes(changed), line))
+    for name, content, line in bad:
+        for words in OPENING:
+            write_image(one, content)
+            write_image(two, good)
+            run = program.run(["mirror", one, two, *words], b"")
+            said = line if words == ["check"] else b""
+            told_last = b"tsd: not an image: " + line.rstrip()
+            yield compared(f"{words[0]}, the first image {name}", (3, said, [told_last]),
+                           (run.status, run.out, run.error.splitlines()[-1:]))
+            kept = two.read_bytes() == good, one.read_bytes() == content
+            yield compared(f"{words[0]}, the first image {name}: the second and the first as they were", (True, True),
+                           kept)
+    write_image(one, good)
+    write_image(two, b"")
+    run = program.run(["mirror", one, two, "check"], b"")
+    yield compared("a good first image is copied as ever", (0, CHECKED, True),
+                   (run.status, run.out, without_end(two) == without_end(one)))
 
 
 def refused_results(folder: Path, program: Program) -> Iterator[Result]:
@@ -159,6 +218,7 @@ class Sides:
         second one is made first, empty."""
         for path, content in zip(self.paths, (self.content, b"")):
             path.unlink(missing_ok=True)
+            path.with_name(path.name + MARK).unlink(missing_ok=True)
             write_image(path, content)
         command = [str(word) for word in (self.recorder.program, "mirror", *self.paths, "run", "near")]
         done = subprocess.run(command, input=text, env=self.recorder.environment(self.paths[side], faults),
@@ -167,13 +227,16 @@ class Sides:
 
     def calls(self, side: int, text: bytes) -> List[Tuple[str, bool]]:
         """The words of its calls that are tried, each with whether it reads ahead, as a read of several sectors does,
-        and the first one of all: such a read is made again for the sector that was asked for."""
+        and the first one of the copying: such a read is made again for the sector that was asked for. So goes a read
+        of the tests of the first image, which come before its first sync: it is made again by the copying."""
         events = [event for event in self.run(side, text).events if event.kind in KIND_WORDS]
+        begun = next((at for at, event in enumerate(events) if event.kind == SYNC), 0) if side == 0 else 0
+        copying = next((at for at, event in enumerate(events) if event.kind == READ and at >= begun), 0)
         words = []
         for at, event in enumerate(events):
             number = sum(other.kind == event.kind for other in events[:at + 1])
             if len(events) - at <= LAST or at % EVERY < 2:
-                is_ahead = event.kind == READ and (event.length > SECTOR or number == 1)
+                is_ahead = event.kind == READ and (event.length > SECTOR or at <= copying)
                 words.append((f"{KIND_WORDS[event.kind]}:{number}", is_ahead))
         return words
 
@@ -187,6 +250,8 @@ def each_fault_result(sides: Sides, program: Program, side: int, name: str) -> R
     """Each call of one image fails in turn, once or from there on: that image is lost, and the other one has the write
     that was answered. Until the second image is a copy the first one can't be lost: the run ends, with nothing sent."""
     wrong, tries, losses = [], 0, 0
+    one, two = sides.paths
+    copied = f"tsd: {two}: {differing(sides.content, b'')} sectors were copied to it from {one}".encode()
     for word, is_ahead in sides.calls(side, WRITE_ONE):
         for fault in (f"{word}:EIO", f"{word}+:EIO"):
             tries += 1
@@ -194,7 +259,7 @@ def each_fault_result(sides: Sides, program: Program, side: int, name: str) -> R
             found = (recording.status, recording.out, recording.error.splitlines()[-1:])
             ends = [(11, b"ok\nok\n", [b"tsd: side lost, " + (b"first", b"second")[side]])]
             if is_ahead and "+" not in fault:
-                ends = [(0, b"ok\nok\n", [])]
+                ends = [(0, b"ok\nok\n", [copied])]
             if side == 0 and found == (4, b"", [b"tsd: device fault"]):
                 read = program.run([sides.paths[0], "check"]).out
                 is_right = read == CHECKED and losses == 0
@@ -274,7 +339,7 @@ def call_results(context: Context, program: Program) -> Iterator[Result]:
 def run(context: Context) -> Iterator[Result]:
     """A result for each thing that was tried."""
     program = Program(context.program)
-    for results in (both_results, copied_results, lost_results, refused_results):
+    for results in (both_results, copied_results, lost_results, tested_results, refused_results):
         folder = context.folder / results.__name__
         folder.mkdir()
         yield from results(folder, program)

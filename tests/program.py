@@ -3,6 +3,7 @@
 from __future__ import annotations
 
 import os
+import re
 import subprocess
 import tempfile
 import threading
@@ -11,6 +12,24 @@ from pathlib import Path
 from typing import Callable, Iterator, NamedTuple, Optional, Sequence, Union
 
 MOST_SECONDS = 120
+
+
+# What the program says beside the fault of an image whose file is shorter than its header says; `slips` tries it.
+SHORTER = re.compile(rb"^tsd: .* is \d+ bytes shorter than its header says: it has \d+ of \d+\n", re.M)
+
+
+# What a mirror says that has copied the first image to the second; `slips` tries it.
+COPIED = re.compile(rb"^tsd: .*: \d+ sectors were copied to it from .*\n", re.M)
+
+
+def without_copying(error: bytes) -> bytes:
+    """What was told on standard error, but for how many sectors a mirror copied."""
+    return COPIED.sub(b"", error)
+
+
+def without_length(error: bytes) -> bytes:
+    """What was told on standard error, but for how much shorter than it should be the image's file is."""
+    return SHORTER.sub(b"", error)
 
 
 class Run(NamedTuple):

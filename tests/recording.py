@@ -95,8 +95,9 @@ class Recorder:
     def run(
         self, image: Path, words: Sequence[object], text: bytes = b"", faults: Sequence[str] = ()
     ) -> Recording:
-        """Runs a command on an image with its words and an input."""
-        command = [str(word) for word in (self.program, image, *words)]
+        """Runs a command on an image with its words and an input. What makes a disk may overwrite whatever is there."""
+        option = ("--overwrite",) if words and words[0] in ("fresh", "format") else ()
+        command = [str(word) for word in (self.program, *option, image, *words)]
         done = subprocess.run(command, input=text, env=self.environment(image, faults), timeout=MOST_SECONDS,
                               capture_output=True)
         self.runs += 1

@@ -4,6 +4,7 @@ changes a disk in a way of its own.
 
 from __future__ import annotations
 
+from itertools import accumulate
 from typing import Callable, List, NamedTuple, Optional, Sequence, Tuple
 
 from crash_requests import text_of
@@ -60,6 +61,15 @@ class Row(NamedTuple):
         if self.is_upgrade:
             return course_of_upgrade(before, disk, CAPS)
         return course_of_requests(before, disk, CAPS, [OPEN, *self.requests], frames=False)
+
+
+def course_of_groups(
+    before: Sequence[Standing], disk: Disk, caps: Caps, requests: Sequence[Optional[Request]]
+) -> Course:
+    """The course of `group`: the answers are those of `serve`."""
+    course = course_of_requests(before, disk, caps, requests, frames=True)
+    course.ends = list(accumulate(len(text_of([request], frames=True)) for request in requests))
+    return course
 
 
 def alloc(source: int, count: int = 1, name: str = "alloc", hint: Optional[int] = None) -> Request:

@@ -19,8 +19,9 @@ from parts import FAILED, PASSED, SKIPPED, Context, Result, failed, skipped
 
 PARTS = (
     "tour", "examples", "disk_rows", "random_runs", "choices", "large", "hubs", "files", "file_rows", "file_crashes",
-    "file_faults", "clients", "judge_faults", "crashes", "crash_rows", "failing_calls", "kills", "mirror", "audit",
-    "copies", "behind", "edge", "completions",
+    "file_faults", "clients", "rust_client", "c_client", "virtual_disks", "moving", "packages", "judge_faults",
+    "crashes", "crash_rows", "failing_calls", "kills", "mirror", "audit", "copies", "behind", "groups", "edge", "slips",
+    "completions",
 )
 TOP = Path(__file__).resolve().parent.parent
 PROGRAMS = (TOP / "dist/x86_64-linux/tsd", TOP / "crates/tsd_cli/out/tsd_cli")

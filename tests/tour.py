@@ -6,16 +6,25 @@ from __future__ import annotations
 import re
 import shutil
 import subprocess
-from typing import Iterator, List, NamedTuple
+from typing import Iterable, Iterator, List, NamedTuple
 
 from parts import Context, Result, compared, failed, skipped
 
 NAME = "tour"
 MOST_SECONDS = 120
 # Pages, and the section of each that has such blocks.
-SECTIONS = (("README.md", "A tour"), ("docs/FILES.md", "Try it"), ("docs/AUDIT.md", "Try it"))
-# What the blocks use beside the program.
+SECTIONS = (
+    ("README.md", "A tour"), ("docs/FILES.md", "Try it"), ("docs/AUDIT.md", "Try it"), ("clients/README.md", "Try it"),
+    ("docs/VIRTUAL_DISKS.md", "Try it"),
+)
+# What the blocks use beside the program, and what those of some pages use besides.
 TOOLS = ("bash", "timeout", "yes", "tail", "od", "awk")
+MORE_TOOLS = {
+    "clients/README.md": ("cc", "cut"),
+    "docs/VIRTUAL_DISKS.md": ("nbdkit", "nbdcopy", "python3", "cmp"),
+}
+# What of the clone such pages name.
+FOLDERS = ("clients", "contrib", "python")
 # A block and the one below it, which has what it prints.
 BLOCKS = re.compile(r"^```sh\n(?P<text>.*?)^```\n\s*^```\n(?P<printed>.*?)^```$", re.MULTILINE | re.DOTALL)
 
@@ -52,8 +61,14 @@ def tried(context: Context, page: str, section: str) -> Iterator[Result]:
     if not blocks:
         yield failed(page, f"no block of *{section}* was found")
         return
+    missing = absent(MORE_TOOLS.get(page, ()))
+    if missing:
+        yield skipped(page, missing)
+        return
     folder = context.folder / page.replace("/", "-")
     folder.mkdir()
+    for name in FOLDERS if page in MORE_TOOLS else ():
+        (folder / name).symlink_to(context.top / name)
     (folder / "tsd").symlink_to(context.program)
     done = subprocess.run(["bash", "-c", pasted(blocks)], cwd=folder, stdin=subprocess.DEVNULL,
                           stdout=subprocess.PIPE, stderr=subprocess.PIPE, timeout=MOST_SECONDS)
@@ -64,11 +79,17 @@ def tried(context: Context, page: str, section: str) -> Iterator[Result]:
         yield compared(f"{page}, line {block.line}: {first}", block.printed, printed)
 
 
+def absent(tools: Iterable[str]) -> str:
+    """Which of these aren't installed, in words; nothing where all are."""
+    missing = [tool for tool in tools if shutil.which(tool) is None]
+    return f"there is no {', no '.join(missing)}" if missing else ""
+
+
 def run(context: Context) -> Iterator[Result]:
     """A result for each block of each page."""
-    missing = [tool for tool in TOOLS if shutil.which(tool) is None]
+    missing = absent(TOOLS)
     if missing:
-        yield skipped("the pages", f"there is no {', no '.join(missing)}")
+        yield skipped("the pages", missing)
         return
     for page, section in SECTIONS:
         yield from tried(context, page, section)

@@ -4,8 +4,10 @@
 from __future__ import annotations
 
 import contextlib
+import functools
 import os
 import re
+import shutil
 import socket
 import subprocess
 import sys
@@ -14,7 +16,7 @@ import threading
 import time
 import unittest
 from pathlib import Path
-from typing import Callable, Dict, Iterator, List, Optional, Sequence, Tuple
+from typing import Callable, Dict, Iterator, List, Optional, Sequence, Tuple, Type
 
 PYTHON = Path(__file__).resolve().parent.parent
 TOP = PYTHON.parent
@@ -27,8 +29,10 @@ import tsd  # noqa: E402
 
 PROGRAM = os.environ["TSD_PROGRAM"]
 HUB = PYTHON / "bin" / "tsd-hub"
+COMPILED_HUB = TOP / "hub" / "target" / "release" / "tsd-hub"
 SHELL = PYTHON / "bin" / "tsd-shell"
-MOST_SECONDS = 60
+MOST_SECONDS = float(os.environ.get("TSD_MOST_SECONDS", "60"))
+MOST_SECONDS_TO_BUILD = 600
 SEED = bytes(range(32))
 OPEN_LINE = re.compile(r"open in process (\d+)")
 
@@ -42,12 +46,14 @@ def until(is_so: Callable[[], object], what: str) -> None:
         time.sleep(0.005)
 
 
-def fake(code: str) -> List[str]:
-    """A program of Python that is started in place of tsd; `out` puts bytes."""
+def fake(code: str, is_asked: bool = True) -> List[str]:
+    """A program of Python that is started in place of tsd; `out` puts bytes. It is first asked for a greeting, and has
+    none, as a program alone."""
     head = ("import sys, os, time\n"
             "def out(text): sys.stdout.buffer.write(text); sys.stdout.buffer.flush()\n"
             "def take(): return os.read(0, 65536)\n")
-    return [sys.executable, "-c", head + code]
+    greeting = "assert os.read(0, 4) == b'\\2\\0\\xff\\4'; out(b'\\2\\0\\x08\\0')\n"
+    return [sys.executable, "-c", head + greeting * is_asked + code]
 
 
 class InFolder(unittest.TestCase):
@@ -63,6 +69,50 @@ class InFolder(unittest.TestCase):
     def make(self, blocks: int = 64, **more: int) -> List[tsd.Pair]:
         """Makes the disk; its capabilities."""
         return tsd.format_disk(self.image, blocks=blocks, seed=SEED, **more)
+
+
+@functools.lru_cache(maxsize=None)
+def compiled_hub() -> Tuple[List[str], str]:
+    """The words that start the compiled hub, which is built where there is cargo; or none, and why."""
+    if shutil.which("cargo") is None:
+        return [], "there is no cargo"
+    words = ["cargo", "build", "--release", "--offline", "--quiet"]
+    done = subprocess.run(words, cwd=TOP / "hub", capture_output=True, text=True, timeout=MOST_SECONDS_TO_BUILD)
+    return ([str(COMPILED_HUB)], "") if done.returncode == 0 else ([], f"cargo can't build it: {done.stderr}")
+
+
+class WithHub(InFolder):
+    """A test of the hub, Python's; a class beside it tries the compiled one."""
+
+    IS_COMPILED = False
+
+    def setUp(self) -> None:
+        super().setUp()
+        self.hub_words = [sys.executable, str(HUB)]
+        if self.IS_COMPILED:
+            self.hub_words, why_not = compiled_hub()
+            if not self.hub_words:
+                self.skipTest(why_not)
+
+    @contextlib.contextmanager
+    def running_hub(self, more: Sequence[str] = (), name: str = "disk.sock") -> Iterator[RunningHub]:
+        """A hub over the image, with its socket beside it."""
+        path = self.folder / name
+        hub = RunningHub(self.image, path, more, command=self.hub_words + self.hub_image(path))
+        try:
+            yield hub
+        finally:
+            hub.stop()
+
+    def hub_image(self, path: Path) -> List[str]:
+        """The words for a hub over the image at a socket."""
+        return [str(self.image), "near", "--socket", str(path)]
+
+
+def compiled(*cases: Type[WithHub]) -> Dict[str, Type[WithHub]]:
+    """The same tests of the compiled hub, by their classes' names."""
+    return {f"Compiled{case.__name__}": type(f"Compiled{case.__name__}", (case,), {
+        "IS_COMPILED": True, "__module__": case.__module__, "__doc__": case.__doc__}) for case in cases}
 
 
 class RunningHub:
@@ -161,3 +211,10 @@ def run_alone(image: Path, text: bytes) -> Tuple[int, bytes]:
     """The status and the replies of the program alone over this text of frames."""
     done = subprocess.run([PROGRAM, str(image), "serve", "near"], input=text, capture_output=True, timeout=MOST_SECONDS)
     return done.returncode, done.stdout
+
+
+def told_of(image: Path) -> List[bytes]:
+    """What the program tells of an image: how full it is, and what hangs on its primary blocks. Two disks of one world
+    may differ in their journal and in which slots they have, by how requests were committed together."""
+    return [subprocess.run([PROGRAM, str(image), command], capture_output=True, timeout=MOST_SECONDS, check=True).stdout
+            for command in ("check", "audit")]

@@ -15,6 +15,8 @@ from support import PROGRAM, InFolder, fake, tsd
 from tsd import requests
 from tsd.errors import Level
 
+# So long a start of Python may take on a busy machine.
+QUIET = 5.0
 LIMIT = 60.0
 MANY = 600
 
@@ -57,6 +59,8 @@ class Calls(InFolder):
             self.assertEqual(200, held)
             some = session.list(0, pair.read)
             self.assertEqual([1, 2], [next(some), next(some)])
+            with self.assertRaises(tsd.Denied):
+                session.list(0)
 
     def test_sessions_have_numbers_of_their_own(self) -> None:
         self.make()
@@ -81,21 +85,26 @@ class Calls(InFolder):
     def test_making_a_disk(self) -> None:
         pairs = self.make(blocks=20, primaries=3, sectors=8, slots=5)
         self.assertEqual(3, len(pairs))
-        self.assertEqual(pairs, self.make(blocks=20, primaries=3))
-        self.assertNotEqual(pairs, tsd.format_disk(self.image, blocks=20, primaries=3))
+        before = self.image.read_bytes()
+        with self.assertRaises(FileExistsError) as refused:
+            tsd.format_disk(self.image, blocks=20, primaries=3)
+        self.assertIn(str(self.image), str(refused.exception))
+        self.assertEqual(before, self.image.read_bytes())
+        self.assertEqual(pairs, self.make(blocks=20, primaries=3, overwrite=True))
+        self.assertNotEqual(pairs, tsd.format_disk(self.image, blocks=20, primaries=3, overwrite=True))
         with self.assertRaises(tsd.ProgramEnded) as caught:
-            self.make(blocks=7)
+            self.make(blocks=7, overwrite=True)
         self.assertEqual(2, caught.exception.status)
         self.assertIn("BLOCKS is 8 to 1048576, not 7", caught.exception.words)
         digits = "5f" * 32
         with mock.patch.object(subprocess, "run", side_effect=OSError) as run:
-            self.assertRaises(OSError, tsd.format_disk, self.image, blocks=8, seed=bytes.fromhex(digits))
+            self.assertRaises(OSError, tsd.format_disk, self.folder / "other.img", blocks=8, seed=bytes.fromhex(digits))
         self.assertNotIn(digits, " ".join(run.call_args.args[0]))
 
     def test_images_of_any_name(self) -> None:
         self.addCleanup(os.chdir, os.getcwd())
         os.chdir(self.folder)
-        for name in ("help", "-x", "a b"):
+        for name in ("help", "mirror", "-x", "a b"):
             tsd.format_disk(name, blocks=8)
             with tsd.open(name, limit=LIMIT) as disk:
                 self.assertEqual(7, disk.free())
@@ -152,6 +161,15 @@ class Refusals(InFolder):
         self.assertEqual((5, 9), (tsd.Full(5, 9).free, tsd.NoRun(5, 9).wanted))
         self.assertEqual((5, 9), (tsd.PointersFull(5, 9).held, tsd.PointersFull(5, 9).most))
 
+    def test_all_print(self) -> None:
+        self.assertEqual("Denied(attained=read, needed=write)", repr(tsd.Denied(Level.READ, Level.WRITE)))
+        self.assertEqual("DiskEnded(status=-9, words='a\\x1b')", repr(tsd.DiskEnded(-9, "a\x1b")))
+        self.assertEqual("HubFull(words='16 are yours')", repr(tsd.HubFull("16 are yours")))
+        self.assertEqual("Unknown(request=Read(block=3, cap=<capability>), cause=HubStopped())",
+                         repr(tsd.Unknown(requests.Read(3, tsd.Capability.new()), tsd.HubStopped())))
+        for error in (tsd.DiskEnded(4, "a\x1b[2Jb\nc"), tsd.ProgramEnded(4, "a\x1b[2Jb\nc")):
+            self.assertTrue(str(error).endswith("with status 4: a?[2Jb\nc"))
+
     def test_no_memory(self) -> None:
         program = fake(r"take(); out(b'\1\0\7'); take()")
         with tsd.open("x", program=program, limit=LIMIT) as disk:
@@ -206,7 +224,7 @@ class Together(InFolder):
 class Ends(InFolder):
     """A program that ends, and peers that are none: errors, and never a hang."""
 
-    def asked(self, code: str, limit: float = 5.0) -> tsd.TsdError:
+    def asked(self, code: str, limit: float = 30.0) -> tsd.TsdError:
         """The error of a request to a program of this code; the next one and the closing have it too."""
         disk = tsd.open("x", program=fake(code), limit=limit)
         begun = time.monotonic()
@@ -226,14 +244,21 @@ class Ends(InFolder):
         self.assertEqual((4, "tsd: device fault\nwhy", False), error.args)
 
     def test_images_that_are_none(self) -> None:
+        """Opening them fails, and not only what is asked later."""
         self.image.write_bytes(bytes(100000))
         for image, status, words in ((self.image, 3, "not-formatted"), (self.folder / "no" / "file", 4, "No such")):
-            disk = tsd.open(image, limit=LIMIT)
             with self.assertRaises(tsd.ProgramEnded) as caught:
-                disk.session()
+                tsd.open(image, limit=LIMIT)
             self.assertEqual(status, caught.exception.status)
             self.assertIn(words, caught.exception.words)
-            self.assertRaises(tsd.ProgramEnded, disk.close)
+
+    def test_what_is_said_in_place_of_a_greeting(self) -> None:
+        for code, error, limit in (
+            ("take(); out(b'\\1\\0\\1'); time.sleep(60)", tsd.NoReply, LIMIT), ("time.sleep(60)", tsd.Silent, QUIET),
+            ("take()", tsd.ProgramEnded, LIMIT), ("out(b'\\1\\0\\1'); time.sleep(60)", tsd.NoReply, LIMIT),
+        ):
+            with self.subTest(code), self.assertRaises(error):
+                tsd.open("x", program=fake(code, is_asked=False), limit=limit)
 
     def test_a_program_that_is_killed(self) -> None:
         error = self.asked("take(); os.kill(os.getpid(), 9)")
@@ -252,7 +277,7 @@ class Ends(InFolder):
 
     def test_a_reply_to_nothing(self) -> None:
         self.assertIs(tsd.NoReply, type(self.asked(r"take(); out(2 * b'\1\0\1'); time.sleep(60)")))
-        disk = tsd.open("x", program=fake(r"out(b'\1\0\1'); time.sleep(60)"), limit=5)
+        disk = tsd.open("x", program=fake(r"out(b'\1\0\1'); time.sleep(60)"), limit=30)
         with self.assertRaises(tsd.NoReply):
             while True:
                 disk.free()
@@ -267,23 +292,23 @@ class Ends(InFolder):
 
     def test_silence(self) -> None:
         for code in ("time.sleep(60)", "take(); out(b'\\5\\0'); time.sleep(60)"):
-            error = self.asked(code, limit=0.3)
+            error = self.asked(code, limit=QUIET)
             assert isinstance(error, tsd.Silent)
-            self.assertEqual(0.3, error.seconds)
+            self.assertEqual(QUIET, error.seconds)
 
     def test_drops_of_a_frame_are_silence_too(self) -> None:
         code = "take(); out(b'\\xff\\xff')\nwhile True: out(b'\\2'); time.sleep(0.02)"
-        self.assertIs(tsd.Silent, type(self.asked(code, limit=0.3)))
+        self.assertIs(tsd.Silent, type(self.asked(code, limit=QUIET)))
 
     def test_one_that_takes_nothing(self) -> None:
-        disk = tsd.open("x", program=fake("time.sleep(60)"), limit=0.3)
+        disk = tsd.open("x", program=fake("time.sleep(60)"), limit=QUIET)
         with self.assertRaises(tsd.Silent):
             for _ in range(1000):
                 disk.ask(requests.Write(0, bytes(4096)), 1)
         self.assertRaises(tsd.Silent, disk.close)
 
     def test_one_that_closes_its_pipes_and_stays(self) -> None:
-        error = self.asked("os.close(0); os.close(1); time.sleep(60)", limit=3.0)
+        error = self.asked("os.close(0); os.close(1); time.sleep(60)", limit=QUIET)
         assert isinstance(error, tsd.ProgramEnded)
         self.assertEqual(-9, error.status)
 
@@ -299,13 +324,11 @@ class Ends(InFolder):
         self.assertRaises(FileNotFoundError, tsd.open, self.image, program=self.folder / "none")
         self.assertRaises(FileNotFoundError, tsd.connect, self.folder / "none")
         with mock.patch.dict(os.environ, {"TSD_PROGRAM": PROGRAM}):
-            disk = tsd.open(self.folder / "none")
-            self.assertRaises(tsd.ProgramEnded, disk.free)
-            self.assertRaises(tsd.ProgramEnded, disk.close)
+            self.assertRaises(tsd.ProgramEnded, tsd.open, self.folder / "none")
 
     def test_an_error_inside_is_not_hidden_by_the_closing(self) -> None:
         with self.assertRaisesRegex(KeyError, "mine"):
-            with tsd.open("x", program=fake("take()"), limit=5) as disk:
+            with tsd.open("x", program=fake("take()"), limit=30) as disk:
                 self.assertRaises(tsd.ProgramEnded, disk.free)
                 raise KeyError("mine")
 

@@ -1,4 +1,4 @@
-"""The examples, run as their pages say, and the client's example in python/README.md."""
+"""The examples, run as their pages say, and the client's examples in python/README.md."""
 
 from __future__ import annotations
 
@@ -21,7 +21,7 @@ class Documents(InFolder):
     def printed(self, words: List[str], more: Dict[str, str]) -> str:
         """What a script prints."""
         done = subprocess.run([sys.executable, *words], cwd=self.folder, env={**os.environ, **more}, text=True,
-                              capture_output=True, timeout=MOST_SECONDS)
+                              capture_output=True, timeout=5 * MOST_SECONDS)
         self.assertEqual((0, ""), (done.returncode, done.stderr))
         return done.stdout
 
@@ -36,8 +36,10 @@ class Documents(InFolder):
                 self.assertEqual(expected, self.printed([str(TOP / script)], {}))
 
     def test_the_client_in_the_readme(self) -> None:
-        [(code, expected)] = CODE.findall((PYTHON / "README.md").read_text())
-        self.assertEqual(expected, self.printed(["-c", code], {"PYTHONPATH": str(PYTHON)}))
+        blocks = CODE.findall((PYTHON / "README.md").read_text())
+        self.assertEqual(3, len(blocks))
+        for code, expected in blocks:
+            self.assertEqual(expected, self.printed(["-c", code], {"PYTHONPATH": str(PYTHON)}))
 
     def test_links(self) -> None:
         for page in (PYTHON / "README.md", *(TOP / "examples").glob("*.md")):

@@ -9,7 +9,6 @@ import shutil
 import socket
 import stat
 import subprocess
-import sys
 import threading
 import time
 from collections import Counter
@@ -17,7 +16,7 @@ from pathlib import Path
 from typing import List, Optional, Tuple
 
 from support import (
-    HUB, MOST_SECONDS, PROGRAM, SEED, InFolder, RawClient, RunningHub, run_alone, running_hub, tsd, until,
+    MOST_SECONDS, PROGRAM, SEED, RawClient, RunningHub, WithHub, compiled, run_alone, told_of, tsd, until,
 )
 
 from disk_model import Disk, cut_frames, frame, parse_body, seed_caps
@@ -31,6 +30,7 @@ REQUESTS = 40
 BLOCKS = 200
 MOST_UNDER_WAY = 20
 BAD_REQUEST = b"\x08\x00"
+ALL_OF_ONE = ("--per-user", "64")
 END, FREE = 2, 7
 
 
@@ -72,7 +72,7 @@ def of_a_session(talk: List[Tuple[bytes, bytes]]) -> Tuple[Tuple[bytes, bytes], 
     return tuple((body[:1] + body[5:], answer) for body, answer in talk if parse_body(body) and body[0] != FREE)
 
 
-class AtRandom(InFolder):
+class AtRandom(WithHub):
     """All sessions at once."""
 
     def test_64_clients_are_answered_as_in_a_run_alone(self) -> None:
@@ -84,7 +84,7 @@ class AtRandom(InFolder):
         recorder.write_text(f"#!/bin/sh\ntee '{record}' | '{PROGRAM}' \"$@\"\n")
         recorder.chmod(0o755)
         talks = [Talk(number) for number in range(CLIENTS)]
-        with running_hub(self.image, ["--program", str(recorder)]) as hub:
+        with self.running_hub(["--program", str(recorder), *ALL_OF_ONE]) as hub:
             all_there = threading.Barrier(CLIENTS)
             threads = [threading.Thread(target=talk.run, args=(hub.path, all_there)) for talk in talks]
             for thread in threads:
@@ -99,7 +99,7 @@ class AtRandom(InFolder):
         answers, more = cut_frames(replies)
         self.assertEqual((0, b"", b"", len(bodies)), (status, rest, more, len(answers)))
         self.check_talks(talks, list(zip(bodies, answers)))
-        self.assertEqual(alone.read_bytes(), self.image.read_bytes())
+        self.assertEqual(told_of(alone), told_of(self.image))
 
     def check_talks(self, talks: List[Talk], recorded: List[Tuple[bytes, bytes]]) -> None:
         """What the disk was asked is what the clients sent, each as one session, which the hub closed in the end."""
@@ -139,12 +139,12 @@ class AtRandom(InFolder):
         self.assertEqual(b"", of_session(bytes([13]) + bytes(8), 7))
 
 
-class Sessions(InFolder):
+class Sessions(WithHub):
     """A connection is a session, and no other one."""
 
     def test_no_client_speaks_as_another(self) -> None:
         [pair] = self.make()
-        with running_hub(self.image) as hub, tsd.connect(hub.path, limit=LIMIT) as disk, disk.session() as owner:
+        with self.running_hub() as hub, tsd.connect(hub.path, limit=LIMIT) as disk, disk.session() as owner:
             [block] = owner.alloc(0, 1, pair.write)
             owner.write(block, b"mine")
             with tsd.connect(hub.path, limit=LIMIT) as other:
@@ -163,7 +163,7 @@ class Sessions(InFolder):
 
     def test_a_session_ends_with_its_connection(self) -> None:
         [pair] = self.make()
-        with running_hub(self.image) as hub:
+        with self.running_hub() as hub:
             first = RawClient(hub.path)
             self.assertEqual(b"\1", first.ask(requests.Begin().encode(9)))
             self.assertEqual(b"\3\1\0\0\0", first.ask(requests.Alloc(0, 1, pair.write).encode(9)))
@@ -175,7 +175,7 @@ class Sessions(InFolder):
 
     def test_replies_come_also_after_the_client_has_ended_its_side(self) -> None:
         self.make(blocks=64)
-        with running_hub(self.image) as hub:
+        with self.running_hub() as hub:
             client = RawClient(hub.path)
             client.send(500 * frame(bytes([FREE])))
             client.socket.shutdown(socket.SHUT_WR)
@@ -184,16 +184,15 @@ class Sessions(InFolder):
 
     def test_a_65th_is_told_and_closed(self) -> None:
         self.make(blocks=64)
-        with running_hub(self.image) as hub:
+        with self.running_hub(ALL_OF_ONE) as hub:
             clients = [RawClient(hub.path) for _ in range(64)]
             for client in clients:
                 self.assertEqual(b"\1", client.ask(requests.Begin().encode(1)))
             late = RawClient(hub.path)
             self.assertEqual((b"\xff\1\0\0\0\0", None), (late.body(), late.body()))
             late.close()
-            disk = tsd.connect(hub.path, limit=LIMIT)
-            self.assertRaises(tsd.HubFull, disk.session)
-            self.assertRaises(tsd.HubFull, disk.close)
+            with self.assertRaises(tsd.HubFull):
+                tsd.connect(hub.path, limit=LIMIT).session()
             clients[10].close()
             until(lambda: "session 11: ended" in hub.log, "a session ends")
             time.sleep(0.1)
@@ -204,14 +203,14 @@ class Sessions(InFolder):
 
     def test_many_come_and_go(self) -> None:
         self.make(blocks=64)
-        with running_hub(self.image) as hub:
+        with self.running_hub() as hub:
             for _ in range(150):
                 client = RawClient(hub.path)
                 self.assertEqual(b"\1", client.ask(requests.Begin().encode(1)))
                 client.close()
 
 
-class BadClients(InFolder):
+class BadClients(WithHub):
     """Clients that misbehave delay and disturb nobody."""
 
     def good(self, hub: RunningHub) -> None:
@@ -224,7 +223,7 @@ class BadClients(InFolder):
 
     def test_rubbish(self) -> None:
         self.make(blocks=64)
-        with running_hub(self.image) as hub:
+        with self.running_hub() as hub:
             rng = random.Random(6)
             for _ in range(20):
                 client = RawClient(hub.path)
@@ -240,7 +239,7 @@ class BadClients(InFolder):
 
     def test_one_that_stops_reading(self) -> None:
         [pair] = self.make(blocks=64, sectors=8)
-        with running_hub(self.image) as hub:
+        with self.running_hub() as hub:
             client = RawClient(hub.path)
             self.assertEqual(b"\1", client.ask(requests.Begin().encode(1)))
             client.socket.settimeout(0.3)
@@ -256,7 +255,7 @@ class BadClients(InFolder):
 
     def test_one_that_goes_away_in_mid_frame(self) -> None:
         self.make(blocks=64)
-        with running_hub(self.image) as hub:
+        with self.running_hub() as hub:
             for text in (b"\5", b"\5\0", b"\5\0\1\2\3", frame(b"\1\0\0\0\0") + b"\x20\0\4"):
                 client = RawClient(hub.path)
                 client.send(text)
@@ -266,7 +265,7 @@ class BadClients(InFolder):
 
     def test_one_that_is_silent_in_mid_frame(self) -> None:
         self.make(blocks=64)
-        with running_hub(self.image) as hub:
+        with self.running_hub(ALL_OF_ONE) as hub:
             clients = [RawClient(hub.path) for _ in range(63)]
             for client in clients:
                 client.send(b"\x20\0\4")
@@ -281,12 +280,12 @@ def memory(process: int) -> int:
     return 1024 * int(found[1]) if found else 0
 
 
-class Ends(InFolder):
+class Ends(WithHub):
     """The disk or the hub ends."""
 
     def test_the_disk_is_killed_under_them(self) -> None:
         [pair] = self.make(blocks=64)
-        with running_hub(self.image) as hub:
+        with self.running_hub(ALL_OF_ONE) as hub:
             disks = [tsd.connect(hub.path, limit=LIMIT) for _ in range(20)]
             sessions = [disk.session() for disk in disks]
             silent = RawClient(hub.path)
@@ -313,7 +312,7 @@ class Ends(InFolder):
 
     def test_a_stuck_client_does_not_hold_up_the_end(self) -> None:
         [pair] = self.make(blocks=64, sectors=8)
-        with running_hub(self.image) as hub:
+        with self.running_hub() as hub:
             stuck = RawClient(hub.path)
             stuck.send(frame(requests.Begin().encode(1)) + 300 * frame(requests.Read(0, pair.read).encode(1)))
             time.sleep(0.2)
@@ -325,17 +324,18 @@ class Ends(InFolder):
 
     def test_an_image_that_is_none(self) -> None:
         self.image.write_bytes(bytes(100000))
-        with running_hub(self.image) as hub:
+        with self.running_hub() as hub:
             self.assertEqual(3, hub.ended())
             self.assertIn("not-formatted", hub.log)
             self.assertFalse(hub.path.exists())
 
     def test_a_disk_that_answers_rubbish(self) -> None:
         program = self.folder / "program"
-        program.write_text("#!/bin/sh\nprintf '\\005\\000\\004\\007\\000\\000\\000'\nsleep 0.3\n"
+        program.write_text("#!/bin/sh\n[ \"$1\" != help ] || exit 2\n"
+                           "printf '\\005\\000\\004\\007\\000\\000\\000'\nsleep 0.3\n"
                            "printf '\\001\\000\\377'\nsleep 60\n")
         program.chmod(0o755)
-        with running_hub(self.image, ["--program", str(program)]) as hub:
+        with self.running_hub(["--program", str(program)]) as hub:
             client = RawClient(hub.path)
             body = client.ask(bytes([FREE])) or b""
             self.assertEqual(b"\xff\2\xf7\xff\xff\xff", body[:6])
@@ -345,7 +345,7 @@ class Ends(InFolder):
 
     def test_the_hub_is_stopped(self) -> None:
         self.make(blocks=64)
-        with running_hub(self.image) as hub, tsd.connect(hub.path, limit=LIMIT) as disk:
+        with self.running_hub() as hub, tsd.connect(hub.path, limit=LIMIT) as disk:
             session = disk.session()
             hub.process.terminate()
             with self.assertRaises(tsd.HubStopped):
@@ -357,7 +357,7 @@ class Ends(InFolder):
                 disk.close()
 
 
-class Outside(InFolder):
+class Outside(WithHub):
     """The socket, the log, and systemd."""
 
     def test_the_socket_is_the_owners_unless_told_else(self) -> None:
@@ -365,30 +365,30 @@ class Outside(InFolder):
         before = os.umask(0)
         self.addCleanup(os.umask, before)
         for more, mode in (([], 0o600), (["--mode", "660"], 0o660)):
-            with running_hub(self.image, more) as hub:
+            with self.running_hub(more) as hub:
                 self.assertEqual(mode, stat.S_IMODE(hub.path.stat().st_mode))
 
     def test_paths_that_are_taken(self) -> None:
         self.make(blocks=64)
-        with running_hub(self.image) as hub:
-            with running_hub(self.image) as second:
+        with self.running_hub() as hub:
+            with self.running_hub() as second:
                 self.assertEqual(1, second.ended())
                 self.assertIn("somebody listens", second.log)
             self.assertTrue(hub.path.exists())
             hub.process.kill()
             hub.ended()
             self.assertTrue(hub.path.exists())
-        with running_hub(self.image) as hub:
+        with self.running_hub() as hub:
             with tsd.connect(hub.path, limit=LIMIT) as disk:
                 self.assertEqual(63, disk.free())
         hub.path.write_text("a file")
-        with running_hub(self.image) as hub:
+        with self.running_hub() as hub:
             self.assertEqual(1, hub.ended())
         self.assertEqual("a file", hub.path.read_text())
 
     def test_the_log_names_peers_and_no_capability(self) -> None:
         [pair] = self.make(blocks=64)
-        with running_hub(self.image) as hub:
+        with self.running_hub() as hub:
             with tsd.connect(hub.path, limit=LIMIT) as disk, disk.session() as session:
                 session.write(0, pair.write.reveal(), pair.write)
                 self.assertRaises(tsd.Denied, session.read, 0, tsd.Capability.new())
@@ -405,7 +405,7 @@ class Outside(InFolder):
             listener.bind(str(path))
             listener.listen()
             script = f"exec 3<&{listener.fileno()}; export LISTEN_FDS=1 LISTEN_PID=$$; exec \"$@\""
-            command = ["bash", "-c", script, "bash", sys.executable, str(HUB), str(self.image), "near"]
+            command = ["bash", "-c", script, "bash", *self.hub_words, str(self.image), "near"]
             os.set_inheritable(listener.fileno(), True)
             hub = subprocess.Popen(command, pass_fds=(listener.fileno(),), stderr=subprocess.DEVNULL)
             try:
@@ -417,7 +417,10 @@ class Outside(InFolder):
             self.assertTrue(path.exists())
 
     def test_no_socket(self) -> None:
-        words = [sys.executable, str(HUB), str(self.image), "near"]
+        words = [*self.hub_words, str(self.image), "near"]
         done = subprocess.run(words, capture_output=True, timeout=MOST_SECONDS)
         self.assertEqual(2, done.returncode)
         self.assertIn(b"no --socket", done.stderr)
+
+
+globals().update(compiled(AtRandom, Sessions, BadClients, Ends, Outside))

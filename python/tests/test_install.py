@@ -2,13 +2,14 @@
 
 from __future__ import annotations
 
-import importlib.util
+import email.parser
 import os
 import shutil
 import subprocess
 import sys
+import zipfile
 from pathlib import Path
-from typing import Dict, List
+from typing import Dict, List, Optional
 
 from support import MOST_SECONDS, PROGRAM, PYTHON, TOP, InFolder, RunningHub, tsd
 
@@ -24,6 +25,27 @@ print(tsd.__file__)
 def clean() -> Dict[str, str]:
     """The environment without what the tests set."""
     return {name: text for name, text in os.environ.items() if name not in ("TSD_PROGRAM", "PYTHONPATH")}
+
+
+def python_that_builds() -> Optional[str]:
+    """A Python that has what pip builds with; none of it is fetched."""
+    for python in (sys.executable, "/usr/bin/python3"):
+        words = [python, "-c", "import sys; from importlib.util import find_spec\n"
+                               "assert sys.version_info >= (3, 9)\n"
+                               "assert all(map(find_spec, ('pip', 'setuptools', 'wheel')))"]
+        if os.path.exists(python) and subprocess.run(words, capture_output=True, env=clean()).returncode == 0:
+            return python
+    return None
+
+
+def built_by_pip(python: str, command: str, more: List[str], folder: Path) -> None:
+    """Has pip build a copy of the sources, without a network."""
+    sources = folder / "sources"
+    shutil.copytree(PYTHON, sources, ignore=shutil.ignore_patterns("__pycache__", "tests", "build", "*.egg-info"))
+    words = [python, "-m", "pip", command, "-q", "--no-index", "--no-deps", "--no-build-isolation", *more, str(sources)]
+    done = subprocess.run(words, capture_output=True, text=True, env={**clean(), "PIP_ROOT_USER_ACTION": "ignore"})
+    if done.returncode != 0:
+        raise AssertionError(done.stderr)
 
 
 class Installed(InFolder):
@@ -46,7 +68,7 @@ class Installed(InFolder):
         (self.folder / "cap").write_text("zz")
         words = [str(bin_folder / "tsd-shell"), str(self.image), "inode", "0", "--cap-file", "cap"]
         done = subprocess.run(words, cwd=self.folder, env=environment, text=True, capture_output=True, input="")
-        self.assertIn("tsd-shell: a capability has 32 hexadecimal digits", done.stderr)
+        self.assertIn("tsd-shell: cap: a capability has 32 hexadecimal digits", done.stderr)
 
     def test_make_install(self) -> None:
         if shutil.which("make") is None:
@@ -62,23 +84,61 @@ class Installed(InFolder):
         environment = {**clean(), "PYTHONPATH": str(package.parent), "PYTHONDONTWRITEBYTECODE": "1"}
         environment["PATH"] = self.path_without_program()
         self.try_out(prefix / "bin", package, environment, sys.executable)
+        for page in (TOP / "man").glob("*.1"):
+            self.assertTrue((prefix / "share/man/man1" / page.name).exists(), page)
+        self.uninstall(prefix, make, environment)
+
+    def uninstall(self, prefix: Path, make: List[str], environment: Dict[str, str]) -> None:
+        """What was installed goes, with what Python kept of it; what others put there stays, and nothing else is left."""
+        of_others = [prefix / name for name in ("bin/other", "lib/tsd/python/tsd/other.py", "share/doc/tsd/notes")]
+        for path in of_others:
+            path.write_text("mine")
+        words = [sys.executable, "-c", "import tsd.hub.main, tsd.shell.main"]
+        subprocess.run(words, check=True, env={**environment, "PYTHONDONTWRITEBYTECODE": ""})
+        self.assertTrue(list(prefix.rglob("*.pyc")))
         subprocess.run(make + ["uninstall"], check=True, capture_output=True)
-        self.assertEqual([], [path for path in prefix.rglob("*") if path.is_file()])
+        self.assertEqual(sorted(of_others), sorted(path for path in prefix.rglob("*") if not path.is_dir()))
+        for path in of_others:
+            path.unlink()
+        subprocess.run(make + ["uninstall"], check=True, capture_output=True)
+        self.assertEqual([], list(prefix.rglob("*")))
 
     def test_pip_install(self) -> None:
-        if importlib.util.find_spec("pip") is None:
-            self.skipTest("there is no pip")
+        python = python_that_builds()
+        if python is None:
+            self.skipTest("no Python here has pip, setuptools and wheel, and without a network none is fetched")
         target = self.folder / "target"
-        words = ["-m", "pip", "install", "-q", "--no-index", "--target", str(target)]
-        done = subprocess.run([sys.executable, *words, str(PYTHON)], capture_output=True, text=True,
-                              env={**clean(), "PIP_ROOT_USER_ACTION": "ignore"})
-        self.assertEqual(0, done.returncode, done.stderr)
+        built_by_pip(python, "install", ["--target", str(target)], self.folder)
         programs = self.folder / "programs"
         programs.mkdir()
         (programs / "tsd").symlink_to(PROGRAM)
         environment = {**clean(), "PYTHONPATH": str(target), "PYTHONDONTWRITEBYTECODE": "1"}
         environment["PATH"] = f"{programs}:{self.path_without_program()}"
-        self.try_out(target / "bin", target / "tsd", environment, sys.executable)
+        self.try_out(target / "bin", target / "tsd", environment, python)
+
+    def test_wheel(self) -> None:
+        """It is compressed, has all modules and the licences, and says who made it, and for which Python."""
+        python = python_that_builds()
+        if python is None:
+            self.skipTest("no Python here has pip, setuptools and wheel, and without a network none is fetched")
+        built_by_pip(python, "wheel", ["--wheel-dir", str(self.folder)], self.folder)
+        [path] = self.folder.glob("tsd-*.whl")
+        with zipfile.ZipFile(path) as wheel:
+            names = wheel.namelist()
+            kinds = {one.compress_type for one in wheel.infolist() if one.file_size > 100}
+            self.assertEqual({zipfile.ZIP_DEFLATED}, kinds)
+            [about] = [name for name in names if name.endswith("/METADATA")]
+            told = email.parser.Parser().parsestr(wheel.read(about).decode())
+            texts = [wheel.read(name) for name in names if "LICENSE" in name]
+        modules = [path.relative_to(PYTHON).as_posix() for path in (PYTHON / "tsd").rglob("*.py")]
+        self.assertEqual([], [name for name in [*modules, "tsd/py.typed"] if name not in names])
+        self.assertEqual(sorted((TOP / name).read_bytes() for name in ("LICENSE", "LICENSE-MIT", "LICENSE-APACHE")),
+                         sorted(texts))
+        self.assertEqual((tsd.__version__, ">=3.9", "MIT OR Apache-2.0"),
+                         (told["Version"], told["Requires-Python"], told["License"]))
+        self.assertIn("Dognilaw maintainers", told["Author-email"])
+        self.assertIn("Homepage, https://", told["Project-URL"])
+        self.assertIn("Programming Language :: Python :: 3.9", told.get_all("Classifier") or [])
 
     def test_release(self) -> None:
         if os.uname().sysname != "Linux" or os.uname().machine != "x86_64":
@@ -91,7 +151,8 @@ class Installed(InFolder):
         package = released / "python/tsd"
         for file in (PYTHON / "tsd").rglob("*.py"):
             self.assertTrue((package / file.relative_to(PYTHON / "tsd")).exists(), file)
-        for name in ("tsd", "tsd.1", "tsd.bash", "_tsd", "LICENSE", "LICENSE-MIT", "LICENSE-APACHE"):
+        pages = [path.name for folder in ("man", "completions") for path in (TOP / folder).iterdir()]
+        for name in ("tsd", *pages, "LICENSE", "LICENSE-MIT", "LICENSE-APACHE"):
             self.assertTrue((released / name).exists(), name)
         environment = {**clean(), "PYTHONPATH": str(package.parent), "PYTHONDONTWRITEBYTECODE": "1"}
         environment["PATH"] = self.path_without_program()

@@ -3,34 +3,23 @@
 from __future__ import annotations
 
 import contextlib
-import io
 import os
-import pty
 import random
-import re
-import select
 import subprocess
 import sys
 import time
 import unittest
 from pathlib import Path
-from typing import Iterator, List, Optional, Sequence
-from unittest import mock
+from typing import Iterator, List
 
-from support import MOST_SECONDS, PROGRAM, SHELL, InFolder, tsd
-
-from tsd.shell import bar, lines
-from tsd.shell.completion import Completer, local_files
-from tsd.shell.files import Files, bytes_of, no_progress
-from tsd.shell.program import ShellProgram
-from tsd.shell.refusals import WORDS, refusal
+from support import MOST_SECONDS, PROGRAM, SHELL, InFolder
+from terminal import Terminal
 
 FAKE = Path(__file__).resolve().parent / "fake_shell.py"
 READ, WRITE = "aa" * 16, "bb" * 16
-SIZES = (0, 1, 4096, 4097, 1000000)
+SIZES = (0, 1, 4096, 4097, 300000)
 USAGE = 2
 PAUSE = 0.2
-ESCAPES = re.compile(rb"\x1b\[[0-9;?]*[A-Za-z]|\x07")
 
 
 def has_shell() -> bool:
@@ -45,70 +34,12 @@ def bytes_for(size: int) -> bytes:
     return random.Random(size).getrandbits(8 * size).to_bytes(size, "little") if size else b""
 
 
-# Whoever runs these tests may have Ctrl-C ignored, as a shell does for what it runs in the background.
-AS_AT_A_TERMINAL = """
-import os, signal, sys
-signal.signal(signal.SIGINT, signal.SIG_DFL)
-os.execv(sys.argv[1], sys.argv[1:])
-"""
-
-
-class Terminal:
-    """A process at a terminal of its own."""
-
-    def __init__(self, words: Sequence[str], folder: Path) -> None:
-        self.shown = b""
-        self._at = 0
-        self._terminal, theirs = pty.openpty()
-        more = {"TERM": "dumb", "INPUTRC": "/dev/null", "XDG_STATE_HOME": str(folder / "state"), "COLUMNS": "200"}
-        # Not pty.fork(): other tests leave threads behind, and a fork beside threads may come to a stop.
-        self.process = subprocess.Popen(["setsid", "-c", sys.executable, "-c", AS_AT_A_TERMINAL, *words], cwd=folder,
-                                        env={**os.environ, **more}, stdin=theirs, stdout=theirs, stderr=theirs)
-        os.close(theirs)
-
-    def wait_for(self, text: str) -> str:
-        """What is shown from here on up to this text."""
-        end = time.monotonic() + MOST_SECONDS
-        while True:
-            seen = ESCAPES.sub(b"", self.shown)
-            found = seen.find(text.encode(), self._at)
-            if found >= 0:
-                told, self._at = seen[self._at:found].decode(errors="replace"), found + len(text)
-                return told
-            if time.monotonic() > end or not self._read(end):
-                raise AssertionError(f"{text!r} was not shown, but {seen[self._at:]!r}")
-
-    def type(self, text: str) -> None:
-        """Types."""
-        os.write(self._terminal, text.encode())
-
-    def ask(self, line: str) -> str:
-        """Types a line, and gives what is shown up to the next prompt."""
-        self.type(line + "\n")
-        return self.wait_for("tsd> ").replace("\r", "").partition("\n")[2]
-
-    def ended(self) -> int:
-        """Its status."""
-        while self._read(time.monotonic() + MOST_SECONDS):
-            pass
-        os.close(self._terminal)
-        return self.process.wait(MOST_SECONDS)
-
-    def _read(self, end: float) -> bool:
-        if not select.select([self._terminal], [], [], max(0.0, end - time.monotonic()))[0]:
-            return False
-        try:
-            piece = os.read(self._terminal, 65536)
-        except OSError:
-            return False
-        self.shown += piece
-        return bool(piece)
-
-
 class OverFake(InFolder):
     """Over the stand-in."""
 
     program = str(FAKE)
+    # Whether there is an image, whose header tells the length of a block.
+    has_image = False
 
     def setUp(self) -> None:
         super().setUp()
@@ -164,20 +95,30 @@ class OverFake(InFolder):
         shown, told = done.stdout.decode(), done.stderr.decode()
         self.assertTrue(shown.startswith("hello\na\nb\ndocs\nput LOCAL [PATH]"), shown)
         expected = [
-            "ls: there are no files here; mkfs begins an empty tree", "rm: the directory isn't empty",
-            "mkdir: that is there already", "put: that is a directory",
+            "ls /: there are no files here; mkfs begins an empty tree", "rm /docs: the directory isn't empty",
+            "mkdir /docs: that is there already", "put /docs: that is a directory",
             "put: [Errno 2] No such file or directory: 'none'",
-            "put: a b: a name has 1 to 28 letters, digits, dots, lines below and dashes",
+            "put: /a b: 'a b' is no name: it has 1 to 28 letters, digits, dots, lines below and dashes",
             "no command is called 'frob'; help tells those that there are", "usage: mkdir PATH",
-            "cat: that is a file, or a name on the way is", "get: nothing of that name is there",
+            "cat /docs/a/b: that is a file, or a name on the way is", "get /b: nothing of that name",
         ]
         self.assertEqual(expected, told.splitlines())
         self.assertFalse((self.folder / "b").exists())
 
+    def test_what_is_printed_comes_in_its_order(self) -> None:
+        """Names are text and contents are bytes: neither overtakes the other, however Python keeps its output."""
+        (self.folder / "one").write_bytes(b"bytes\n")
+        words = self.words(self.image_of("inode"), "inode", "0", "--cap-file", "cap")
+        environment = {name: text for name, text in os.environ.items() if name != "PYTHONUNBUFFERED"}
+        done = subprocess.run(words, input=b"mkfs\nput one\nls\ncat one\nls\n", capture_output=True, cwd=self.folder,
+                              env=environment, timeout=MOST_SECONDS)
+        self.assertEqual(b"one\nbytes\none\n", done.stdout)
+
     def test_chains_have_no_directories(self) -> None:
         done = self.script(self.image_of("chain"), "mkfs\nmkdir a\ncp a b\n", "chain")
         self.assertEqual((1, b""), (done.returncode, done.stdout))
-        self.assertEqual(["mkdir: this file system has no such command", "cp: this file system has no such command"],
+        self.assertEqual(["mkdir /a: this file system has no such command",
+                          "cp /a /b: this file system has no such command"],
                          done.stderr.decode().splitlines())
 
     def test_no_room(self) -> None:
@@ -186,7 +127,12 @@ class OverFake(InFolder):
         (self.folder / "one").write_bytes(b"1")
         done = self.script(self.image_of("small"), "mkfs\nput one a\nput big\nput bigger\ncat a\nls\ndf\n")
         self.assertEqual((1, b"1a\n5 blocks free\n"), (done.returncode, done.stdout))
-        self.assertEqual(["put: no room: 5 blocks free, 9 needed"] * 2, done.stderr.decode().splitlines())
+        big, bigger = done.stderr.decode().splitlines()
+        self.assertEqual("put /big: no room: 5 blocks free, 9 needed", big)
+        # 4,096 bytes are one change, and the disk refuses it: an inode and 8 blocks. 6,000 bytes take an inode and 12,
+        # which is seen before, where the length of a block is known.
+        numbers = "5 blocks free, 13 needed" if self.has_image else ""
+        self.assertTrue(bigger.startswith(f"put /bigger: no room: {numbers}"), bigger)
 
     def test_a_file_that_is_cut_off_leaves_the_old_one(self) -> None:
         """A long file that there is no room for, in place of one that is there: over inodes the old one stays."""
@@ -196,7 +142,9 @@ class OverFake(InFolder):
         done = self.script(self.image_of("middle"), "mkfs\nput old a\nput long a\ncat a\nls\ndf\nput fits a\n"
                            "get a back\nput long b\nls\n")
         self.assertEqual((1, b"olda\n97 blocks free\na\n"), (done.returncode, done.stdout))
-        self.assertEqual(2, done.stderr.count(b"put: no room: "))
+        told = "too big: a file over inodes has at most 124 blocks" if self.has_image else "no room: "
+        for name, line in zip("ab", done.stderr.decode().splitlines()):
+            self.assertTrue(line.startswith(f"put /{name}: {told}"), line)
         self.assertEqual(bytes_for(9000), (self.folder / "back").read_bytes())
 
     def test_a_capability_that_is_none(self) -> None:
@@ -230,7 +178,7 @@ class OverFake(InFolder):
         done = subprocess.run(words, input=b"mkfs\nput \xff a\ncat a\nput \xff\n", capture_output=True, cwd=self.folder,
                               timeout=MOST_SECONDS)
         self.assertEqual((1, b"x"), (done.returncode, done.stdout))
-        self.assertIn(b"a name has 1 to 28", done.stderr)
+        self.assertIn(b"is no name: it has 1 to 28", done.stderr)
 
     # --- at a terminal ---
 
@@ -244,7 +192,7 @@ class OverFake(InFolder):
                     terminal.ask(f"put f{size}")
                 terminal.ask(f"get /f{size} back{size}")
                 self.assertEqual(bytes_for(size), (self.folder / f"back{size}").read_bytes())
-            self.assertEqual([f"f{size}" for size in (0, 1, 1000000, 4096, 4097)], terminal.ask("ls").split())
+            self.assertEqual([f"f{size}" for size in (0, 1, 300000, 4096, 4097)], terminal.ask("ls").split())
 
     def confirmed(self, terminal: Terminal) -> str:
         """Begins an empty tree; the question."""
@@ -264,7 +212,7 @@ class OverFake(InFolder):
             (self.folder / "evil").write_bytes(b"a\x1b[2Jb\x07")
             terminal.ask("put evil")
             self.assertEqual("a?[2Jb?\n", terminal.ask("cat evil"))
-            self.assertIn("nothing of that name is there", terminal.ask("get nothing"))
+            self.assertIn("get /nothing: nothing of that name", terminal.ask("get nothing"))
             # A Ctrl-C that comes while the prompt is written is only seen at the next key: so it waits for an echo.
             terminal.type("ls ")
             terminal.wait_for("ls ")
@@ -284,17 +232,94 @@ class OverFake(InFolder):
             terminal.ask("mkdir documents")
             terminal.type("pu\tloc\tdoc\tfile\n")
             terminal.wait_for("tsd> ")
+            (self.folder / "it's mine").write_bytes(b"y")
+            terminal.ask("put it\t q")
+            self.assertEqual("y\n", terminal.ask("cat q"))
+            (self.folder / "two words").mkdir()
+            (self.folder / "two words" / "three more words").write_bytes(b"z")
+            terminal.ask("put two\tth\t r")
+            self.assertEqual("z\n", terminal.ask("cat r"))
             self.assertEqual("file\n", terminal.ask("ls doc\t"))
             self.assertEqual("x\n", terminal.ask("cat /doc\tf\t"))
             self.assertEqual("x\n", terminal.ask("\x1b[A"))
 
+    def test_what_an_earlier_put_left_is_offered(self) -> None:
+        if not self.has_image:
+            self.skipTest("the stand-in keeps nothing")
+        image = self.image_of("inode")
+        lines = "mkfs\nput /a 6f6c64\n" + "".join(
+            f"mkdir /put-0000000{at}\nput /put-0000000{at}/new 6e65770{at}\nput /put-0000000{at}/to 2f61\n"
+            for at in (1, 2))
+        self.lines(image, "inode", lines + "put /put-00000003 00\nmkdir /put-00000004\n")
+        terminal = Terminal(self.words(image, "inode", "0", "--cap-file", "cap"), self.folder)
+        for what, answer in (
+            ("a was cut off: the new file is whole", "leave"), ("a was cut off: the new file", "finish"),
+            ("was cut off: a part", "discard"), ("was cut off: a part", "what?"),
+        ):
+            self.assertIn("tsd-shell: /put-0000000", terminal.wait_for(what))
+            self.assertEqual("finish" in terminal.wait_for("leave it? "), "a was" in what)
+            terminal.type(answer + "\n")
+        terminal.wait_for("tsd> ")
+        self.assertEqual("new?\n", terminal.ask("cat a"))
+        self.assertEqual(["a", "put-00000001", "put-00000004"], terminal.ask("ls").split())
+        terminal.type("quit\n")
+        self.assertEqual(0, terminal.ended())
+
+    def test_the_question_over_chains(self) -> None:
+        """Where there is no room to keep the old file until the new one is whole, it is asked for."""
+        if not self.has_image:
+            self.skipTest("the stand-in has no image")
+        image = self.image_of("middle")
+        (self.folder / "one").write_bytes(bytes(20000))
+        (self.folder / "two").write_bytes(bytes_for(21000))
+        self.lines(image, "chain", "mkfs\n")
+        terminal = Terminal(self.words(image, "chain", "0", "--cap-file", "cap"), self.folder)
+        terminal.wait_for("tsd> ")
+        terminal.ask("put one a")
+        for answer, told in (("no\n", "put: no room to keep the old file"), ("\x03", "put: stopped")):
+            terminal.type("put two a\n")
+            terminal.wait_for("/a: there is no room to keep the old file until the new one is whole: it goes first")
+            terminal.wait_for("go on? (yes) ")
+            time.sleep(PAUSE)
+            terminal.type(answer)
+            terminal.wait_for(told)
+            terminal.wait_for("tsd> ")
+            self.assertIn("20,000  a", terminal.ask("ls -l"))
+        terminal.type("put two a\n")
+        terminal.wait_for("go on? (yes) ")
+        terminal.type("yes\n")
+        terminal.wait_for("tsd> ")
+        terminal.ask("get a back")
+        self.assertEqual(bytes_for(21000), (self.folder / "back").read_bytes())
+        terminal.type("quit\n")
+        self.assertEqual(0, terminal.ended())
+
+    def lines(self, image: str, kind: str, text: str) -> None:
+        """Lines for the program itself."""
+        words = [self.program, image, "shell", kind, "0", WRITE, "near"]
+        subprocess.run(words, input=text, text=True, cwd=self.folder, check=True, stdout=subprocess.DEVNULL)
+
+    def test_a_prompt_tells_the_directory(self) -> None:
+        with self.terminal(self.image_of("inode")) as terminal:
+            self.confirmed(terminal)
+            terminal.ask("mkdir docs")
+            (self.folder / "note").write_bytes(b"hello")
+            terminal.type("cd do\t\n")
+            terminal.wait_for("tsd /docs> ")
+            terminal.type("put note x\n")
+            terminal.wait_for("tsd /docs> ")
+            terminal.type("cat x\t\n")
+            self.assertIn("hello", terminal.wait_for("tsd /docs> "))
+            terminal.type("cd ..\n")
+            terminal.wait_for("tsd> ")
+
     def test_ctrl_c_stops_a_transfer(self) -> None:
-        (self.folder / "long").write_bytes(bytes(16 * 2**20))
+        (self.folder / "long").write_bytes(bytes(1020 * 4096))
         with self.terminal(self.image_of("inode")) as terminal:
             self.confirmed(terminal)
             terminal.type("put long\n")
             terminal.wait_for("long: [")
-            terminal.type("\x03")
+            terminal.type("\x03\x03\x03")
             terminal.wait_for("put: stopped")
             terminal.wait_for("tsd> ")
             self.assertEqual("", terminal.ask("ls"))
@@ -325,6 +350,7 @@ class OverProgram(OverFake):
     """The same over the program itself."""
 
     program = PROGRAM
+    has_image = True
 
     @classmethod
     def setUpClass(cls) -> None:
@@ -337,87 +363,3 @@ class OverProgram(OverFake):
         subprocess.run([PROGRAM, image, "fresh", blocks, sectors, READ, WRITE, "near"], cwd=self.folder,
                        stdin=subprocess.DEVNULL, check=True)
         return image
-
-
-class Pieces(unittest.TestCase):
-    """Lines, answers and paths."""
-
-    def test_paths(self) -> None:
-        for text, path in (("a", "/a"), ("/", "/"), ("", "/"), ("a/b/", "/a/b"), ("/" + "x" * 28, "/" + "x" * 28)):
-            self.assertEqual(path, lines.disk_path(text))
-        for text in ("a//b", "..", "a/.", "-", "x" * 29, "a b", "ä", "a\n", "/".join("a" * 17)):
-            self.assertRaises(lines.BadPath, lines.disk_path, text)
-        self.assertEqual([("/", "a"), ("/a", "b"), ("/", "")], [lines.split_path(path) for path in ("/a", "/a/b", "/")])
-
-    def test_no_line_is_too_long(self) -> None:
-        for path in ("/a", "/" + "/".join(["x" * 28] * 16)):
-            length = lines.piece_length(path)
-            line = lines.bringing_line("append", path, bytes(length))
-            self.assertLessEqual(len(line), lines.MOST_LINE)
-            self.assertTrue(length == lines.PIECE or len(line) >= lines.MOST_LINE - 1)
-
-    def test_refusals_in_words(self) -> None:
-        self.assertEqual("no room: 5 blocks free, 9 needed", str(refusal("full 5 9")))
-        self.assertEqual("no room for pointers: 5 of 9 are held", str(refusal("pointers-full 5 9")))
-        for rule in WORDS:
-            self.assertEqual(WORDS[rule], str(refusal(rule)))
-        for words in ("full", "full 5", "full x y", "exists 1", "none", ""):
-            self.assertRaises(ValueError, refusal, words)
-
-    def test_answers_in_pieces(self) -> None:
-        data = bytes_for(1000)
-        text = b"data " + data.hex().encode()
-        for size in (1, 2, 3, 4, 5, 6, 7, 100, len(text)):
-            pieces = iter([text[at:at + size] for at in range(0, len(text), size)])
-            self.assertEqual(data, b"".join(bytes_of(pieces, no_progress)))
-        self.assertEqual(b"", b"".join(bytes_of(iter([b"da", b"ta -"]), no_progress)))
-        for pieces in ([b"ok"], [b"data 6"], [b"data 6x"], [b"names -"], [b"data 6869-"]):
-            with self.assertRaises(tsd.NoReply):
-                list(bytes_of(iter(pieces), no_progress))
-
-    def test_bars(self) -> None:
-        self.assertEqual("a: [###############...............]  50%, 500 B of 1.0 KB", bar.bar_text("a", 500, 1000))
-        self.assertEqual("a: 1.5 MB", bar.bar_text("a", 1500000, None))
-
-    def test_a_stopped_transfer_keeps_in_step(self) -> None:
-        from tsd.peers import ProgramPeer
-        from tsd.shell.files import Stopped
-
-        program = ShellProgram(ProgramPeer([str(FAKE), "x.img", "shell", "inode", "0", WRITE, "near"]), MOST_SECONDS)
-        files = Files(program, "inode")
-        files.do("mkfs")
-        files.put(io.BytesIO(bytes(500000)), "/a")
-
-        def stop_later(count: int) -> None:
-            if count > 50000:
-                raise Stopped
-
-        with self.assertRaises(Stopped):
-            list(files.get("/a", stop_later))
-        self.assertEqual(["a"], files.names("/"))
-        with self.assertRaises(Stopped):
-            files.put(io.BytesIO(bytes(500000)), "/a", stop_later)
-        self.assertEqual(["a"], files.names("/"))
-        self.assertEqual(500000, sum(map(len, files.get("/a"))))
-        program.close()
-
-    def test_candidates(self) -> None:
-        files = mock.Mock()
-        tree = {"/": ["ab", "abc", "docs"], "/docs": ["x"]}
-
-        def names(path: str) -> Optional[List[str]]:
-            if path not in tree:
-                raise refusal("not-dir")
-            return tree[path]
-
-        files.names = names
-        completer = Completer(files)
-        self.assertEqual(["mkdir ", "mkfs "], completer.candidates("", "mk"))
-        self.assertEqual(["/ab", "/abc"], completer.candidates("cat ", "/a"))
-        self.assertEqual(["abc "], completer.candidates("cat ", "abc"))
-        self.assertEqual(["docs/"], completer.candidates("ls ", "d"))
-        self.assertEqual(["docs/x "], completer.candidates("cp ab ", "docs/"))
-        self.assertEqual([], completer.candidates("ls / ", "d"))
-        self.assertEqual([], completer.candidates("frob ", "d"))
-        self.assertEqual([], completer.candidates("cat ", "nothing/"))
-        self.assertIn(str(FAKE) + " ", local_files(str(FAKE)[:-1]))

@@ -11,21 +11,26 @@ Blocks are numbers, contents are bytes, and capabilities are a type that never p
 exception of its own, and no call waits for ever. This package stands outside the disk's proofs, and weakens none.
 """
 
+from tsd import aio
 from tsd.capability import Capability, Pair
-from tsd.disk import Disk, Session, connect
+from tsd.disk import Disk, connect
 from tsd.disk import open_disk as open
 from tsd.errors import (
     AlreadyOpen, BadCount, BadRequest, BadSession, BadSize, Closed, Denied, DiskEnded, Ended, FreeBlock, Full, HubFull,
-    HubStopped, IsPrimary, Level, LinkError, NoMemory, NoPointer, NoReply, NoRun, NoSuchBlock, NotOpen, NotPrimary,
-    PointerExists, PointersFull, ProgramEnded, Refused, Silent, TsdError,
+    HubIdle, HubStopped, IsPrimary, Level, LinkError, LockTaken, NoMemory, NoPointer, NoReply, NoRun, NoSuchBlock,
+    NotOpen, NotPrimary, PointerExists, PointersFull, ProgramEnded, Refused, Silent, TsdError, Unknown, WrongProcess,
 )
+from tsd.hub_words import Greeting
+from tsd.locks import Lock
 from tsd.programs import format_disk
+from tsd.session import Session
 
 __version__ = "0.2.0"
 
 __all__ = [
     "AlreadyOpen", "BadCount", "BadRequest", "BadSession", "BadSize", "Capability", "Closed", "Denied", "Disk",
-    "DiskEnded", "Ended", "FreeBlock", "Full", "HubFull", "HubStopped", "IsPrimary", "Level", "LinkError", "NoMemory",
-    "NoPointer", "NoReply", "NoRun", "NoSuchBlock", "NotOpen", "NotPrimary", "Pair", "PointerExists", "PointersFull",
-    "ProgramEnded", "Refused", "Session", "Silent", "TsdError", "connect", "format_disk", "open",
+    "DiskEnded", "Ended", "FreeBlock", "Full", "Greeting", "HubFull", "HubIdle", "HubStopped", "IsPrimary", "Level",
+    "LinkError", "Lock", "LockTaken", "NoMemory", "NoPointer", "NoReply", "NoRun", "NoSuchBlock", "NotOpen",
+    "NotPrimary", "Pair", "PointerExists", "PointersFull", "ProgramEnded", "Refused", "Session", "Silent", "TsdError",
+    "Unknown", "WrongProcess", "aio", "connect", "format_disk", "open",
 ]

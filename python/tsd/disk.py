@@ -1,144 +1,72 @@
-"""A disk that is open, and its sessions."""
+"""A disk that is open: its own program, or a hub that was joined."""
 
 from __future__ import annotations
 
+import functools
+import logging
 import threading
 from concurrent.futures import Future
 from types import TracebackType
-from typing import Iterator, List, Optional, Set, Type, TypeVar
+from typing import Any, List, Optional, Set, Tuple, Type, TypeVar
 
 from tsd import requests
-from tsd.capability import Capability
-from tsd.errors import Ended, LinkError, NotOpen, ProgramEnded, TsdError
+from tsd.arguments import PathWord, one_of, path_word, seconds
+from tsd.errors import BadRequest, Ended, LinkError, ProgramEnded, TsdError
+from tsd.hub_words import Greeting
+from tsd.image_header import geometry_of
 from tsd.link import Link
+from tsd.locks import LIMIT
 from tsd.peers import ProgramPeer, SocketPeer
-from tsd.programs import PathWord, Program, image_word, program_words
-from tsd.replies import MOST_TARGETS
+from tsd.programs import PLACES, Program, image_word, program_words
 from tsd.requests import Request
+from tsd.session import Session
 
 Answer = TypeVar("Answer")
+LOG = logging.getLogger("tsd")
 SESSIONS = range(1, 65)
-LIMIT = 60.0
-
-
-class Session:
-    """A session of a disk, from its opening to its closing. As a context it closes itself.
-
-    Each call waits for its answer, and raises the refusal or what became of the link; `ask` doesn't wait. A capability
-    is shown only with the request that it is given to.
-    """
-
-    def __init__(self, disk: Disk, number: int) -> None:
-        """Of `Disk.session`."""
-        self._disk = disk
-        self.number = number
-        self.is_open = True
-
-    def ask(self, request: Request[Answer]) -> Future[Answer]:
-        """Sends a request of this session, and doesn't wait: several may be under way, and are carried out in the
-        order in which they were asked. NotOpen is raised at once where the session was closed."""
-        if not self.is_open:
-            raise NotOpen
-        return self._disk.ask(request, self.number)
-
-    def read(self, block: int, cap: Optional[Capability] = None) -> bytes:
-        """All bytes of a block."""
-        return self.ask(requests.Read(block, cap)).result()
-
-    def write(self, block: int, data: bytes, cap: Optional[Capability] = None) -> None:
-        """Sets a block's bytes; zeros follow to its end."""
-        self.ask(requests.Write(block, data, cap)).result()
-
-    def alloc(
-        self, source: int, count: int = 1, cap: Optional[Capability] = None, hint: Optional[int] = None
-    ) -> List[int]:
-        """Takes 1 to 32 free blocks, with a pointer to each from the source."""
-        return self.ask(requests.Alloc(source, count, cap, hint)).result()
-
-    def alloc_contiguous(
-        self, source: int, count: int = 1, cap: Optional[Capability] = None, hint: Optional[int] = None
-    ) -> List[int]:
-        """The same with blocks in a row."""
-        return self.ask(requests.AllocContiguous(source, count, cap, hint)).result()
-
-    def create(self, source: int, target: int, cap: Optional[Capability] = None) -> None:
-        """Adds a pointer; the capability is for the source."""
-        self.ask(requests.Create(source, target, cap)).result()
-
-    def delete(self, source: int, target: int, cap: Optional[Capability] = None) -> int:
-        """Deletes a pointer; how many blocks were reclaimed."""
-        return self.ask(requests.Delete(source, target, cap)).result()
-
-    def set_capabilities(
-        self, block: int, read: Capability, write: Capability, cap: Optional[Capability] = None
-    ) -> None:
-        """Gives a primary block new capabilities; what any session holds from it ends."""
-        self.ask(requests.SetCapabilities(block, read, write, cap)).result()
-
-    def sweep(self, cap: Optional[Capability] = None) -> int:
-        """Reclaims what no primary block leads to; how many blocks that were. The capability is for block 0."""
-        return self.ask(requests.Sweep(cap)).result()
-
-    def list(self, source: int, cap: Optional[Capability] = None, start: int = 0) -> Iterator[int]:
-        """All targets of a block's pointers from the start on, ascending: 64 are asked for at a time, as they are
-        taken. What changes meanwhile may be told or not."""
-        targets = self.ask(requests.List64(source, start, cap)).result()
-        yield from targets
-        while len(targets) == MOST_TARGETS:
-            targets = self.ask(requests.List64(source, targets[-1] + 1, cap)).result()
-            yield from targets
-
-    def free(self) -> int:
-        """How many blocks are free."""
-        return self._disk.free()
-
-    def close(self) -> None:
-        """Ends all that the session holds. Once more does nothing."""
-        if self.is_open:
-            self.is_open = False
-            self._disk._end(self.number)
-
-    def __enter__(self) -> Session:
-        return self
-
-    def __exit__(
-        self, kind: Optional[Type[BaseException]], error: Optional[BaseException], where: Optional[TracebackType]
-    ) -> None:
-        try:
-            self.close()
-        except TsdError:
-            if kind is None:
-                raise
+GROUP, SERVE = "group", "serve"
+USAGE = 2
 
 
 class Disk:
-    """A disk that `open` or `connect` opened. As a context it closes itself. Several threads may use it."""
+    """A disk that `open` or `connect` opened. As a context it closes itself. Several threads may use it; another
+    process may not (WrongProcess)."""
 
-    def __init__(self, link: Link) -> None:
+    def __init__(self, link: Link, geometry: Optional[Greeting] = None) -> None:
         """Of `open` and `connect`."""
         self._link = link
+        self._geometry = geometry
         self._taken: Set[int] = set()
         self._lock = threading.Lock()
+        self._unknown: List[Request[Any]] = []
 
     @property
     def failure(self) -> Optional[LinkError]:
         """Why the disk can't be used any more; None while it can."""
         return self._link.failure
 
+    @property
+    def geometry(self) -> Optional[Greeting]:
+        """The bytes of a block, how many blocks and primary blocks there are, and the version of the image; None where
+        neither a hub tells it nor the image is a file of this machine."""
+        return self._geometry
+
     def session(self, number: Optional[int] = None) -> Session:
         """Opens a session: of this number (1 to 64), or of the least that this disk's sessions don't use. Over a hub
         there is one at a time, whose number the hub sets."""
+        link = self._live_link()
         with self._lock:
             if number is None:
                 number = next((each for each in SESSIONS if each not in self._taken), SESSIONS[-1])
             is_new = number not in self._taken
             self._taken.add(number)
         try:
-            self.ask(requests.Begin(), number).result()
-        except TsdError:
-            self._give_back(number, is_new)
+            link.ask(requests.Begin(), number).result()
+        except (TsdError, TypeError, ValueError):
+            if is_new:
+                self._give_back(link, number)
             raise
-        return Session(self, number)
+        return Session(link, number, functools.partial(self._give_back, link))
 
     def free(self) -> int:
         """How many blocks are free."""
@@ -147,7 +75,14 @@ class Disk:
     def ask(self, request: Request[Answer], session: int = 0) -> Future[Answer]:
         """Sends a request of a session, and doesn't wait. The future's callbacks run in the thread that reads, so they
         may wait for nothing."""
-        return self._link.ask(request, session)
+        return self._live_link().ask(request, session)
+
+    def take_unknown(self) -> List[Request[Any]]:
+        """The requests that change something whose replies didn't come, in the order in which they were asked: each
+        was carried out whole, or not at all. The next call tells only those that came since."""
+        self._note_unknown(self._link)
+        unknown, self._unknown = self._unknown, []
+        return unknown
 
     def close(self) -> None:
         """Ends the link, once the requests under way are answered. ProgramEnded where the program ended with another
@@ -158,15 +93,18 @@ class Disk:
         if failure is not None and (self._link.lost or not is_good_end(failure)):
             raise failure
 
-    def _end(self, number: int) -> None:
-        try:
-            self.ask(requests.End(), number).result()
-        finally:
-            self._give_back(number, True)
+    def _live_link(self) -> Link:
+        """The link to ask by."""
+        self._link.check_process()
+        return self._link
 
-    def _give_back(self, number: int, is_ours: bool) -> None:
+    def _note_unknown(self, link: Link) -> None:
+        self._unknown += [request for request in link.take_lost() if request.CHANGES]
+
+    def _give_back(self, link: Link, number: int) -> None:
+        """A number of this link, which may be one of before, is free again."""
         with self._lock:
-            if is_ours:
+            if link is self._link:
                 self._taken.discard(number)
 
     def __enter__(self) -> Disk:
@@ -181,6 +119,9 @@ class Disk:
             if kind is None:
                 raise
 
+    def __repr__(self) -> str:
+        return f"<disk, {self._link!r}>"
+
 
 def is_good_end(failure: LinkError) -> bool:
     """Whether the other side ended as it should when it is asked nothing more."""
@@ -189,14 +130,66 @@ def is_good_end(failure: LinkError) -> bool:
     return not isinstance(failure, ProgramEnded) or failure.status == 0
 
 
-def open_disk(image: PathWord, place: str = "near", *, program: Program = None, limit: float = LIMIT) -> Disk:
-    """Starts `tsd IMAGE serve PLACE` for this process alone. The place says which free block is taken first: `low`,
-    `near`, `spread` or `zone`. Where requests are under way and no reply comes for so many seconds as the limit says,
-    the disk has failed (Silent); the first reply waits for the opening of the image."""
-    words = program_words(program) + [image_word(image), "serve", place]
-    return Disk(Link(ProgramPeer(words), limit))
+def greeted(link: Link) -> Optional[Greeting]:
+    """Waits until the other side answers, so that the disk is open; what it greets with, if it does. Where it fails
+    the link is closed."""
+    try:
+        greeting: Optional[Greeting] = link.ask(requests.Hello()).result()
+    except BadRequest:
+        greeting = None
+    except BaseException:
+        link.close()
+        raise
+    LOG.info("open: %r", link)
+    return greeting
 
 
-def connect(path: PathWord, *, limit: float = LIMIT) -> Disk:
-    """Joins the hub at a Unix socket."""
-    return Disk(Link(SocketPeer(path, limit), limit))
+def started(program: List[str], image: str, command: List[str], limit: float) -> Disk:
+    """Starts a program that serves frames, and waits until the disk is open. One of several words, as of ssh, may be on
+    another machine: then no file here tells the geometry."""
+    link = Link(ProgramPeer([*program, image_word(image), *command]), limit)
+    greeting = greeted(link)
+    return Disk(link, greeting or (geometry_of(image) if len(program) == 1 else None))
+
+
+WITHOUT_GROUP: Set[Tuple[str, ...]] = set()
+
+
+def open_disk(
+    image: PathWord, place: str = "near", *, program: Program = None, limit: float = LIMIT, group: bool = True
+) -> Disk:
+    """Opens an image by `tsd IMAGE group PLACE`, or by `serve` where the program has no such command or `group` is
+    false, for this process alone. By `group` requests that are under way together are committed together, so that a
+    crash may leave the disk further on than the last reply by several requests; by `serve` it is one at most.
+
+    The place says which free block is taken first: `low`, `near`, `spread` or `zone`. It waits until the image is open;
+    ProgramEnded where it can't be opened. Where requests are under way and no reply comes for so many seconds as the
+    limit says, the disk has failed (Silent); the opening has to come within it too."""
+    name, place, limit = path_word(image, "image"), one_of(place, "place", PLACES), seconds(limit)
+    words = program_words(program)
+    if not group or tuple(words) in WITHOUT_GROUP:
+        return started(words, name, [SERVE, place], limit)
+    try:
+        return started(words, name, [GROUP, place], limit)
+    except ProgramEnded as ended:
+        if ended.status != USAGE:
+            raise
+    # A program that has no such command has read nothing, and has changed nothing.
+    disk = started(words, name, [SERVE, place], limit)
+    WITHOUT_GROUP.add(tuple(words))
+    return disk
+
+
+def joined(path: str, limit: float, tells_unknown: bool = False) -> Tuple[Link, Optional[Greeting]]:
+    """A link to a hub that has answered, and its greeting."""
+    link = Link(SocketPeer(path, limit), limit, tells_unknown)
+    return link, greeted(link)
+
+
+def connect(path: PathWord, *, limit: float = LIMIT, reconnect: bool = False) -> Disk:
+    """Joins the hub at a Unix socket. With `reconnect` the disk joins again where the hub ended and came again: see
+    `ReconnectingDisk`."""
+    from tsd.reconnecting import ReconnectingDisk
+
+    name, limit = path_word(path, "path"), seconds(limit)
+    return ReconnectingDisk(name, limit) if reconnect else Disk(*joined(name, limit))

@@ -3,7 +3,9 @@
 from __future__ import annotations
 
 from enum import IntEnum
-from typing import ClassVar, Tuple, Type
+from typing import Any, ClassVar, Tuple, Type
+
+from tsd.plain import plain_lines
 
 
 class Level(IntEnum):
@@ -18,7 +20,18 @@ class Level(IntEnum):
 
 
 class TsdError(Exception):
-    """All errors of this package."""
+    """All errors of this package. They print as their type with what FIELDS names."""
+
+    FIELDS: ClassVar[Tuple[str, ...]] = ()
+
+    def __repr__(self) -> str:
+        told = ", ".join(f"{name}={shown_field(getattr(self, name))}" for name in self.FIELDS)
+        return f"{type(self).__name__}({told or ', '.join(map(repr, self.args))})"
+
+
+def shown_field(value: Any) -> str:
+    """A field as it is printed."""
+    return str(value) if isinstance(value, Level) else repr(value)
 
 
 class NoMemory(TsdError):
@@ -101,7 +114,7 @@ class IsPrimary(Refused):
 class Denied(Refused):
     """The level attained is below the one needed."""
 
-    RULE = 10
+    RULE, FIELDS = 10, ("attained", "needed")
 
     def __init__(self, attained: Level, needed: Level) -> None:
         super().__init__(attained, needed)
@@ -127,7 +140,7 @@ class NoPointer(Refused):
 class Full(Refused):
     """Fewer blocks are free than were asked for."""
 
-    RULE = 13
+    RULE, FIELDS = 13, ("free", "wanted")
 
     def __init__(self, free: int, wanted: int) -> None:
         super().__init__(free, wanted)
@@ -141,7 +154,7 @@ class Full(Refused):
 class NoRun(Refused):
     """Enough blocks are free, but not in a row."""
 
-    RULE = 14
+    RULE, FIELDS = 14, ("free", "wanted")
 
     def __init__(self, free: int, wanted: int) -> None:
         super().__init__(free, wanted)
@@ -155,7 +168,7 @@ class NoRun(Refused):
 class PointersFull(Refused):
     """There is no room for the new pointers."""
 
-    RULE = 15
+    RULE, FIELDS = 15, ("held", "most")
 
     def __init__(self, held: int, most: int) -> None:
         super().__init__(held, most)
@@ -179,6 +192,51 @@ class LinkError(TsdError):
     carried out whole, or not at all."""
 
 
+class WrongProcess(LinkError):
+    """A disk was used in another process than the one that opened it, as a child of `fork` would."""
+
+    FIELDS = ("opened", "here")
+
+    def __init__(self, opened: int, here: int) -> None:
+        super().__init__(opened, here)
+        self.opened = opened
+        self.here = here
+
+    def __str__(self) -> str:
+        return (f"the disk was opened in process {self.opened}, and this is process {self.here}: only one process may "
+                "use a link. Open another one here: tsd.connect joins a hub, which serves many processes")
+
+
+class Unknown(LinkError):
+    """The link failed before the reply to this request came: it was carried out whole, or not at all."""
+
+    FIELDS = ("request", "cause")
+
+    def __init__(self, request: object, cause: LinkError) -> None:
+        super().__init__(request, cause)
+        self.request = request
+        self.cause = cause
+
+    def __str__(self) -> str:
+        return f"{self.cause}; whether {type(self.request).__name__} was carried out isn't known"
+
+
+class LockTaken(TsdError):
+    """A lock was held by others for so many seconds."""
+
+    FIELDS = ("source", "target", "seconds")
+
+    def __init__(self, source: int, target: int, seconds: float) -> None:
+        super().__init__(source, target, seconds)
+        self.source = source
+        self.target = target
+        self.seconds = seconds
+
+    def __str__(self) -> str:
+        return (f"the lock, the pointer from block {self.source} to block {self.target}, was held for "
+                f"{self.seconds:g} seconds. Where its holder crashed it stays held until that pointer is deleted")
+
+
 class Closed(LinkError):
     """This side closed the link."""
 
@@ -193,6 +251,8 @@ class NoReply(LinkError):
 class Silent(LinkError):
     """Requests were under way, and for so many seconds no reply came, or nothing could be sent."""
 
+    FIELDS = ("seconds",)
+
     def __init__(self, seconds: float) -> None:
         super().__init__(seconds)
         self.seconds = seconds
@@ -203,6 +263,8 @@ class Silent(LinkError):
 
 class Ended(LinkError):
     """The other side ended; `is_cut_off` where it did so inside a frame."""
+
+    FIELDS: ClassVar[Tuple[str, ...]] = ("is_cut_off",)
 
     def __init__(self, is_cut_off: bool = False) -> None:
         super().__init__(is_cut_off)
@@ -218,6 +280,8 @@ class Ended(LinkError):
 class ProgramEnded(Ended):
     """The disk's program ended, with a status (below 0 for the number of a signal) and words on standard error."""
 
+    FIELDS = ("status", "words", "is_cut_off")
+
     def __init__(self, status: int, words: str, is_cut_off: bool = False) -> None:
         super().__init__(is_cut_off)
         self.args = (status, words, is_cut_off)
@@ -225,12 +289,14 @@ class ProgramEnded(Ended):
         self.words = words
 
     def __str__(self) -> str:
-        words = f": {self.words}" if self.words else ""
+        words = f": {plain_lines(self.words)}" if self.words else ""
         return f"the disk's program ended with status {self.status}{self._where()}{words}"
 
 
 class DiskEnded(LinkError):
     """A hub tells that its disk ended, with this status and these words."""
+
+    FIELDS = ("status", "words")
 
     def __init__(self, status: int, words: str) -> None:
         super().__init__(status, words)
@@ -238,14 +304,34 @@ class DiskEnded(LinkError):
         self.words = words
 
     def __str__(self) -> str:
-        return f"the hub's disk ended with status {self.status}" + (f": {self.words}" if self.words else "")
+        words = f": {plain_lines(self.words)}" if self.words else ""
+        return f"the hub's disk ended with status {self.status}{words}"
 
 
-class HubFull(LinkError):
-    """A hub tells that all its sessions are taken."""
+class HubEnd(LinkError):
+    """A hub tells that it doesn't serve this client, and may say more."""
+
+    FIELDS = ("words",)
+    REASON: ClassVar[str] = "the hub doesn't serve this client"
+
+    def __init__(self, words: str = "") -> None:
+        super().__init__(words)
+        self.words = words
 
     def __str__(self) -> str:
-        return "the hub has no session left"
+        return self.REASON + (f": {plain_lines(self.words)}" if self.words else "")
+
+
+class HubFull(HubEnd):
+    """A hub tells that it has no session for this client: all are taken, or too many are this user's."""
+
+    REASON = "the hub has no session left"
+
+
+class HubIdle(HubEnd):
+    """A hub tells that it ended the connection, since nothing was asked for long."""
+
+    REASON = "the hub ended an idle connection"
 
 
 class HubStopped(LinkError):

@@ -1,50 +1,62 @@
 """A link to a disk: requests go out as they are asked, and replies are given, in their order, to those who wait.
 
 A thread reads the replies. It also sees that nobody waits for ever: where requests are under way and no reply comes for
-as long as the limit, the link has failed, and every request under way with it.
+as long as the limit, the link has failed, and every request under way with it. A link is for the process that opened
+it: a child of `fork` gives its copies of the descriptors back, and is refused.
 """
 
 from __future__ import annotations
 
+import logging
 import os
 import select
 import threading
 import time
+import weakref
 from collections import deque
 from concurrent.futures import Future
-from typing import Any, Deque, NamedTuple, Optional, TypeVar
+from typing import Any, Deque, List, NamedTuple, Optional, TypeVar
 
-from tsd.errors import Closed, LinkError, NoReply, Silent, TsdError
+from tsd.errors import Closed, LinkError, NoReply, Silent, TsdError, Unknown, WrongProcess
 from tsd.frames import FrameCutter, frame
+from tsd.hub_words import greeting_of
 from tsd.peers import Peer
-from tsd.replies import Kind, decode_reply
+from tsd.replies import Kind, Reply, decode_reply
 from tsd.requests import Request
 
 Answer = TypeVar("Answer")
+LOG = logging.getLogger("tsd")
+LOG.addHandler(logging.NullHandler())
 PIECE = 65536
 LONGEST_NAP = 0.5
 
 
 class Waiting(NamedTuple):
-    """A request under way: the kind of reply that answers it, and where its answer goes."""
+    """A request under way, and where its answer goes."""
 
-    kind: Kind
+    request: Request[Any]
     future: Future[Any]
 
 
 class Link:
     """Requests and replies to a peer. Several threads may use it."""
 
-    def __init__(self, peer: Peer, limit: float) -> None:
-        """The limit is a number of seconds, above 0."""
+    def __init__(self, peer: Peer, limit: float, tells_unknown: bool = False) -> None:
+        """The limit is a number of seconds, above 0. Where the link fails each request under way gets the failure, or
+        where that is asked for Unknown, which has the request too."""
         self._peer = peer
         self._limit = limit
+        self._tells_unknown = tells_unknown
+        self._process = os.getpid()
+        LINKS.add(self)
         self._sending = threading.Lock()
         self._state = threading.Lock()
         self._waiting: Deque[Waiting] = deque()
         self._failure: Optional[LinkError] = None
         self._lost = 0
+        self._untold: List[Request[Any]] = []
         self._is_closed = False
+        self._has_answered = False
         self._since = time.monotonic()
         self._reader = threading.Thread(target=self._receive, name="tsd replies", daemon=True)
         self._reader.start()
@@ -57,22 +69,37 @@ class Link:
     @property
     def lost(self) -> int:
         """How many requests were under way when it failed."""
-        return self._lost
+        with self._state:
+            return self._lost
+
+    def take_lost(self) -> List[Request[Any]]:
+        """These requests in their order; each is told once."""
+        with self._state:
+            taken, self._untold = self._untold, []
+        return taken
+
+    def check_process(self) -> None:
+        """WrongProcess in any other process than the one that opened it."""
+        if os.getpid() != self._process:
+            raise WrongProcess(self._process, os.getpid())
 
     def ask(self, request: Request[Answer], session: int = 0) -> Future[Answer]:
         """Sends a request, and doesn't wait for its reply: the future gets the answer, or the error. A LinkError is
         raised at once where the link has failed before."""
+        self.check_process()
+        LOG.debug("asked: %s of session %s", type(request).__name__, session)
         text = frame(request.encode(session))
         future: Future[Answer] = Future()
         future.set_running_or_notify_cancel()
         with self._sending:
-            self._begin(Waiting(request.KIND, future))
+            self._begin(Waiting(request, future))
             self._write(text)
         return future
 
     def close(self) -> bool:
         """No more requests: waits for the replies that are under way and for the other side's end, within the limit.
         False where it was closed before."""
+        self.check_process()
         with self._sending:
             self._is_closed, was_closed = True, self._is_closed
             if not was_closed:
@@ -85,7 +112,16 @@ class Link:
             self._peer.stop()
             self._reader.join()
         self._peer.release()
+        LOG.info("closed: %s", self._peer)
         return True
+
+    def forget(self) -> None:
+        """In a child of `fork`: gives back what the child has of it, and leaves the parent's as it is."""
+        self._peer.forget()
+
+    def __repr__(self) -> str:
+        state = "closed" if self._is_closed else "failed" if self._failure else "open"
+        return f"<link to {self._peer}, {state}>"
 
     # --- sending ---
 
@@ -162,32 +198,61 @@ class Link:
                 raise Silent(self._limit)
 
     def _settle(self, body: bytes) -> None:
-        """Gives a reply to the request that has waited longest."""
+        """Gives a reply to the request that has waited longest. A greeting that nobody asked for is passed over."""
         told = self._peer.told(body)
         if told is not None:
             raise told
-        reply = decode_reply(body)
+        greeting = greeting_of(body)
+        reply = decode_reply(body) if greeting is None else Reply(Kind.GREETING, greeting)
         with self._state:
-            waiting = self._waiting.popleft() if self._waiting else None
+            is_asked = bool(self._waiting) and (greeting is None or self._waiting[0].request.KIND == Kind.GREETING)
+            waiting = self._waiting.popleft() if is_asked else None
             self._since = time.monotonic()
-        if waiting is None:
+            self._has_answered = True
+        if waiting is not None:
+            give(waiting, reply)
+        elif greeting is None:
             raise NoReply("a reply came to no request")
-        if isinstance(reply.value, TsdError):
-            waiting.future.set_exception(reply.value)
-        elif reply.kind == waiting.kind:
-            waiting.future.set_result(reply.value)
-        else:
-            error = NoReply(f"the reply is of kind {reply.kind.name}, not {waiting.kind.name}")
-            waiting.future.set_exception(error)
-            raise error
 
     def _fail(self, error: LinkError) -> None:
         """The first failure stays. Each request under way gets it."""
         with self._state:
+            is_first = self._failure is None
             self._failure = self._failure or error
             error = self._failure
             left = list(self._waiting)
             self._lost += len(left)
+            self._untold += [waiting.request for waiting in left]
             self._waiting.clear()
+        if is_first and not self._is_closed:
+            # Who opens it is told by an exception; a failure later may come while nobody asks.
+            level = logging.WARNING if self._has_answered else logging.INFO
+            LOG.log(level, "failed: %s: %s; %d requests were under way", self._peer, error, len(left))
         for waiting in left:
-            waiting.future.set_exception(error)
+            waiting.future.set_exception(Unknown(waiting.request, error) if self._tells_unknown else error)
+
+
+def give(waiting: Waiting, reply: Reply) -> None:
+    """Gives an answer; NoReply where the reply is of another kind than the request takes."""
+    kind = waiting.request.KIND
+    if isinstance(reply.value, TsdError):
+        waiting.future.set_exception(reply.value)
+    elif reply.kind == kind:
+        waiting.future.set_result(reply.value)
+    else:
+        error = NoReply(f"the reply is of kind {reply.kind.name}, not {kind.name}")
+        waiting.future.set_exception(error)
+        raise error
+
+
+LINKS: weakref.WeakSet[Link] = weakref.WeakSet()
+
+
+def forget_all() -> None:
+    """In a child of `fork`: a link is its parent's. A pipe that the child kept open would hold up the parent's end."""
+    for link in list(LINKS):
+        link.forget()
+    LINKS.clear()
+
+
+os.register_at_fork(after_in_child=forget_all)

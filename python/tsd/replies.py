@@ -6,6 +6,7 @@ from enum import IntEnum
 from typing import List, NamedTuple, Optional, Union
 
 from tsd.errors import NUMBER_RULES, PLAIN_RULES, Denied, Level, NoMemory, NoReply, Refused, TsdError
+from tsd.hub_words import Greeting
 
 BLOCK_LENGTHS = (512, 1024, 2048, 4096)
 MOST_NEW_BLOCKS = 32
@@ -15,7 +16,7 @@ NUMBERS_BY_BYTE = {rule.RULE: rule for rule in NUMBER_RULES}
 
 
 class Kind(IntEnum):
-    """The code of a reply."""
+    """The code of a reply; the last one is a hub's own."""
 
     DONE = 1
     BYTES = 2
@@ -25,17 +26,18 @@ class Kind(IntEnum):
     TARGETS = 6
     NO_MEMORY = 7
     REFUSED = 8
+    GREETING = 255
 
 
 class Reply(NamedTuple):
     """A reply and what it tells: nothing, bytes, numbers, a number, or the error that it stands for."""
 
     kind: Kind
-    value: Union[None, bytes, List[int], int, TsdError]
+    value: Union[None, bytes, List[int], int, Greeting, TsdError]
 
 
 def decode_reply(body: bytes) -> Reply:
-    """The reply that has this body; NoReply where there is none."""
+    """The reply of a disk that has this body; NoReply where there is none."""
     reply = _value(body[:1], body[1:])
     if reply is None:
         code = f"code {body[0]}" if body else "no code"

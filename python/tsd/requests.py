@@ -5,35 +5,43 @@ from __future__ import annotations
 from dataclasses import dataclass
 from typing import ClassVar, Generic, List, Optional, TypeVar
 
+from tsd.arguments import content, kind_of, whole_number
 from tsd.capability import Capability
+from tsd.hub_words import HELLO, HUB, Greeting
 from tsd.replies import Kind
 
-MOST_NUMBER = 0xFFFFFFFF
 Answer = TypeVar("Answer", covariant=True)
 
 
-def number(value: int) -> bytes:
-    """Four bytes, the lowest first; ValueError where it doesn't fit in."""
-    if not 0 <= value <= MOST_NUMBER:
-        raise ValueError(f"a number is 0 to {MOST_NUMBER}, not {value}")
-    return value.to_bytes(4, "little")
+def number(value: int, name: str = "a number") -> bytes:
+    """Four bytes, the lowest first; a TypeError or a ValueError names the field where it is no such number."""
+    return whole_number(value, name).to_bytes(4, "little")
+
+
+def secret(cap: Capability, name: str) -> bytes:
+    """The bytes of a capability."""
+    if not isinstance(cap, Capability):
+        raise TypeError(f"{name} is a Capability, not {kind_of(cap)}")
+    return cap.reveal()
 
 
 def shown(cap: Optional[Capability]) -> bytes:
     """A byte 0 where nothing is shown, or a byte 1 and the capability."""
-    return b"\0" if cap is None else b"\1" + cap.reveal()
+    return b"\0" if cap is None else b"\1" + secret(cap, "cap")
 
 
 def hinted(hint: Optional[int]) -> bytes:
     """A byte 0 for no hint, or a byte 1 and a number."""
-    return b"\0" if hint is None else b"\1" + number(hint)
+    return b"\0" if hint is None else b"\1" + number(hint, "hint")
 
 
 class Request(Generic[Answer]):
-    """What is asked. CODE is the first byte of its body, KIND the reply where it isn't refused."""
+    """What is asked. CODE is the first byte of its body, KIND the reply where it isn't refused. CHANGES says whether
+    blocks, pointers or capabilities may be others after it."""
 
     CODE: ClassVar[int]
     KIND: ClassVar[Kind]
+    CHANGES: ClassVar[bool] = True
 
     def fields(self) -> bytes:
         """What follows the session."""
@@ -41,33 +49,43 @@ class Request(Generic[Answer]):
 
     def encode(self, session: int) -> bytes:
         """The body, as a request of this session."""
-        return bytes([self.CODE]) + number(session) + self.fields()
+        return bytes([self.CODE]) + number(session, "session") + self.fields()
+
+
+@dataclass(frozen=True)
+class Hello(Request[Greeting]):
+    """Asks a hub for its greeting; of no session. Who has none refuses it (BadRequest), once the disk is open."""
+
+    CODE, KIND, CHANGES = HUB, Kind.GREETING, False
+
+    def encode(self, session: int = 0) -> bytes:
+        return HELLO
 
 
 @dataclass(frozen=True)
 class Begin(Request[None]):
     """Opens the session."""
 
-    CODE, KIND = 1, Kind.DONE
+    CODE, KIND, CHANGES = 1, Kind.DONE, False
 
 
 @dataclass(frozen=True)
 class End(Request[None]):
     """Closes the session, and what it holds."""
 
-    CODE, KIND = 2, Kind.DONE
+    CODE, KIND, CHANGES = 2, Kind.DONE, False
 
 
 @dataclass(frozen=True)
 class Read(Request[bytes]):
     """All bytes of a block."""
 
-    CODE, KIND = 3, Kind.BYTES
+    CODE, KIND, CHANGES = 3, Kind.BYTES, False
     block: int
     cap: Optional[Capability] = None
 
     def fields(self) -> bytes:
-        return number(self.block) + shown(self.cap)
+        return number(self.block, "block") + shown(self.cap)
 
 
 @dataclass(frozen=True)
@@ -80,7 +98,7 @@ class Write(Request[None]):
     cap: Optional[Capability] = None
 
     def fields(self) -> bytes:
-        return number(self.block) + shown(self.cap) + self.data
+        return number(self.block, "block") + shown(self.cap) + content(self.data)
 
 
 @dataclass(frozen=True)
@@ -94,7 +112,7 @@ class Alloc(Request[List[int]]):
     hint: Optional[int] = None
 
     def fields(self) -> bytes:
-        return number(self.source) + shown(self.cap) + hinted(self.hint) + number(self.count)
+        return number(self.source, "source") + shown(self.cap) + hinted(self.hint) + number(self.count, "count")
 
 
 @dataclass(frozen=True)
@@ -108,7 +126,7 @@ class AllocContiguous(Alloc):
 class GetFree(Request[int]):
     """How many blocks are free; it is of no session."""
 
-    CODE, KIND = 7, Kind.FREE
+    CODE, KIND, CHANGES = 7, Kind.FREE, False
 
     def encode(self, session: int = 0) -> bytes:
         return bytes([self.CODE])
@@ -124,7 +142,7 @@ class Create(Request[None]):
     cap: Optional[Capability] = None
 
     def fields(self) -> bytes:
-        return number(self.source) + shown(self.cap) + number(self.target)
+        return number(self.source, "source") + shown(self.cap) + number(self.target, "target")
 
 
 @dataclass(frozen=True)
@@ -137,7 +155,7 @@ class Delete(Request[int]):
     cap: Optional[Capability] = None
 
     def fields(self) -> bytes:
-        return number(self.source) + shown(self.cap) + number(self.target)
+        return number(self.source, "source") + shown(self.cap) + number(self.target, "target")
 
 
 @dataclass(frozen=True)
@@ -151,7 +169,7 @@ class SetCapabilities(Request[None]):
     cap: Optional[Capability] = None
 
     def fields(self) -> bytes:
-        return number(self.block) + shown(self.cap) + self.read.reveal() + self.write.reveal()
+        return number(self.block, "block") + shown(self.cap) + secret(self.read, "read") + secret(self.write, "write")
 
 
 @dataclass(frozen=True)
@@ -169,10 +187,10 @@ class Sweep(Request[int]):
 class List64(Request[List[int]]):
     """The least 64 targets of a block's pointers that aren't below the start, ascending."""
 
-    CODE, KIND = 12, Kind.TARGETS
+    CODE, KIND, CHANGES = 12, Kind.TARGETS, False
     source: int
     start: int = 0
     cap: Optional[Capability] = None
 
     def fields(self) -> bytes:
-        return number(self.source) + shown(self.cap) + number(self.start)
+        return number(self.source, "source") + shown(self.cap) + number(self.start, "start")

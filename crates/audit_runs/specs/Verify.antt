@@ -55,12 +55,12 @@ IsVerifyEnding status.NoMemory = ⊤
 IsVerifyEnding r = ⊥
 
 -- How far the input was taken, of which these bytes came in: to its end, within 2^40 bytes; up to a take that failed;
--- or past those. Where the image wasn't opened, or there was no memory, not at all.
+-- or one byte past those. Where the image wasn't opened, or there was no memory, not at all.
 abbrev pub IsTakenBy : Status → Taking → List ℕ → Type 0
 IsTakenBy status.Done source bytes = (length bytes ≤ 2 ^ 40) × source.at_end
 IsTakenBy status.PutFault source bytes = (length bytes ≤ 2 ^ 40) × source.at_end
 IsTakenBy status.SourceFault source bytes = length bytes ≤ 2 ^ 40
-IsTakenBy status.TooLong source bytes = (2 ^ 40 < length bytes) × (length bytes ≤ 2 ^ 40 + 512)
+IsTakenBy status.TooLong source bytes = length bytes ≡ 2 ^ 40 + 1
 IsTakenBy r source bytes = source.untouched
 
 -- What was sent by the time that it ended so: the answer, whole or a proper front of it, or nothing.

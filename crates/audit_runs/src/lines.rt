@@ -36,18 +36,18 @@ impl Protocol for ListingLines {
 
     ghost lawful = { listings_lawful };
 
-    fn feed(&mut self, piece: &[u8]) -> Fed<Option<Listing>> {
+    fn blank() -> Option<Listing> {
+        None
+    }
+
+    fn feed(&mut self, piece: &[u8], into: &mut Option<Listing>) -> Fed {
         let fed = self.cutter.feed(piece);
         if fed.whole {
-            let said = parse_listing(self.cutter.line());
-            return Fed {
-                used: fed.used,
-                request: Some(said),
-            };
+            *into = parse_listing(self.cutter.line());
         }
         Fed {
             used: fed.used,
-            request: None,
+            whole: fed.whole,
         }
     }
 

@@ -31,9 +31,10 @@ pub(crate) fn take_lines<S: Source>(
     let mut lines = ListingLines::new();
     let mut intake = Intake::new(INPUT_MAX);
     let mut fault = None;
+    let mut said = None;
     loop {
-        match intake.next::<S, ListingLines>(&mut lines, source) {
-            Next::Request(said) => fault = take_one(certificate, fault, said),
+        match intake.next::<S, ListingLines>(&mut lines, source, &mut said) {
+            Next::Request => fault = take_one(certificate, fault, said),
             Next::End => return Ok(fault),
             Next::CutOff => return Ok(fault),
             Next::Fault => return Err(Status::SourceFault),

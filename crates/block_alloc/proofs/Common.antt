@@ -1,6 +1,6 @@
 -- The names that most proofs of this crate cite, passed on from one place. Declares nothing.
 pub use Rattle.block_alloc.specs.Bytes.{AreBits, IsBitPut, IsMapKept, bit_in, bitmap_byte, bitmap_sector_bytes, bits_of, number_of}
-pub use Rattle.block_alloc.specs.Choosing.{IsRow, all_blocks, chosen, chosen_run, free_blocks, is_free_run, runs}
+pub use Rattle.block_alloc.specs.Choosing.{all_blocks, chosen, chosen_run, free_blocks, is_free_run, runs}
 pub use Rattle.block_alloc.specs.Groups.{IsKeptFrom, is_run_within, is_within}
 pub use Rattle.block_alloc.specs.Least.{blocks_of, inserted, least_of, ranked}
 pub use Rattle.block_alloc.specs.LiveMap.{IsTable, LiveMap, free_count, is_free, is_live}

@@ -1,36 +1,10 @@
--- Free blocks in a row, from the last block on.
-use Rattle.std.proofs.Common.{inl, inr, ◌≡◌, ℕ, zero, suc, ◌+◌, ◌<◌, ◌≤◌, Bool, true, false, not, cond, ◌&&◌, nat_le, List, ◌∷◌, length, refl, sym, ◌∙◌, ap, arith}
-use Rattle.block_alloc.proofs.Common.{filter, list_all, range_with_len, cases_eq, le-leb, lt-leb, lt-ltb, le-ltb, nat_tests, is_live, is_free, is_free_run, IsRow}
+-- Whether a run of free blocks begins anywhere.
+use Rattle.std.proofs.Common.{inl, inr, ◌≡◌, ℕ, zero, suc, ◌+◌, ◌-◌, ◌<◌, ◌≤◌, Bool, true, false, cond, List, [], ◌∷◌, length, refl, sym, ◌∙◌, ap, subst, arith}
+use Rattle.block_alloc.proofs.Common.{filter, range_with_len, cases_eq, cases_lt, is_free_run}
+use Rattle.block_alloc.proofs.GroupLaws.{broken_run, past_is_not_free}
+use Rattle.block_alloc.proofs.OrderLaws.{filter-from-no}
 use Rattle.tsd_model.specs.Verdict.{is_empty}
 
--- no block stands past the last one
-pub row-end : (live : List Bool) (n : ℕ) → length live ≤ n → IsRow live n 0
-row-end live n h zero = sym (le-leb 0 0 (omega arith))
-row-end live n h (suc k) =
-    ap (λ t. (t && not (is_live live n)) && list_all (is_free live) (range_with_len (n + 1) k)) (le-ltb n (length live) h) ∙ sym (lt-leb (suc k) 0 (omega arith))
-
--- one block more: a live one ends the row
-pub row-more : (live : List Bool) (b behind : ℕ) → IsRow live (b + 1) behind → IsRow live b (cond (is_free live b) (behind + 1) 0)
-row-more live b behind row zero = sym (le-leb 0 (cond (is_free live b) (behind + 1) 0) (omega arith))
-row-more live b behind row (suc k) =
-    elim (is_free live b) as (λ t. t && list_all (is_free live) (range_with_len (b + 1) k) ≡ nat_le (suc k) (cond t (behind + 1) 0)) [
-      | true ↦ row k ∙ next
-      | false ↦ sym (lt-leb (suc k) 0 (omega arith))
-    ]
-  where
-    next : nat_le k behind ≡ nat_le (suc k) (behind + 1)
-    next = grind (arith, nat_tests)
-
-pub row-free : (live : List Bool) (b behind : ℕ) → b < length live → is_live live b ≡ false → IsRow live (b + 1) behind → IsRow live b (behind + 1)
-row-free live b behind h free row =
-    let passes : is_free live b ≡ true = ap (λ t. t && not (is_live live b)) (lt-ltb b (length live) h) ∙ ap not free in
-    λ k. row-more live b behind row k ∙ ap (λ t. nat_le k (cond t (behind + 1) 0)) passes
-
--- a row of enough blocks is a run
-pub row-run : (live : List Bool) (b row count : ℕ) → IsRow live b row → count ≤ row → is_free_run live count b ≡ true
-row-run live b row count is h = is count ∙ le-leb count row h
-
--- ---- is there one?
 -- where one of the blocks from a on passes, not none is found
 pub found-in : (p : ℕ → Bool) (a len b : ℕ) → a ≤ b → b < a + len → p b ≡ true → is_empty (filter p (range_with_len a len)) ≡ false
 found-in p a zero b low high passes = absurd (omega arith)
@@ -42,3 +16,21 @@ found-in p a (suc len) b low high passes = elim (cases_eq a b) [
     later : (t : Bool) → is_empty (filter p (range_with_len (a + 1) len)) ≡ false → is_empty (cond t (a ∷ filter p (range_with_len (a + 1) len)) (filter p (range_with_len (a + 1) len))) ≡ false
     later true h = refl
     later false h = h
+
+-- past the last block none is found
+pub none_past : (p : ℕ → Bool) (n start : ℕ) → n ≤ start → filter p (range_with_len start (n - start)) ≡ []
+none_past p n start h = ap (λ k. filter p (range_with_len start k)) (let none : n - start ≡ 0 = omega arith in none)
+
+-- where none of so many blocks passes, and none behind them is found, none from the first of them on is found
+pub none_by : (p : ℕ → Bool) (n start count : ℕ) → ((b : ℕ) → start ≤ b → b < start + count → p b ≡ false)
+    → filter p (range_with_len (start + count) (n - (start + count))) ≡ [] → filter p (range_with_len start (n - start)) ≡ []
+none_by p n start zero none behind = subst (λ k. filter p (range_with_len k (n - k)) ≡ []) (let e : start + 0 ≡ start = omega arith in e) behind
+none_by p n start (suc count) none behind = elim (cases_lt start n) [
+  | inl within ↦ filter-from-no p start (start + 1) n refl within (none start (omega arith) (omega arith))
+      ∙ none_by p n (start + 1) count (λ b low high. none b (omega arith) (omega arith)) (subst (λ k. filter p (range_with_len k (n - k)) ≡ []) (let e : start + suc count ≡ (start + 1) + count = omega arith in e) behind)
+  | inr past ↦ none_past p n start past
+]
+
+-- past the last block no run begins
+pub no_run_past : (live : List Bool) (run b : ℕ) → 1 ≤ run → length live ≤ b → is_free_run live run b ≡ false
+no_run_past live run b some h = broken_run live b run b (omega arith) (omega arith) (past_is_not_free live b h)

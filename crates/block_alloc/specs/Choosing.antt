@@ -1,5 +1,5 @@
 -- Which free blocks are taken, and when none are.
-use Rattle.std.specs.Prelude.{◌≡◌, ℕ, ◌<◌, ◌≤◌, Bool, nat_le, List, [], filter, take, length, Option}
+use Rattle.std.specs.Prelude.{◌≡◌, ℕ, ◌<◌, ◌≤◌, Bool, List, [], filter, take, length, Option}
 use Rattle.std.specs.List.{list_all, range_with_len}
 use Rattle.tsd_model.specs.Rank.{rank_of}
 use Rattle.tsd_model.specs.Placing.{sorted_by_rank, first_block}
@@ -22,10 +22,6 @@ chosen kind live hint count = take count (sorted_by_rank (rank_of kind hint) (fr
 -- so many blocks from b on are free
 abbrev pub is_free_run : List Bool → ℕ → ℕ → Bool
 is_free_run live count b = list_all (is_free live) (range_with_len b count)
-
--- so many blocks from b on are free, and no more
-abbrev pub IsRow : List Bool → ℕ → ℕ → Type 0
-IsRow live b row = (count : ℕ) → is_free_run live count b ≡ nat_le count row
 
 -- where a run of so many free blocks begins
 abbrev pub runs : List Bool → ℕ → List ℕ

@@ -1,13 +1,13 @@
 //! Which free blocks are taken.
 
-ghost use Rattle.std.specs.Prelude.{◌≡◌, ℕ, ◌+◌, ◌*◌, ◌^◌, ◌≤◌, ◌<◌, Some, false, not, length, filter};
+ghost use Rattle.std.specs.Prelude.{◌≡◌, ℕ, ◌+◌, ◌*◌, ◌^◌, ◌≤◌, ◌<◌, Some, true, false, not, length, filter};
 ghost use Rattle.std.specs.Prelude.{IfOk, IfErr, OnOk};
 ghost use Rattle.tsd_model.specs.Rank.{rank_of};
 ghost use Rattle.tsd_model.specs.Verdict.{is_empty};
 ghost use Rattle.block_alloc.specs.LiveMap.{IsTable, free_count};
 ghost use Rattle.block_alloc.specs.Least.{least_of};
 ghost use Rattle.block_alloc.specs.Choosing.{all_blocks, free_blocks, chosen, is_free_run, runs, chosen_run};
-ghost use Rattle.block_alloc.specs.Choosing.{IsRow, IsShort, IsRunRefusal};
+ghost use Rattle.block_alloc.specs.Choosing.{IsShort, IsRunRefusal};
 ghost use Rattle.block_alloc.specs.Groups.{is_run_within, IsKeptFrom};
 
 use crate::groups::{
@@ -69,11 +69,8 @@ impl LiveMap {
         ensures value { result ≡ not (is_empty (runs self.now.unhidden count)) }
         ensures table { IsTable self.now }
     {
-        let blocks = self.geometry().blocks;
-        let mut row = 0;
-        for block in (0..blocks).rev() {
-            row = self.row_from(block, row);
-            if count <= row {
+        for group in (0..self.groups()).rev() {
+            if self.begins_in(group, count) {
                 return true;
             }
         }
@@ -300,6 +297,28 @@ impl LiveMap {
         }
     }
 
+    /// Whether a run of so many free blocks begins in a group.
+    fn begins_in(&self, group: u32, run: u32) -> bool
+        requires run { (1 ≤ run) × (run ≤ 32) }
+        requires group { 256 * group < self.now.geometry.blocks }
+        ensures found { result ≡ true → is_empty (runs self.now.unhidden run) ≡ false }
+        ensures none { result ≡ false → (b : ℕ) → 256 * group ≤ b → b < 256 * group + 256
+            → is_free_run self.now.unhidden run b ≡ false }
+    {
+        if self.lacks_run(group, run) {
+            return false;
+        }
+        let blocks = self.geometry().blocks;
+        let first = GROUP_BLOCKS * group;
+        let end = blocks.min(first + GROUP_BLOCKS);
+        for block in (first..end).rev() {
+            if self.is_run(block, run) {
+                return true;
+            }
+        }
+        false
+    }
+
     /// Whether so many blocks from a block on are free.
     fn is_run(&self, block: u32, run: u32) -> bool
         requires block { block < self.now.geometry.blocks }
@@ -380,16 +399,5 @@ impl LiveMap {
                 found.ceiling = found.ceiling.max(rank(kind, hint, block));
             }
         }
-    }
-
-    /// How many free blocks stand in a row from a block on, of which so many stand behind it.
-    fn row_from(&self, block: u32, behind: u32) -> u32
-        requires table { IsTable self.now }
-        requires block { block < self.now.geometry.blocks }
-        requires behind { behind + block < self.now.geometry.blocks }
-        ensures row { IsRow self.now.unhidden (block + 1) behind → IsRow self.now.unhidden block result }
-        ensures within { result + block ≤ self.now.geometry.blocks }
-    {
-        if self.is_live(block) { 0 } else { behind + 1 }
     }
 }

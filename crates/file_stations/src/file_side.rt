@@ -5,6 +5,7 @@ ghost use Rattle.image_device.specs.Counts.{raised, CountsFault};
 
 use crate::ahead::ReadAhead;
 use crate::image_file::{ImageFile, Kind, SECTOR};
+use crate::names::{Quoted, Shown};
 use crate::trouble::Trouble;
 use image_device::Failed;
 use std::alloc::Global;
@@ -62,6 +63,15 @@ impl FileSide {
         self.unsure
     }
 
+    /// Serves it no longer: each call on it fails from now on.
+    pub fn give_up(&mut self, trouble: Trouble)
+        ensures faults { self.new.faults ≡ self.old.faults }
+        ensures syncs { self.new.syncs ≡ self.old.syncs }
+    {
+        self.ahead.forget();
+        self.image = Image::Lost(trouble);
+    }
+
     /// Reads a sector.
     pub fn read(&mut self, sector: u32, into: &mut [u8; SECTOR]) -> Result<(), Failed>
         ensures kept { OnErr result (into.new ≡ into.old) }
@@ -97,7 +107,7 @@ impl FileSide {
             Err(trouble) => {
                 self.ahead.forget();
                 note(&mut self.trouble, trouble);
-                self.unsure = kind_of(&self.image);
+                self.unsure = doubt_of(&self.image);
                 self.faults = self.faults.saturating_add(1);
                 Err(Failed)
             }
@@ -120,7 +130,7 @@ impl FileSide {
             Err(trouble) => {
                 self.ahead.forget();
                 note(&mut self.trouble, trouble);
-                self.unsure = kind_of(&self.image);
+                self.unsure = doubt_of(&self.image);
                 self.faults = self.faults.saturating_add(1);
                 Err(Failed)
             }
@@ -200,11 +210,12 @@ pub fn note(first: &mut Option<Trouble>, trouble: Trouble)
     }
 }
 
-/// What an image that is open is kept in.
-fn kind_of(image: &Image) -> Option<Kind> {
+/// What an image is kept in, where the system may show of it what the medium doesn't hold: where it could be written, to
+/// a file or a device.
+fn doubt_of(image: &Image) -> Option<Kind> {
     match image {
-        Image::Open(file) => Some(file.kind()),
-        Image::Lost(_) => None,
+        Image::Open(file) if file.is_written() => Some(file.kind()),
+        _ => None,
     }
 }
 
@@ -215,18 +226,19 @@ pub fn tell_image<E: Write>(
     trouble: &Trouble,
     unsure: Option<Kind>,
 ) -> io::Result<()> {
-    writeln!(errors, "tsd: {path}: {trouble}")?;
+    let (shown, word) = (Shown { name: path }, Quoted { name: path });
+    writeln!(errors, "tsd: {shown}: {trouble}")?;
     match unsure {
-        None => Ok(()),
         Some(Kind::Device) => {
-            writeln!(errors, "tsd: {path}: {UNSURE} blockdev --flushbufs {path}")
+            writeln!(errors, "tsd: {shown}: {UNSURE} blockdev --flushbufs {word}")
         }
-        Some(_) => {
+        Some(Kind::File) => {
             writeln!(
                 errors,
-                "tsd: {path}: {UNSURE} dd if={path} iflag=nocache count=0, or mount its file system anew"
+                "tsd: {shown}: {UNSURE} dd if={word} iflag=nocache count=0, or mount its file system anew"
             )
         }
+        _ => Ok(()),
     }
 }
 

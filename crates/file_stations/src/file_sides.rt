@@ -2,8 +2,9 @@
 
 ghost use Rattle.std.specs.Prelude.{◌≡◌};
 
-use crate::file_side::{FileSide, tell_image};
+use crate::file_side::FileSide;
 use crate::image_file::ImageFile;
+use crate::notes::{Named, Notes};
 use crate::outlet::Outlet;
 use crate::progress::Progress;
 use crate::trouble::Trouble;
@@ -13,46 +14,50 @@ use std::alloc::Global;
 use std::io::Write;
 use std::time::Clock;
 
-/// An image's path, and its file or why it couldn't be opened.
+/// An image with its path and its mark, and its file or why it couldn't be opened.
 #[derive(Drop)]
 pub struct NamedImage {
-    pub path: String,
+    /// Its path and its mark.
+    pub named: Named,
+
+    /// Its file, or why it couldn't be opened.
     pub image: Result<ImageFile, Trouble>,
 }
 
 /// Two images in files and an output. They tell nothing of their contents: what a system keeps, no clause can say.
 /// Where there is a terminal `E` with a clock `C`, long work is told there, the copying with how much is left of it.
 /// The first call that fails on an image is told in lines of errors `F` as it comes, since the run goes on without it.
+/// The image that goes on is marked then, before anything else is done; where that fails it isn't served any longer, and
+/// nothing more is sent.
 #[derive(Drop)]
-pub struct FileSides<O, C, E, F> {
+pub struct FileSides<'a, O, C, E, F> {
     first: FileSide,
     second: FileSide,
-    paths: (String, String),
     outlet: Outlet<O>,
     progress: Progress<C, E>,
-    errors: F,
+    notes: Notes<'a, F>,
 
     /// The sectors of the first image, once they were asked for.
     first_end: u64,
 }
 
-impl<O, C, E, F> FileSides<O, C, E, F> {
+impl<'a, O, C, E, F> FileSides<'a, O, C, E, F> {
     /// Two images that were opened, or failed to be: then each call on that one fails.
     pub fn new(
-        alloc: Global,
+        rt: &'a HostRuntime,
         first: NamedImage,
         second: NamedImage,
         output: O,
         progress: Progress<C, E>,
         errors: F,
-    ) -> FileSides<O, C, E, F> {
+    ) -> FileSides<'a, O, C, E, F> {
+        let alloc: Global = rt.alloc();
         FileSides {
             first: FileSide::new(alloc, first.image),
             second: FileSide::new(alloc, second.image),
-            paths: (first.path, second.path),
             outlet: Outlet::new(output),
             progress,
-            errors,
+            notes: Notes::new(rt, errors, first.named, second.named),
             first_end: 0,
         }
     }
@@ -63,30 +68,59 @@ impl<O, C, E, F> FileSides<O, C, E, F> {
     }
 }
 
-impl<O, C: Clock, E: Write, F: Write> FileSides<O, C, E, F> {
+impl<O, C: Clock, E: Write, F: Write> FileSides<'_, O, C, E, F> {
     /// Wipes what is told of long work, before anything else is written.
     pub fn wipe(&mut self) {
         self.progress.wipe();
     }
+
+    /// After a call on the first image that failed: where it is the first one, tells why, and marks the second image,
+    /// if that is whole.
+    fn first_failed(&mut self)
+        ensures first_faults { self.new.first.faults ≡ self.old.first.faults }
+        ensures first_syncs { self.new.first.syncs ≡ self.old.first.syncs }
+        ensures second_faults { self.new.second.faults ≡ self.old.second.faults }
+        ensures second_syncs { self.new.second.syncs ≡ self.old.second.syncs }
+        ensures put_faults { self.new.outlet.faults ≡ self.old.outlet.faults }
+    {
+        if self.first.faults != 1 {
+            return;
+        }
+        self.progress.wipe();
+        self.notes.tell_first(&self.first);
+        if self.second.faults != 0 || !self.notes.is_whole() {
+            return;
+        }
+        if let Err(error) = self.notes.mark_second() {
+            self.second.give_up(Trouble::Mark(error));
+            self.outlet.close(Trouble::Mark(error));
+        }
+    }
+
+    /// After a call on the second image that failed: where it is the first one, tells why, and marks the first image.
+    fn second_failed(&mut self)
+        ensures first_faults { self.new.first.faults ≡ self.old.first.faults }
+        ensures first_syncs { self.new.first.syncs ≡ self.old.first.syncs }
+        ensures second_faults { self.new.second.faults ≡ self.old.second.faults }
+        ensures second_syncs { self.new.second.syncs ≡ self.old.second.syncs }
+        ensures put_faults { self.new.outlet.faults ≡ self.old.outlet.faults }
+    {
+        if self.second.faults != 1 {
+            return;
+        }
+        self.progress.wipe();
+        self.notes.tell_second(&self.second);
+        if self.first.faults != 0 {
+            return;
+        }
+        if let Err(error) = self.notes.mark_first() {
+            self.first.give_up(Trouble::Mark(error));
+            self.outlet.close(Trouble::Mark(error));
+        }
+    }
 }
 
-/// Tells why a call on an image failed, where it is the first of that image that did.
-fn tell_first<C: Clock, E: Write, F: Write>(
-    progress: &mut Progress<C, E>,
-    errors: &mut F,
-    path: &str,
-    file: &FileSide,
-) {
-    if file.faults != 1 {
-        return;
-    }
-    if let Some(trouble) = file.trouble() {
-        progress.wipe();
-        let _told = tell_image(errors, path, &trouble, file.unsure());
-    }
-}
-
-impl<O: Write, C: Clock, E: Write, F: Write> Sides for FileSides<O, C, E, F> {
+impl<O: Write, C: Clock, E: Write, F: Write> Sides for FileSides<'_, O, C, E, F> {
     ghost use Rattle.image_device.specs.Counts.{raised};
     ghost use Rattle.mirror_device.specs.SidesView.{side_of, untold_sides};
     ghost use Rattle.mirror_device.specs.SideCalls.{SidesPut, SideSyncs, SideUses};
@@ -103,28 +137,16 @@ impl<O: Write, C: Clock, E: Write, F: Write> Sides for FileSides<O, C, E, F> {
         match side {
             Side::First => {
                 let done = self.first.read(sector, into);
-                if done.is_ok() {
-                    return done;
+                if done.is_err() {
+                    self.first_failed();
                 }
-                tell_first(
-                    &mut self.progress,
-                    &mut self.errors,
-                    self.paths.0.as_str(),
-                    &self.first,
-                );
                 done
             }
             Side::Second => {
                 let done = self.second.read(sector, into);
-                if done.is_ok() {
-                    return done;
+                if done.is_err() {
+                    self.second_failed();
                 }
-                tell_first(
-                    &mut self.progress,
-                    &mut self.errors,
-                    self.paths.1.as_str(),
-                    &self.second,
-                );
                 done
             }
         }
@@ -135,28 +157,18 @@ impl<O: Write, C: Clock, E: Write, F: Write> Sides for FileSides<O, C, E, F> {
         match side {
             Side::First => {
                 let done = self.first.write(sector, from);
-                if done.is_ok() {
-                    return done;
+                if done.is_err() {
+                    self.first_failed();
                 }
-                tell_first(
-                    &mut self.progress,
-                    &mut self.errors,
-                    self.paths.0.as_str(),
-                    &self.first,
-                );
                 done
             }
             Side::Second => {
                 let done = self.second.write(sector, from);
-                if done.is_ok() {
-                    return done;
+                if done.is_err() {
+                    self.second_failed();
+                } else {
+                    self.notes.count_copied();
                 }
-                tell_first(
-                    &mut self.progress,
-                    &mut self.errors,
-                    self.paths.1.as_str(),
-                    &self.second,
-                );
                 done
             }
         }
@@ -168,29 +180,19 @@ impl<O: Write, C: Clock, E: Write, F: Write> Sides for FileSides<O, C, E, F> {
         match side {
             Side::First => {
                 let done = self.first.sync();
-                if done.is_ok() {
-                    return done;
+                if done.is_err() {
+                    self.first_failed();
                 }
-                tell_first(
-                    &mut self.progress,
-                    &mut self.errors,
-                    self.paths.0.as_str(),
-                    &self.first,
-                );
                 done
             }
             Side::Second => {
                 self.progress.copy_ends();
                 let done = self.second.sync();
-                if done.is_ok() {
-                    return done;
+                if done.is_err() {
+                    self.second_failed();
+                } else {
+                    self.notes.copy_ends();
                 }
-                tell_first(
-                    &mut self.progress,
-                    &mut self.errors,
-                    self.paths.1.as_str(),
-                    &self.second,
-                );
                 done
             }
         }
@@ -205,27 +207,18 @@ impl<O: Write, C: Clock, E: Write, F: Write> Sides for FileSides<O, C, E, F> {
                     Ok(end)
                 }
                 Err(failed) => {
-                    tell_first(
-                        &mut self.progress,
-                        &mut self.errors,
-                        self.paths.0.as_str(),
-                        &self.first,
-                    );
+                    self.first_failed();
                     Err(failed)
                 }
             },
             Side::Second => match self.second.end() {
                 Ok(end) => {
                     self.progress.copy_begins(end.max(self.first_end));
+                    self.notes.copy_begins();
                     Ok(end)
                 }
                 Err(failed) => {
-                    tell_first(
-                        &mut self.progress,
-                        &mut self.errors,
-                        self.paths.1.as_str(),
-                        &self.second,
-                    );
+                    self.second_failed();
                     Err(failed)
                 }
             },

@@ -30,6 +30,13 @@ pub enum Opening {
     /// For what is in it.
     Kept,
 
+    /// For what is in it, of which nothing has to be changed: where the system doesn't let it be written, it is opened
+    /// to be read alone.
+    Looked,
+
+    /// For what is in it, to be read alone.
+    Read,
+
     /// To make a disk in it. Where the file is missing it is made.
     Made {
         /// The bytes of the disk.
@@ -90,7 +97,7 @@ pub enum Kind {
 
 impl Kind {
     /// By what the system says of a file.
-    fn of(metadata: &Metadata) -> Kind {
+    pub(crate) fn of(metadata: &Metadata) -> Kind {
         let kind = metadata.file_type();
         if kind.is_file() {
             Kind::File
@@ -109,6 +116,8 @@ pub struct ImageFile {
     file: File,
     kind: Kind,
     readers: Option<Readers>,
+    is_read_alone: bool,
+    is_made: bool,
 }
 
 impl ImageFile {
@@ -119,18 +128,20 @@ impl ImageFile {
         // No image is open as standard input, output or error.
         ensures apart { IfOk result (λ image. pos 2 <ℤ file_raw_fd image.file) }
     {
-        let file = match opening {
-            Opening::Kept => open_there(rt, path)?,
-            Opening::Made { .. } | Opening::Copied => open_or_make(rt, path)?,
+        let (file, is_read_alone) = match opening {
+            Opening::Kept => (open_there(rt, path)?, false),
+            Opening::Looked => open_to_look(rt, path)?,
+            Opening::Read => (File::open(rt, path)?, true),
+            Opening::Made { .. } | Opening::Copied => (open_or_make(rt, path)?, false),
         };
         if file.as_raw_fd() <= LAST_STANDARD {
             return Err(Trouble::Standard);
         }
-        lock(&file)?;
+        lock(&file, is_read_alone)?;
         let metadata = file.metadata()?;
         let kind = Kind::of(&metadata);
         let readers = match opening {
-            Opening::Kept => None,
+            Opening::Kept | Opening::Looked | Opening::Read => None,
             Opening::Made { bytes } => prepare(rt, path, &file, &metadata, bytes)?,
             Opening::Copied => prepare(rt, path, &file, &metadata, 0)?,
         };
@@ -138,6 +149,8 @@ impl ImageFile {
             file,
             kind,
             readers,
+            is_read_alone,
+            is_made: matches!(opening, Opening::Made { .. }),
         })
     }
 
@@ -146,6 +159,16 @@ impl ImageFile {
         ensures { result ≡ self.now.kind }
     {
         self.kind
+    }
+
+    /// Whether it was opened to make a disk in it.
+    pub fn is_made(&self) -> bool {
+        self.is_made
+    }
+
+    /// Whether it is a file or a device that was opened to be written.
+    pub fn is_written(&self) -> bool {
+        !self.is_read_alone && self.kind != Kind::Other
     }
 
     /// Who may read it besides its owner, where a disk is made in it.
@@ -165,8 +188,11 @@ impl ImageFile {
         Ok(())
     }
 
-    /// Writes a sector.
+    /// Writes a sector. Where it was opened to be read alone, what has to be written is a recovery.
     pub fn write(&self, sector: u32, from: &[u8; SECTOR]) -> Result<(), Trouble> {
+        if self.is_read_alone {
+            return Err(Trouble::NoRecovery);
+        }
         self.file
             .write_all_at(from, u64::from(sector) * SECTOR as u64)?;
         Ok(())
@@ -197,8 +223,16 @@ pub fn are_one(rt: &HostRuntime, first: &str, second: &str) -> bool {
     }
 }
 
+/// Whether a path names a block device.
+pub(crate) fn is_device(rt: &HostRuntime, path: &str) -> bool {
+    match fs::metadata(rt, path) {
+        Ok(metadata) => Kind::of(&metadata) == Kind::Device,
+        Err(_) => false,
+    }
+}
+
 /// Whether these are of one file, or of two nodes of one device.
-fn is_one_file(first: &Metadata, second: &Metadata) -> bool {
+pub(crate) fn is_one_file(first: &Metadata, second: &Metadata) -> bool {
     let is_file = first.dev() == second.dev() && first.ino() == second.ino();
     let are_devices = first.file_type().is_block_device() && second.file_type().is_block_device();
     is_file || (are_devices && first.rdev() == second.rdev())
@@ -223,22 +257,62 @@ fn open_there(rt: &HostRuntime, path: &str) -> io::Result<File> {
     OpenOptions::new().read(true).write(true).open(rt, path)
 }
 
-/// Opens the file, or makes it where it is missing.
-fn open_or_make(rt: &HostRuntime, path: &str) -> io::Result<File> {
+/// Opens a file that is there, to be read alone where it can't be written, and tells whether it is.
+fn open_to_look(rt: &HostRuntime, path: &str) -> io::Result<(File, bool)> {
     match open_there(rt, path) {
-        Err(error) if error.kind() == ErrorKind::NotFound => OpenOptions::new()
-            .read(true)
-            .write(true)
-            .create_new(true)
-            .mode(OWNER_ALONE)
-            .open(rt, path),
-        other => other,
+        Ok(file) => Ok((file, false)),
+        Err(error) => match error.kind() {
+            ErrorKind::PermissionDenied | ErrorKind::ReadOnlyFilesystem => {
+                Ok((File::open(rt, path)?, true))
+            }
+            _ => Err(error),
+        },
     }
 }
 
-/// Locks a file, or finds that another process has.
-fn lock(file: &File) -> Result<(), Trouble> {
-    match file.try_lock() {
+/// Opens the file, or makes it where it is missing. A link to a file that is missing isn't followed: nobody asked for a
+/// file there.
+fn open_or_make(rt: &HostRuntime, path: &str) -> Result<File, Trouble> {
+    match open_there(rt, path) {
+        Ok(file) => Ok(file),
+        Err(error) if error.kind() == ErrorKind::NotFound => make(rt, path),
+        Err(error) => Err(Trouble::from(error)),
+    }
+}
+
+/// Makes a file that is missing.
+fn make(rt: &HostRuntime, path: &str) -> Result<File, Trouble> {
+    let made = OpenOptions::new()
+        .read(true)
+        .write(true)
+        .create_new(true)
+        .mode(OWNER_ALONE)
+        .open(rt, path);
+    match made {
+        Ok(file) => Ok(file),
+        Err(error) if error.kind() == ErrorKind::AlreadyExists && is_link(rt, path) => {
+            Err(Trouble::Dangling)
+        }
+        Err(error) => Err(Trouble::from(error)),
+    }
+}
+
+/// Whether a path names a link.
+fn is_link(rt: &HostRuntime, path: &str) -> bool {
+    match fs::symlink_metadata(rt, path) {
+        Ok(metadata) => metadata.is_symlink(),
+        Err(_) => false,
+    }
+}
+
+/// Locks a file, or finds that another process has. Several may look at one that can't be written.
+fn lock(file: &File, is_read_alone: bool) -> Result<(), Trouble> {
+    let locked = if is_read_alone {
+        file.try_lock_shared()
+    } else {
+        file.try_lock()
+    };
+    match locked {
         Ok(()) => Ok(()),
         Err(TryLockError::WouldBlock) => Err(Trouble::InUse),
         Err(TryLockError::Error(error)) => Err(Trouble::System(error)),
@@ -286,12 +360,12 @@ fn sync_folder(rt: &HostRuntime, path: &str) -> io::Result<()> {
 }
 
 /// Syncs the folder that a path names something in.
-fn sync_parent(rt: &HostRuntime, path: Path<'_>) -> io::Result<()> {
+pub(crate) fn sync_parent(rt: &HostRuntime, path: Path<'_>) -> io::Result<()> {
     File::open(rt, folder_of(path))?.sync_all()
 }
 
 /// The folder that a path names something in.
-fn folder_of<'a>(path: Path<'a>) -> &'a str {
+pub(crate) fn folder_of<'a>(path: Path<'a>) -> &'a str {
     match path.parent() {
         Some(folder) if folder.as_str() != "" => folder.as_str(),
         _ => ".",
@@ -300,7 +374,7 @@ fn folder_of<'a>(path: Path<'a>) -> &'a str {
 
 /// Reads a file's bytes from a sector on, up to the room's end or the file's, and tells how many there are. A read that
 /// a signal interrupts is made again.
-fn read_bytes(file: &File, sector: u32, room: &mut [u8]) -> io::Result<usize>
+pub(crate) fn read_bytes(file: &File, sector: u32, room: &mut [u8]) -> io::Result<usize>
     ensures { IfOk result (λ count. count ≤ length room.new) }
 {
     let start = u64::from(sector) * SECTOR as u64;

@@ -8,12 +8,14 @@ use image_device::{Failed, Source};
 use std::io::{self, ErrorKind, Read};
 
 /// The most bytes that one take asks for.
-const PIECE_MAX: usize = 4_096;
+const PIECE_MAX: usize = 65_536;
 
 /// Standard input, or another reader. It tells nothing of its bytes: what a system gives, no clause can say.
 #[derive(Drop)]
 pub struct InputSource<R> {
     input: R,
+    /// What was read last: a read may leave anything in all of its room, so it gets a room of its own.
+    piece: [u8; PIECE_MAX],
     ended: bool,
     ends: u64,
     faults: u64,
@@ -25,6 +27,7 @@ impl<R> InputSource<R> {
     pub fn new(input: R) -> InputSource<R> {
         InputSource {
             input,
+            piece: [0; PIECE_MAX],
             ended: false,
             ends: 0,
             faults: 0,
@@ -72,13 +75,11 @@ impl<R: Read> Source for InputSource<R> {
             self.ends = self.ends.saturating_add(1);
             return Ok(0);
         }
-
-        // A read may leave anything in all of its room, so it gets a room of its own.
-        let mut piece = [0u8; PIECE_MAX];
         let most = into.len().min(PIECE_MAX);
-        match read_some(&mut self.input, &mut piece[..most]) {
+        let room = self.piece.as_mut_slice();
+        match read_some(&mut self.input, &mut room[..most]) {
             Ok(count) => {
-                into[..count].copy_from_slice(&piece[..count]);
+                into[..count].copy_from_slice(&self.piece[..count]);
                 if count == 0 {
                     self.ended = true;
                     self.ends = self.ends.saturating_add(1);

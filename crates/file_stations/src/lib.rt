@@ -11,23 +11,33 @@
 #![tactic(auto)]
 
 mod ahead;
+mod content;
 mod file_side;
 mod file_sides;
 mod file_station;
 mod image_file;
 mod input;
+mod mark;
+mod names;
+mod notes;
 mod outlet;
 mod progress;
 #[cfg(test)]
 mod progress_tests;
+mod shadow;
 mod standard;
 mod trouble;
 
+pub use content::{Content, content_of};
 pub use file_side::tell_image;
 pub use file_sides::{FileSides, NamedImage};
 pub use file_station::FileStation;
 pub use image_file::{ImageFile, Kind, Opening, Readers, are_one};
 pub use input::InputSource;
+pub use mark::Mark;
+pub use names::{Quoted, Shown};
+pub use notes::Named;
 pub use progress::Progress;
-pub use standard::StandIns;
+pub use shadow::Shadow;
+pub use standard::{IntoFile, StandIns};
 pub use trouble::Trouble;

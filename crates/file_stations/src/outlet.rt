@@ -15,6 +15,10 @@ use std::io::{self, ErrorKind, Write};
 pub struct Outlet<O> {
     output: O,
     trouble: Option<Trouble>,
+
+    /// Why nothing more is sent, where that is so.
+    closed: Option<Trouble>,
+
     pub(crate) faults: u64,
 }
 
@@ -26,6 +30,7 @@ impl<O> Outlet<O> {
         Outlet {
             output,
             trouble: None,
+            closed: None,
             faults: 0,
         }
     }
@@ -33,6 +38,13 @@ impl<O> Outlet<O> {
     /// Why the first put failed that did.
     pub fn trouble(&self) -> Option<Trouble> {
         self.trouble
+    }
+
+    /// Sends nothing more: each put fails from now on.
+    pub fn close(&mut self, trouble: Trouble)
+        ensures { self.new.faults ≡ self.old.faults }
+    {
+        self.closed = Some(trouble);
     }
 }
 
@@ -45,10 +57,13 @@ impl<O: Write> Outlet<O> {
         ensures faults { CountsFault result self.old.faults self.new.faults }
         ensures later { self.old.faults ≤ self.new.faults }
     {
-        let trouble = match send(&mut self.output, piece) {
-            Ok(count) if count != 0 => return Ok(count),
-            Ok(_) => Trouble::from(io::Error::from(ErrorKind::WriteZero)),
-            Err(error) => Trouble::from(error),
+        let trouble = match self.closed {
+            Some(trouble) => trouble,
+            None => match send(&mut self.output, piece) {
+                Ok(count) if count != 0 => return Ok(count),
+                Ok(_) => Trouble::from(io::Error::from(ErrorKind::WriteZero)),
+                Err(error) => Trouble::from(error),
+            },
         };
         note(&mut self.trouble, trouble);
         self.faults = self.faults.saturating_add(1);

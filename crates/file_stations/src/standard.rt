@@ -1,5 +1,7 @@
-//! What stands for standard streams that are closed.
+//! What stands for standard streams that are closed, and which of them go into a file.
 
+use crate::image_file::is_one_file;
+use std::fs::{self, Metadata};
 use std::io::{self, PipeReader};
 use std::os::fd::AsRawFd;
 
@@ -34,4 +36,44 @@ impl StandIns {
 fn silent_end(rt: &HostRuntime) -> io::Result<PipeReader> {
     let (reader, _writer) = io::pipe(rt)?;
     Ok(reader)
+}
+
+/// Where standard output and standard error go, as the system has it among the descriptors of this process.
+const OUTPUT: &str = "/proc/self/fd/1";
+
+const ERRORS: &str = "/proc/self/fd/2";
+
+/// Which of the standard streams go into the file at a path.
+#[derive(Clone, Copy, Debug, PartialEq, Eq)]
+pub struct IntoFile {
+    /// Standard output does.
+    pub output: bool,
+
+    /// Standard error does.
+    pub errors: bool,
+}
+
+impl IntoFile {
+    /// Of the file at a path. Where it is missing nothing goes there; where the system shows no descriptors none can be
+    /// compared.
+    pub fn of(rt: &HostRuntime, path: &str) -> IntoFile {
+        match fs::metadata(rt, path) {
+            Ok(file) => IntoFile {
+                output: is_of(rt, OUTPUT, &file),
+                errors: is_of(rt, ERRORS, &file),
+            },
+            Err(_) => IntoFile {
+                output: false,
+                errors: false,
+            },
+        }
+    }
+}
+
+/// Whether a descriptor is of this file.
+fn is_of(rt: &HostRuntime, descriptor: &str, file: &Metadata) -> bool {
+    match fs::metadata(rt, descriptor) {
+        Ok(stream) => is_one_file(&stream, file),
+        Err(_) => false,
+    }
 }

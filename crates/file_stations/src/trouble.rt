@@ -35,6 +35,27 @@ pub enum Trouble {
 
     /// A device ends before the sector that was asked for.
     PastEnd,
+
+    /// Standard output goes into the image.
+    Output,
+
+    /// Where a disk or a copy of one is to be made there is something that is no disk.
+    NoDisk,
+
+    /// The image has to be written before it can be read, and was opened to be read alone.
+    NoRecovery,
+
+    /// It is a link, and the file that it names is missing.
+    Dangling,
+
+    /// It went on alone when the other image of its mirror failed, and isn't to be overwritten by that.
+    WentOn,
+
+    /// The mark that it goes on alone can't be made or read.
+    Mark(io::Error),
+
+    /// Who was asked doesn't want a new disk in its place.
+    Declined,
 }
 
 impl From<io::Error> for Trouble {
@@ -61,6 +82,19 @@ impl fmt::Display for Trouble {
                 write!(f, "the disk needs {needs} bytes, and the device has {has}")
             }
             Trouble::PastEnd => f.write_str("the device ends before a sector of the image"),
+            Trouble::Output => f.write_str("standard output goes into it; nothing was written"),
+            Trouble::NoDisk => f.write_str(
+                "it holds something that is no disk; nothing was written; --overwrite before the image lets it be lost",
+            ),
+            Trouble::NoRecovery => f.write_str(
+                "it needs a recovery, and is opened to be read alone",
+            ),
+            Trouble::Dangling => f.write_str("it is a link to a file that isn't there"),
+            Trouble::WentOn => f.write_str(
+                "it went on alone when the other image failed, and has later answers; nothing was written",
+            ),
+            Trouble::Mark(error) => write!(f, "the mark that it went on alone: {error}"),
+            Trouble::Declined => f.write_str("it was left as it is"),
         }
     }
 }

@@ -4,7 +4,7 @@ pub mod Moments
 pub mod Resting
 pub mod Confined
 mod Sectors
-mod Pushes
+pub mod Pushes
 mod Cells
 mod Images
 mod PutAll

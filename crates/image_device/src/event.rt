@@ -1,9 +1,13 @@
-// What was done to a station in memory, the oldest event first.
+// What was done to a disk in memory.
 
+/// One thing that was done to a disk in memory and took place.
 #[derive(Drop)]
-pub(crate) enum Event {
+pub enum Event {
+    /// A sector was written.
     Write { sector: u32, bytes: Box<[u8; 512]> },
+    /// All that was written before is on the disk.
     Sync,
+    /// A piece was sent.
     Put { piece: Vec<u8> },
     /// A sector was set from outside, which leaves it firm.
     Poke { sector: u32, bytes: Box<[u8; 512]> },

@@ -7,7 +7,8 @@
 //!
 //! [`MemStation`], [`FuseStation`] and [`MemSource`] are proved against the traits: a disk and a port in
 //! memory that tell every image left since any moment, the same stopped after some calls, and bytes that
-//! come in pieces. [`put_all`], [`write_through`] and [`write_run`] work over any device.
+//! come in pieces. [`put_all`], [`write_through`] and [`write_run`] work over any device. What a list of
+//! [`Event`]s makes of a disk, and what a crash leaves of it, is in `specs/History.antt` for any disk in memory.
 #![tactic(auto)]
 
 mod cell;
@@ -24,6 +25,7 @@ mod write;
 
 pub use cell::Pick;
 pub use device::{Device, Failed, Port};
+pub use event::Event;
 pub use fuse::FuseStation;
 pub use mem::MemStation;
 pub use mem_source::MemSource;

@@ -3,7 +3,10 @@ use Rattle.std.proofs.Common.{◌≡◌, inl, inr, ℕ, Bool, ◌-◌, List, ◌
 use Rattle.image_runs.proofs.Common.{World, free_count, Geometry, free_count_like, View, IsPart, IsSound, IsLeftInPut, IsFirm, LeavesOnly, joined, weakened, leaves_now, firm_image, Image, StandAlike, Status, clean_line, clean_words, line_of, ProperFrontWasSent, IsStopped}
 use Rattle.disk_laws.specs.Bytes.{AreLike}
 use Rattle.tsd_words.specs.declared.status.Status.TheVariants as status
-use Rattle.image_runs.specs.Check.{HasChecked, IsFinding, IsCheckFound, IsSaying}
+use Rattle.tsd_words.specs.Lines.{info_lines, info_text}
+use Rattle.image_runs.specs.declared.check.Telling.{Telling}
+use Rattle.image_runs.specs.declared.check.Telling.TheVariants as telling
+use Rattle.image_runs.specs.Check.{HasChecked, IsFinding, IsCheckFound, IsSaying, told_of}
 
 -- ---- what a crash leaves
 
@@ -22,39 +25,52 @@ clean_like v w like =
     ∙ ap (λ (n : ℕ). line_of (clean_words (w.geometry.blocks - n) n (length v.pairs))) (free_count_like v w like)
     ∙ ap (λ (es : List (ℕ × ℕ)). line_of (clean_words (w.geometry.blocks - free_count w) (free_count w) (length es))) like.pairs
 
-pub saying_moments : (old mid new : View) (found : Status) (text : List ℕ) → IsSound mid → IsCheckFound old.reads found text → mid.sent ≡ old.sent
+-- the lines of `info` too
+pub info_like : (v w : World) → AreLike v w → info_text v ≡ info_text w
+info_like v w like =
+    ap (λ (n : ℕ). info_lines n v.geometry (free_count v) (length v.pairs)) like.version
+    ∙ ap (λ (g : Geometry). info_lines w.version g (free_count v) (length v.pairs)) like.geometry
+    ∙ ap (λ (n : ℕ). info_lines w.version w.geometry n (length v.pairs)) (free_count_like v w like)
+    ∙ ap (λ (es : List (ℕ × ℕ)). info_lines w.version w.geometry (free_count w) (length es)) like.pairs
+
+-- and so what is told
+pub told_like : (t : Telling) (v w : World) → AreLike v w → told_of t v ≡ told_of t w
+told_like telling.Clean v w like = clean_like v w like
+told_like telling.Info v w like = info_like v w like
+
+pub saying_moments : (t : Telling) (old mid new : View) (found : Status) (text : List ℕ) → IsSound mid → IsCheckFound t old.reads found text → mid.sent ≡ old.sent
     → LeavesOnly old mid (λ x f. StandAlike old.reads x × (f ≡ old.sent)) → LeavesOnly mid new (IsLeftInPut text mid)
-    → LeavesOnly old new (λ x f. StandAlike old.reads x × IsSaying old.reads old.sent f)
-saying_moments old mid new found text sound is sent before putting =
-    put_behind old mid new text (λ x f. StandAlike old.reads x × (f ≡ old.sent)) (λ x f. StandAlike old.reads x × IsSaying old.reads old.sent f) sound before putting
+    → LeavesOnly old new (λ x f. StandAlike old.reads x × IsSaying t old.reads old.sent f)
+saying_moments t old mid new found text sound is sent before putting =
+    put_behind old mid new text (λ x f. StandAlike old.reads x × (f ≡ old.sent)) (λ x f. StandAlike old.reads x × IsSaying t old.reads old.sent f) sound before putting
     (λ x f left. (left.0, inl left.1))
     (λ x f left part. (left.0, inr (found, text, is, subst (λ (b : List ℕ). IsPart b text f) sent part)))
 
 -- the line was put
-pub checked_whole : (found : Status) (image : Image) (text before now : List ℕ) → IsFinding found → IsCheckFound image found text → now ≡ before ++ text → HasChecked found image before now
-checked_whole status.Done image text before now finding is sent = (text, is, sent)
-checked_whole (status.NotImage why) image text before now finding is sent = (text, is, sent)
-checked_whole status.DeviceFault image text before now finding is sent = absurd finding
-checked_whole status.NoMemory image text before now finding is sent = absurd finding
-checked_whole status.Usage image text before now finding is sent = absurd finding
-checked_whole status.SourceFault image text before now finding is sent = absurd finding
-checked_whole status.PutFault image text before now finding is sent = absurd finding
-checked_whole status.TooLong image text before now finding is sent = absurd finding
-checked_whole status.Truncated image text before now finding is sent = absurd finding
-checked_whole (status.RootDenied level) image text before now finding is sent = absurd finding
+pub checked_whole : (t : Telling) (found : Status) (image : Image) (text before now : List ℕ) → IsFinding found → IsCheckFound t image found text → now ≡ before ++ text → HasChecked t found image before now
+checked_whole t status.Done image text before now finding is sent = (text, is, sent)
+checked_whole t (status.NotImage why) image text before now finding is sent = (text, is, sent)
+checked_whole t status.DeviceFault image text before now finding is sent = absurd finding
+checked_whole t status.NoMemory image text before now finding is sent = absurd finding
+checked_whole t status.Usage image text before now finding is sent = absurd finding
+checked_whole t status.SourceFault image text before now finding is sent = absurd finding
+checked_whole t status.PutFault image text before now finding is sent = absurd finding
+checked_whole t status.TooLong image text before now finding is sent = absurd finding
+checked_whole t status.Truncated image text before now finding is sent = absurd finding
+checked_whole t (status.RootDenied level) image text before now finding is sent = absurd finding
 
 -- nothing was looked at
-pub unchecked : (why : Status) (image : Image) (before now : List ℕ) → IsStopped why → now ≡ before → HasChecked why image before now
-unchecked status.DeviceFault image before now stops sent = sent
-unchecked status.NoMemory image before now stops sent = sent
-unchecked status.Done image before now stops sent = absurd stops
-unchecked (status.NotImage why) image before now stops sent = absurd stops
-unchecked status.Usage image before now stops sent = absurd stops
-unchecked status.SourceFault image before now stops sent = absurd stops
-unchecked status.PutFault image before now stops sent = absurd stops
-unchecked status.TooLong image before now stops sent = absurd stops
-unchecked status.Truncated image before now stops sent = absurd stops
-unchecked (status.RootDenied level) image before now stops sent = absurd stops
+pub unchecked : (t : Telling) (why : Status) (image : Image) (before now : List ℕ) → IsStopped why → now ≡ before → HasChecked t why image before now
+unchecked t status.DeviceFault image before now stops sent = sent
+unchecked t status.NoMemory image before now stops sent = sent
+unchecked t status.Done image before now stops sent = absurd stops
+unchecked t (status.NotImage why) image before now stops sent = absurd stops
+unchecked t status.Usage image before now stops sent = absurd stops
+unchecked t status.SourceFault image before now stops sent = absurd stops
+unchecked t status.PutFault image before now stops sent = absurd stops
+unchecked t status.TooLong image before now stops sent = absurd stops
+unchecked t status.Truncated image before now stops sent = absurd stops
+unchecked t (status.RootDenied level) image before now stops sent = absurd stops
 
 -- a text that was cut, from what was sent before the work
 pub cut_from : (before mid : List ℕ) (text now : List ℕ) → mid ≡ before → ProperFrontWasSent mid text now → ProperFrontWasSent before text now

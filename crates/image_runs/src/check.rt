@@ -1,4 +1,4 @@
-//! `check`: how large the world of an image is, or what is wrong with it.
+//! `check` and `info`: how large the world of an image is, or what is wrong with it.
 
 ghost use Rattle.std.specs.Prelude.{◌≡◌, ◌≢◌, IfOk, IfErr, OnOk};
 ghost use Rattle.image_device.specs.Counts.{CountsFaultOf, Rose};
@@ -7,26 +7,35 @@ ghost use Rattle.image_world.specs.Behind.{LeavesBehind};
 ghost use Rattle.recovery.specs.Opening.{IsForeign, IsSpared, IsUntouched, StandAlike};
 ghost use Rattle.volume_laws.specs.Volume.{IsVolumeReady, told_by};
 ghost use Rattle.volume_laws.specs.Writes.{Works};
-ghost use Rattle.tsd_words.specs.Lines.{clean_line};
 ghost use Rattle.image_runs.specs.Opened.{IsNotImage};
 ghost use Rattle.image_runs.specs.Sending.{IsEnding, IsStopped};
-ghost use Rattle.image_runs.specs.Check.{HasChecked, IsFinding, IsCheckFound, IsSaying};
+ghost use Rattle.image_runs.specs.Check.{HasChecked, IsFinding, IsCheckFound, IsSaying, told_of};
 
 use crate::opening::open_volume;
 use image_device::{Device, Port, put_all};
 use script_text::OutBuf;
 use std::alloc::Global;
-use tsd_words::{Status, clean_line, image_line};
+use tsd_words::{Status, clean_line, image_line, info_lines};
 use volume::Volume;
 
-/// Opens an image and puts one line: how many blocks of its world are live and how many free, and how many pointers are
-/// held; or, where it stands for no world, the first test that it fails.
+/// What is told of an image that stands for a world.
+#[derive(Clone, Copy, Debug, PartialEq, Eq)]
+pub enum Telling {
+    /// One line: how many of its blocks are live and how many free, and how many pointers are held.
+    Clean,
+
+    /// Its version and its size too, a name and a value in each line.
+    Info,
+}
+
+/// Opens an image and puts what is asked for of its world; or, where it stands for no world, a line with the first test
+/// that it fails.
 ///
 /// The status is Done or NotImage by what was found, DeviceFault or PutFault where that count rose, or NoMemory where
 /// none was found to open the image.
-pub fn check_image<P: Port>(alloc: Global, port: &mut P) -> Status
+pub fn check_image<P: Port>(alloc: Global, port: &mut P, telling: Telling) -> Status
     ensures ending { IsEnding result }
-    ensures said { P.told → HasChecked result (P.view port.old).reads (P.view port.old).sent (P.view port.new).sent }
+    ensures said { P.told → HasChecked telling result (P.view port.old).reads (P.view port.old).sent (P.view port.new).sent }
     // Where the image fails one of the tests that need no write, nothing is written, and the disk reads as before;
     // where it fails another, nothing is lost that a repair could use.
     ensures untouched { P.told → IsForeign (P.view port.old).reads
@@ -34,7 +43,7 @@ pub fn check_image<P: Port>(alloc: Global, port: &mut P) -> Status
     ensures spared { P.told → IsNotImage result → IsSpared (P.view port.old) (P.view port.new) }
     // A crash at any moment leaves an image of the same world, or of none where the image stood for none.
     ensures any_moment { P.told → IsFirm (P.view port.old) → LeavesOnly (P.view port.old) (P.view port.new)
-        (λ x f. StandAlike (P.view port.old).reads x × IsSaying (P.view port.old).reads (P.view port.old).sent f) }
+        (λ x f. StandAlike (P.view port.old).reads x × IsSaying telling (P.view port.old).reads (P.view port.old).sent f) }
     // A crash at any moment leaves what lies behind the image as it was.
     ensures behind { P.told → IsFirm (P.view port.old) → LeavesBehind (P.view port.old) (P.view port.new) }
     // A count of faults rose only where the status is that fault's.
@@ -44,7 +53,7 @@ pub fn check_image<P: Port>(alloc: Global, port: &mut P) -> Status
     ensures no_put_fault { result ≢ Status.PutFault → (P.view port.new).put_faults ≡ (P.view port.old).put_faults }
 {
     let mut line = OutBuf::new();
-    match judge(alloc, port, &mut line) {
+    match judge(alloc, port, telling, &mut line) {
         Ok(found) => match put_all(port, line.as_slice()) {
             Ok(()) => found,
             Err(_) => Status::PutFault,
@@ -53,11 +62,16 @@ pub fn check_image<P: Port>(alloc: Global, port: &mut P) -> Status
     }
 }
 
-/// Opens an image. The line is left that says what was found.
-fn judge<D: Device>(alloc: Global, dev: &mut D, line: &mut OutBuf) -> Result<Status, Status>
+/// Opens an image. The text is left that says what was found.
+fn judge<D: Device>(
+    alloc: Global,
+    dev: &mut D,
+    telling: Telling,
+    line: &mut OutBuf,
+) -> Result<Status, Status>
     ensures finding { IfOk result IsFinding }
     ensures failing { IfErr result IsStopped }
-    ensures found { D.told → IfOk result (λ s. IsCheckFound (D.view dev.old).reads s line.new) }
+    ensures found { D.told → IfOk result (λ s. IsCheckFound telling (D.view dev.old).reads s line.new) }
     ensures sent { D.told → (D.view dev.new).sent ≡ (D.view dev.old).sent }
     // Where the image fails one of the tests that need no write, nothing is written, and the disk reads as before;
     // where it fails another, nothing is lost that a repair could use.
@@ -72,7 +86,7 @@ fn judge<D: Device>(alloc: Global, dev: &mut D, line: &mut OutBuf) -> Result<Sta
 {
     match open_volume(alloc, dev) {
         Ok(volume) => {
-            *line = world_line(&volume);
+            *line = world_text(&volume, telling);
             Ok(Status::Done)
         }
         Err(Status::NotImage(fault)) => {
@@ -83,12 +97,15 @@ fn judge<D: Device>(alloc: Global, dev: &mut D, line: &mut OutBuf) -> Result<Sta
     }
 }
 
-/// The line of a volume's world.
-fn world_line(volume: &Volume) -> OutBuf
+/// What is told of a volume's world.
+fn world_text(volume: &Volume, telling: Telling) -> OutBuf
     requires { IsVolumeReady volume.now }
-    ensures { result ≡ clean_line (told_by volume.now) }
+    ensures { result ≡ told_of telling (told_by volume.now) }
 {
     let size = volume.geometry();
     let free = volume.free_count();
-    clean_line(size.blocks - free, free, volume.pointers())
+    match telling {
+        Telling::Clean => clean_line(size.blocks - free, free, volume.pointers()),
+        Telling::Info => info_lines(volume.version(), &size, free, volume.pointers()),
+    }
 }

@@ -32,7 +32,7 @@ mod run;
 mod server;
 mod upgrade;
 
-pub use check::check_image;
+pub use check::{Telling, check_image};
 pub use format::format_image;
 pub use fresh::serve_fresh;
 pub use image::serve_image;

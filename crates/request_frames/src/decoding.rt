@@ -16,24 +16,21 @@ use crate::parsed::{Parsed, put_request};
 use crate::reader::BodyReader;
 use tsd_model::{CapPair, Request};
 
-/// The request that a body spells, and Bad where it spells none.
-#[inline(never)]
-pub fn decode_body(body: &[u8]) -> Request
+/// Puts the request that a body spells into the room for it, and Bad where it spells none.
+pub fn decode_body(body: &[u8], into: &mut Request)
     // What is read is spelled so, from the first byte to the last.
-    ensures spelled { (result ≡ Request.Bad) ⊎ IsBody body.now result }
+    ensures spelled { (into.new ≡ Request.Bad) ⊎ IsBody body.now into.new }
     // What is spelled so is read: so no body has two requests. No body spells Bad.
-    ensures only { (q : Request) → IsBody body.now q → result ≡ q }
+    ensures only { (q : Request) → IsBody body.now q → into.new ≡ q }
     // A longer body is no request's.
-    ensures long { 4122 < length body.now → result ≡ Request.Bad }
+    ensures long { 4122 < length body.now → into.new ≡ Request.Bad }
     // As a function that computes.
-    ensures value { result ≡ request_of body.now }
+    ensures value { into.new ≡ request_of body.now }
 {
-    let mut request = Request::Bad;
-    put_request(&read_body(body), &mut request);
-    request
+    put_request(&read_body(body), into);
 }
 
-/// What a body says. It stays a call, so that the room of the request is cleared once and beside no other.
+/// What a body says.
 #[inline(never)]
 #[tactic(auto, unfolding(crate::specs::Reading::request_of))]
 fn read_body(body: &[u8]) -> Parsed<'_>

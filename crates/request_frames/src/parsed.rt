@@ -220,12 +220,13 @@ fn put_write(access: &Access, bytes: &[u8], into: &mut Request)
         *into = Request::Bad;
         return;
     }
-    let mut all = Data::new();
-    let _fit = all.extend_from_slice(bytes);
     *into = Request::Write {
         session: access.session,
         block: access.block,
         shown: access.shown,
-        bytes: all,
+        bytes: Data::new(),
     };
+    if let Request::Write { bytes: all, .. } = into {
+        let _fit = all.extend_from_slice(bytes);
+    }
 }

@@ -1,3 +1,4 @@
+pub mod ByteLaws
 pub mod PiecesLaws
 pub mod WordLaws
 pub mod ReadingLaws

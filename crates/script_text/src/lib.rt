@@ -4,7 +4,8 @@
 //! word is a name, which says what the others are. A line is over at its line feed, and has at most 8,400 bytes before
 //! it.
 //!
-//! What it stands on: the types of `tsd_model`; `arrayvec` for buffers, `hex` for bytes as digits, `itoa` for numbers.
+//! What it stands on: the types of `tsd_model`; `arrayvec` for buffers, `hex` for bytes as digits, `itoa` for numbers,
+//! `memchr` to look for a byte.
 //!
 //! What it promises:
 //!

@@ -18,24 +18,22 @@ use tsd_model::{CapPair, Request};
 /// The most bytes of a line, its line feed not counted.
 pub const LINE_MAX: usize = 8400;
 
-/// The request that a line spells, and Bad where it spells none. The line comes without its line feed.
-#[inline(never)]
-pub fn parse_line(line: &[u8]) -> Request
+/// Puts the request that a line spells into the room for it, and Bad where it spells none. The line comes without its
+/// line feed.
+pub fn parse_line(line: &[u8], into: &mut Request)
     // What is read is spelled so.
-    ensures spelled { (result ≡ Request.Bad) ⊎ IsLine line.now result }
+    ensures spelled { (into.new ≡ Request.Bad) ⊎ IsLine line.now into.new }
     // What is spelled so is read: so no line has two requests. No line spells Bad.
-    ensures only { (q : Request) → IsLine line.now q → result ≡ q }
+    ensures only { (q : Request) → IsLine line.now q → into.new ≡ q }
     // A longer line is as bad where it is cut to one byte more than a line may have.
-    ensures cut { (whole : List ℕ) → line.now ≡ take 8401 whole → result ≡ request_of whole }
+    ensures cut { (whole : List ℕ) → line.now ≡ take 8401 whole → into.new ≡ request_of whole }
     // As a function that computes.
-    ensures value { result ≡ request_of line.now }
+    ensures value { into.new ≡ request_of line.now }
 {
-    let mut request = Request::Bad;
-    put_request(&read_line(line), &mut request);
-    request
+    put_request(&read_line(line), into);
 }
 
-/// What a line says. It stays a call, so that the room of the request is cleared once and beside no other.
+/// What a line says.
 #[inline(never)]
 #[tactic(auto, unfolding(crate::specs::Reading::request_of))]
 fn read_line(line: &[u8]) -> Parsed<'_>

@@ -216,15 +216,17 @@ fn put_making(parsed: &Parsed<'_>, into: &mut Request)
 fn put_write(access: &Access, word: &[u8], into: &mut Request)
     ensures { into.new ≡ unwrap_or (write_parsed access.now word.now) ask.Bad }
 {
-    let mut bytes = Data::new();
-    if !read_data(word, &mut bytes) {
-        *into = Request::Bad;
-        return;
-    }
     *into = Request::Write {
         session: access.session,
         block: access.block,
         shown: access.shown,
-        bytes,
+        bytes: Data::new(),
     };
+    let mut is_spelled = false;
+    if let Request::Write { bytes, .. } = into {
+        is_spelled = read_data(word, bytes);
+    }
+    if !is_spelled {
+        *into = Request::Bad;
+    }
 }

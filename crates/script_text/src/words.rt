@@ -122,7 +122,7 @@ impl<'a> Words<'a> {
 pub(crate) fn first_position(bytes: &[u8], at: u8) -> Option<usize>
     ensures { result ≡ position (λ b. b == at) bytes.now }
 {
-    bytes.iter().position(|b| *b == at)
+    memchr::memchr(at, bytes)
 }
 
 /// What stands before the first space, and after it.

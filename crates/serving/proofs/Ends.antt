@@ -20,7 +20,7 @@ end_taken count before now none e = grind arith
 pub later_same : (i j : Intake) (before now : ℕ) → i.over ≡ false → j.over ≡ false → now ≡ before → now + ends_left j ≤ before + ends_left i
 later_same i j before now io jo e = omega (arith, ends_open i io, ends_open j jo)
 
-pub later_at_end : {Q : Type 0} (e : Ending Q) (r : Next Q) (i j : Intake) (q : Q) (before now : ℕ) → IsNextAtEnd e r j.over i.over → i.over ≡ false → now ≤ before + 1 → r ≡ next.Request q → now + ends_left j ≤ before + ends_left i
+pub later_at_end : {Q : Type 0} (e : Ending Q) (r : Next) (i j : Intake) (q : Q) (before now : ℕ) → IsNextAtEnd e r q j.over i.over → i.over ≡ false → now ≤ before + 1 → r ≡ next.Request → now + ends_left j ≤ before + ends_left i
 later_at_end ending.Nothing r i j q before now n io le is = absurd cc
 later_at_end ending.CutOff r i j q before now n io le is = absurd cc
 later_at_end (ending.One x) r i j q before now n io le is = let o : ends_left j ≡ 0 = ap (λ b. cond b 0 1) n.1 in omega (arith, o, ends_open i io, le)

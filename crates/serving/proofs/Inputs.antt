@@ -1,6 +1,5 @@
 -- Bytes that come in, and the requests that are handed out of them.
 use Rattle.std.proofs.Common.{◌≡◌, ◌↔◌, ◌⊎◌, inl, inr, ℕ, zero, suc, ◌+◌, ◌-◌, ◌≤◌, ◌<◌, Bool, true, false, cond, MatchBool, List, [], ◌∷◌, ◌++◌, length, take, drop, min, slice_range, refl, sym, ◌∙◌, ap, subst, arith, append_assoc, append-nil, length-append}
-use Rattle.std.specs.Prelude.{Option}
 use Rattle.std.proofs.lemmas.List.{length-take, take_all, drop-drop}
 use Rattle.std.proofs.Math.Seq.{take-add}
 use Rattle.tsd_words.specs.declared.status.Status.{Status}
@@ -106,16 +105,16 @@ left_read i i2 limit taken over to later = omega (arith, limit, taken, to, later
 
 module _ {Q : Type 0} (p : Spelling Q) where
   -- some of what is held was read, and with it at most one request
-  pub reads_on : (fed fed2 : List ℕ → Type 0) (i i2 : Intake) (bytes : List ℕ) (qs : List Q) (o : Option Q) (used : ℕ) → Reads p fed i bytes qs
+  pub reads_on : (fed fed2 : List ℕ → Type 0) (i i2 : Intake) (bytes : List ℕ) (qs : List Q) (whole : Bool) (q : Q) (used : ℕ) → Reads p fed i bytes qs
       → i2.limit ≡ i.limit → i2.taken ≡ i.taken → slice_range i2.room i2.from i2.to ≡ slice_range i.room (i.from + used) i.to → i.from ≤ i.to → used ≤ length (unread i)
-      → ((x : List ℕ) → fed x → fed2 (x ++ take used (unread i))) → ((x : List ℕ) → fed x → p.requests (x ++ take used (unread i)) ≡ p.requests x ++ completed o) → Reads p fed2 i2 bytes (qs ++ completed o)
-  reads_on fed fed2 i i2 bytes qs o used was limit taken rest ordered fits fed_on asks = record {
+      → ((x : List ℕ) → fed x → fed2 (x ++ take used (unread i))) → ((x : List ℕ) → fed x → p.requests (x ++ take used (unread i)) ≡ p.requests x ++ completed whole q) → Reads p fed2 i2 bytes (qs ++ completed whole q)
+  reads_on fed fed2 i i2 bytes qs whole q used was limit taken rest ordered fits fed_on asks = record {
     long = was.long ∙ sym taken;
     x = was.x ++ take used (unread i);
     was_fed = fed_on was.x was.was_fed;
     parts = append_assoc was.x (take used (unread i)) (unread i2) ∙ ap (λ l. was.x ++ (take used (unread i) ++ l)) rest
         ∙ ap (λ l. was.x ++ l) (sym (held_on i.room i.from i.to used fits ordered)) ∙ was.parts ∙ ap (λ n. take n bytes) (sym limit);
-    these = ap (λ l. l ++ completed o) was.these ∙ sym (asks was.x was.was_fed);
+    these = ap (λ l. l ++ completed whole q) was.these ∙ sym (asks was.x was.was_fed);
   }
 
   -- where nothing is held, what was read is what came, up to the limit
@@ -145,8 +144,8 @@ module _ {Q : Type 0} (p : Spelling Q) where
   found_fault fed ended i bytes qs was none few = (omega (arith, was.long, few), was.these ∙ ap p.requests (all_came fed i bytes qs was none few))
 
   -- more came than is served
-  pub found_long : (fed : List ℕ → Type 0) (ended : Type 0) (i : Intake) (bytes : List ℕ) (qs : List Q) → Reads p fed i bytes qs → i.from ≡ i.to → i.limit < i.taken → i.taken ≤ i.limit + 512 → AskedBy status.TooLong p i.limit bytes ended qs
-  found_long fed ended i bytes qs was none more few = (omega (arith, was.long, more), omega (arith, was.long, few), was.these ∙ ap p.requests (all_read fed i bytes qs was none))
+  pub found_long : (fed : List ℕ → Type 0) (ended : Type 0) (i : Intake) (bytes : List ℕ) (qs : List Q) → Reads p fed i bytes qs → i.from ≡ i.to → i.limit < i.taken → i.taken ≤ i.limit + 1 → AskedBy status.TooLong p i.limit bytes ended qs
+  found_long fed ended i bytes qs was none more few = (omega (arith, was.long, more, few), was.these ∙ ap p.requests (all_read fed i bytes qs was none))
 
   -- no request, one more
   pub handed_on : (fed : List ℕ → Type 0) (ended : Type 0) (i : Intake) (bytes : List ℕ) (qs : List Q) → i.over ≡ false → Reads p fed i bytes qs → Handed p fed ended i bytes qs
@@ -162,28 +161,35 @@ module _ {Q : Type 0} (p : Spelling Q) where
   no_more bytes qs e these is = ap (λ l. l ++ last e) these ∙ ap (λ r. p.requests bytes ++ last r) is
 
   -- the end of the input was found
-  found_end : (fed fed2 : List ℕ → Type 0) (ended : Type 0) (i i2 : Intake) (bytes : List ℕ) (qs : List Q) (e : Ending Q) (r : Next Q) (b was : Bool) → i2.over ≡ b → i2.limit ≡ i.limit → length bytes ≤ i.limit → ended
-      → qs ≡ p.requests bytes → e ≡ p.ending bytes → IsNextAtEnd e r b was → IsFoundNext p fed2 ended i2 bytes qs r
-  found_end fed fed2 ended i i2 bytes qs ending.Nothing r b was over limit long end these is found =
-      subst (λ n. IsFoundNext p fed2 ended i2 bytes qs n) (sym found.0)
+  found_end : (fed fed2 : List ℕ → Type 0) (ended : Type 0) (i i2 : Intake) (bytes : List ℕ) (qs : List Q) (e : Ending Q) (r : Next) (q : Q) (b was : Bool) → i2.over ≡ b → i2.limit ≡ i.limit → length bytes ≤ i.limit → ended
+      → qs ≡ p.requests bytes → e ≡ p.ending bytes → IsNextAtEnd e r q b was → IsFoundNext p fed2 ended i2 bytes qs q r
+  found_end fed fed2 ended i i2 bytes qs ending.Nothing r q b was over limit long end these is found =
+      subst (λ n. IsFoundNext p fed2 ended i2 bytes qs q n) (sym found.0)
       (omega (arith, long, limit), end, (λ cut. cc), sym (append-nil qs) ∙ no_more bytes qs ending.Nothing these is)
-  found_end fed fed2 ended i i2 bytes qs ending.CutOff r b was over limit long end these is found =
-      subst (λ n. IsFoundNext p fed2 ended i2 bytes qs n) (sym found.0)
+  found_end fed fed2 ended i i2 bytes qs ending.CutOff r q b was over limit long end these is found =
+      subst (λ n. IsFoundNext p fed2 ended i2 bytes qs q n) (sym found.0)
       (omega (arith, long, limit), end, sym is, sym (append-nil qs) ∙ no_more bytes qs ending.CutOff these is)
-  found_end fed fed2 ended i i2 bytes qs (ending.One q) r b was over limit long end these is found =
-      subst (λ n. IsFoundNext p fed2 ended i2 bytes qs n) (sym found.0)
-      (subst (λ t. MatchBool t (AskedBy status.Done p i2.limit bytes ended (qs ++ q ∷ [])) (Reads p fed2 i2 bytes (qs ++ q ∷ []))) (sym (over ∙ found.1))
-      (omega (arith, long, limit), end, (λ cut. cc), no_more bytes qs (ending.One q) these is))
+  found_end fed fed2 ended i i2 bytes qs (ending.One q) r into b was over limit long end these is found =
+      subst (λ n. IsFoundNext p fed2 ended i2 bytes qs into n) (sym found.0)
+      (subst (λ t. MatchBool t (AskedBy status.Done p i2.limit bytes ended (qs ++ into ∷ [])) (Reads p fed2 i2 bytes (qs ++ into ∷ []))) (sym (over ∙ found.1))
+      (omega (arith, long, limit), end, (λ cut. cc), ap (λ x. qs ++ x ∷ []) found.2 ∙ no_more bytes qs (ending.One q) these is))
 
-  pub found_at_end : (fed fed2 : List ℕ → Type 0) (ended : Type 0) (i i2 : Intake) (bytes : List ℕ) (qs : List Q) (e : Ending Q) (r : Next Q) (before : Bool) → Reads p fed i bytes qs → i.from ≡ i.to → i.taken ≤ i.limit → i2.limit ≡ i.limit → ended
-      → ((x : List ℕ) → fed x → e ≡ p.ending x) → IsNextAtEnd e r i2.over before → IsFoundNext p fed2 ended i2 bytes qs r
-  found_at_end fed fed2 ended i i2 bytes qs e r before was none few limit end is found =
+  pub found_at_end : (fed fed2 : List ℕ → Type 0) (ended : Type 0) (i i2 : Intake) (bytes : List ℕ) (qs : List Q) (e : Ending Q) (r : Next) (q : Q) (before : Bool) → Reads p fed i bytes qs → i.from ≡ i.to → i.taken ≤ i.limit → i2.limit ≡ i.limit → ended
+      → ((x : List ℕ) → fed x → e ≡ p.ending x) → IsNextAtEnd e r q i2.over before → IsFoundNext p fed2 ended i2 bytes qs q r
+  found_at_end fed fed2 ended i i2 bytes qs e r q before was none few limit end is found =
       let x = all_came fed i bytes qs was none few in
-      found_end fed fed2 ended i i2 bytes qs e r i2.over before refl limit (omega (arith, was.long, few)) end (was.these ∙ ap p.requests x) (is was.x was.was_fed ∙ ap p.ending x) found
+      found_end fed fed2 ended i i2 bytes qs e r q i2.over before refl limit (omega (arith, was.long, few)) end (was.these ∙ ap p.requests x) (is was.x was.was_fed ∙ ap p.ending x) found
 
   -- nothing was read but bytes that end no request
-  pub none_read : (fed : List ℕ → Type 0) (i : Intake) (bytes : List ℕ) (qs : List Q) → Reads p fed i bytes (qs ++ []) → Reads p fed i bytes qs
+  none_read : (fed : List ℕ → Type 0) (i : Intake) (bytes : List ℕ) (qs : List Q) → Reads p fed i bytes (qs ++ []) → Reads p fed i bytes qs
   none_read fed i bytes qs was = subst (λ l. Reads p fed i bytes l) (append-nil qs) was
+
+  pub read_none : (fed : List ℕ → Type 0) (i : Intake) (bytes : List ℕ) (qs : List Q) (whole : Bool) (q : Q) → whole ≡ false → Reads p fed i bytes (qs ++ completed whole q) → Reads p fed i bytes qs
+  read_none fed i bytes qs whole q none was = none_read fed i bytes qs (subst (λ w. Reads p fed i bytes (qs ++ completed w q)) none was)
+
+  -- or bytes that end one
+  pub read_one : (fed : List ℕ → Type 0) (i : Intake) (bytes : List ℕ) (qs : List Q) (whole : Bool) (q : Q) → whole ≡ true → Reads p fed i bytes (qs ++ completed whole q) → Reads p fed i bytes (qs ++ q ∷ [])
+  read_one fed i bytes qs whole q one was = subst (λ w. Reads p fed i bytes (qs ++ completed w q)) one was
 
   -- the input was over before
   pub over_end : (tells : Type 0) (taken left : List ℕ) (fed : List ℕ → Type 0) (ended : Type 0) (i : Intake) (bytes : List ℕ) (qs : List Q) → i.over ≡ true → Handed p fed ended i bytes qs

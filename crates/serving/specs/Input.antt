@@ -1,5 +1,5 @@
 -- How requests are read from bytes.
-use Rattle.std.specs.Prelude.{◌≡◌, ℕ, List, [], ◌∷◌, ◌++◌, Option, Some, None}
+use Rattle.std.specs.Prelude.{◌≡◌, ℕ, Bool, true, false, List, [], ◌∷◌, ◌++◌}
 use Rattle.serving.specs.declared.protocol.Ending.{Ending}
 use Rattle.serving.specs.declared.protocol.Ending.TheVariants as ending
 
@@ -24,7 +24,7 @@ last (ending.One q) = q ∷ []
 abbrev pub all_requests : {Q : Type 0} → Spelling Q → List ℕ → List Q
 all_requests p x = p.requests x ++ last (p.ending x)
 
--- the request that was made whole, if one was
-abbrev pub completed : {Q : Type 0} → Option Q → List Q
-completed None = []
-completed (Some q) = q ∷ []
+-- the request that stands in the room for it, if it was made whole
+abbrev pub completed : {Q : Type 0} → Bool → Q → List Q
+completed false q = []
+completed true q = q ∷ []

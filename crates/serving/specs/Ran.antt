@@ -53,15 +53,14 @@ abbrev pub moments : {P : Type 0} → Type 0 → (P → View) → P → P → Mo
 moments tells view old new = record { tells = tells; untouched = new ≡ old; old = view old; new = view new }
 
 -- Which requests a run that ended so was asked, by the bytes x that came in. At most `limit` bytes are served; after a
--- take that goes past them no more is taken, and a take gives at most 512. What the end of the input makes whole counts
--- only where the input has come to its end.
+-- take that goes past them no more is taken, and it goes one byte past them. What the end of the input makes whole
+-- counts only where the input has come to its end.
 abbrev pub AskedBy : {Q : Type 0} → Status → Spelling Q → ℕ → List ℕ → Type 0 → List Q → Type 0
 AskedBy status.Done p limit x ended qs = (length x ≤ limit) × ended × (p.ending x ≢ CutOff) × (qs ≡ all_requests p x)
 AskedBy status.Truncated p limit x ended qs =
     (length x ≤ limit) × ended × (p.ending x ≡ CutOff) × (qs ≡ all_requests p x)
 AskedBy status.SourceFault p limit x ended qs = (length x ≤ limit) × (qs ≡ p.requests x)
-AskedBy status.TooLong p limit x ended qs = (limit < length x) × (length x ≤ limit + 512)
-    × (qs ≡ p.requests (take limit x))
+AskedBy status.TooLong p limit x ended qs = (length x ≡ limit + 1) × (qs ≡ p.requests (take limit x))
 AskedBy status.DeviceFault p limit x ended qs =
     (qs ≡ p.requests (take limit x)) ⊎ ((length x ≤ limit) × ended × (qs ≡ all_requests p x))
 AskedBy status.PutFault p limit x ended qs = (qs ≡ p.requests (take limit x))

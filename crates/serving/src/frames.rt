@@ -21,19 +21,18 @@ impl Protocol for FrameCutter {
 
     ghost lawful = { frames_lawful };
 
-    #[inline(never)]
-    fn feed(&mut self, piece: &[u8]) -> Fed<Request> {
+    fn blank() -> Request {
+        Request::Bad
+    }
+
+    fn feed(&mut self, piece: &[u8], into: &mut Request) -> Fed {
         let fed = FrameCutter::feed(self, piece);
         if fed.whole {
-            let request = decode_body(self.body());
-            return Fed {
-                used: fed.used,
-                request: Some(request),
-            };
+            decode_body(self.body(), into);
         }
         Fed {
             used: fed.used,
-            request: None,
+            whole: fed.whole,
         }
     }
 
@@ -52,7 +51,8 @@ impl Replies for FrameCutter {
     ghost apart = { frames_apart };
 
     fn put_reply<P: Port>(port: &mut P, reply: &Reply) -> Result<(), Failed> {
-        match short_frame(reply) {
+        let short = short_frame(reply);
+        match &short {
             Some(frame) => put_all(port, frame.as_slice()),
             None => put_long(port, reply),
         }

@@ -6,13 +6,13 @@ ghost use Rattle.std.specs.Prelude.{◌≤◌, ◌+◌, ◌^◌};
 pub const INPUT_MAX: u64 = 1 << 40;
 
 /// The most bytes that one take gives.
-pub const TAKE_MAX: usize = 512;
+pub const TAKE_MAX: usize = 65_536;
 
 /// What comes next.
-#[derive(Drop)]
-pub enum Next<Q> {
-    /// A request.
-    Request(Q),
+#[derive(Clone, Copy, Debug, PartialEq, Eq)]
+pub enum Next {
+    /// A request, which stands in the room for it now.
+    Request,
 
     /// The end: all requests were handed out.
     End,
@@ -49,7 +49,7 @@ pub struct Intake {
     pub(crate) over: bool,
 
     ghost ordered: { from ≤ to },
-    ghost within: { to ≤ 512 },
-    ghost few: { taken ≤ limit + 512 },
+    ghost within: { to ≤ 65536 },
+    ghost few: { taken ≤ limit + 1 },
     ghost short: { limit ≤ 2 ^ 40 },
 }

@@ -20,19 +20,18 @@ impl Protocol for LineCutter {
 
     ghost lawful = { lines_lawful };
 
-    #[inline(never)]
-    fn feed(&mut self, piece: &[u8]) -> Fed<Request> {
+    fn blank() -> Request {
+        Request::Bad
+    }
+
+    fn feed(&mut self, piece: &[u8], into: &mut Request) -> Fed {
         let fed = LineCutter::feed(self, piece);
         if fed.whole {
-            let request = parse_line(self.line());
-            return Fed {
-                used: fed.used,
-                request: Some(request),
-            };
+            parse_line(self.line(), into);
         }
         Fed {
             used: fed.used,
-            request: None,
+            whole: fed.whole,
         }
     }
 
@@ -42,7 +41,9 @@ impl Protocol for LineCutter {
         if rest.is_empty() {
             return Ending::Nothing;
         }
-        Ending::One(parse_line(rest))
+        let mut request = Request::Bad;
+        parse_line(rest, &mut request);
+        Ending::One(request)
     }
 }
 
@@ -52,7 +53,8 @@ impl Replies for LineCutter {
     ghost apart = { lines_apart };
 
     fn put_reply<P: Port>(port: &mut P, reply: &Reply) -> Result<(), Failed> {
-        match short_line(reply) {
+        let short = short_line(reply);
+        match &short {
             Some(line) => put_all(port, line.as_slice()),
             None => put_long(port, reply),
         }

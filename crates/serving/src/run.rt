@@ -61,18 +61,17 @@ pub fn serve<S: Source, P: Port, R: Protocol, H: Server<R>>(
     ensures no_put_fault { result ≢ Status.PutFault → (P.view port.new).put_faults ≡ (P.view port.old).put_faults }
 {
     let mut intake = Intake::new(limit);
+    let mut request = R::blank();
     loop {
-        match intake.next::<S, R>(protocol, source) {
-            Next::Request(request) => match server.answer(port, &request) {
+        match intake.next::<S, R>(protocol, source, &mut request) {
+            Next::Request => match server.answer(port, &request) {
                 Ok(()) => {}
                 Err(why) => return why,
             },
-            Next::End => {
-                return match server.close(port) {
-                    Ok(()) => Status::Done,
-                    Err(_) => Status::DeviceFault,
-                };
-            }
+            Next::End => match server.close(port) {
+                Ok(()) => return Status::Done,
+                Err(_) => return Status::DeviceFault,
+            },
             Next::CutOff => return Status::Truncated,
             Next::Fault => return Status::SourceFault,
             Next::TooLong => return Status::TooLong,

@@ -60,7 +60,9 @@ fn requests(alloc: Global, text: &str) -> Result<Vec<Request>, AllocError> {
     let bytes = spelled(alloc, text)?;
     let mut requests = Vec::new(alloc);
     for line in bytes.as_slice().split(|byte| *byte == b'\n') {
-        requests.push(parse_line(line))?;
+        let mut request = Request::Bad;
+        parse_line(line, &mut request);
+        requests.push(request)?;
     }
     Ok(requests)
 }

@@ -26,6 +26,13 @@ fn blocks(numbers: &[u32]) -> BlockList {
     all
 }
 
+/// The request that a body spells, put where another one stood.
+fn decoded(body: &[u8]) -> Request {
+    let mut request = Request::End { session: 7 };
+    decode_body(body, &mut request);
+    request
+}
+
 /// Asserts that a request's frame is this length and body, and that the body reads as the request.
 fn is_request(rt: &impl Abort, length: &[u8], body: &[u8], request: &Request) {
     let mut frame = FrameBuf::new();
@@ -33,7 +40,7 @@ fn is_request(rt: &impl Abort, length: &[u8], body: &[u8], request: &Request) {
     encode_request(request, &mut frame);
     assert!(rt; frame.as_slice().starts_with(length));
     assert_eq!(rt; frame.as_slice().get(2..), Some(body));
-    assert_eq!(rt; decode_body(body), *request);
+    assert_eq!(rt; decoded(body), *request);
 }
 
 /// Asserts the same of a request whose body has no byte to spare, and that a byte less and a byte more make it none.
@@ -42,8 +49,8 @@ fn is_exactly(rt: &impl Abort, length: u8, body: &[u8], request: &Request) {
     assert!(rt; 0 < body.len() && body.len() < 64);
     let mut longer = [0; 64];
     longer[..body.len()].copy_from_slice(body);
-    assert_eq!(rt; decode_body(&longer[..body.len() - 1]), Request::Bad);
-    assert_eq!(rt; decode_body(&longer[..body.len() + 1]), Request::Bad);
+    assert_eq!(rt; decoded(&longer[..body.len() - 1]), Request::Bad);
+    assert_eq!(rt; decoded(&longer[..body.len() + 1]), Request::Bad);
 }
 
 /// The requests of the worked example and a body of each other code.
@@ -167,7 +174,7 @@ fn writes_and_their_bodies(rt: HostRuntime) {
         };
         is_request(&rt, length, body, &request);
     }
-    assert_eq!(rt; decode_body(b"\x04\x01\0\0\0\x02\0\0\0"), Request::Bad);
+    assert_eq!(rt; decoded(b"\x04\x01\0\0\0\x02\0\0\0"), Request::Bad);
     let mut longest = [4; 4107];
     longest[9] = 0;
     let request = Request::Write {
@@ -177,7 +184,7 @@ fn writes_and_their_bodies(rt: HostRuntime) {
         bytes: data([4; 4096].as_slice()),
     };
     is_request(&rt, b"\x0a\x10", &longest[..4106], &request);
-    assert_eq!(rt; decode_body(longest.as_slice()), Request::Bad);
+    assert_eq!(rt; decoded(longest.as_slice()), Request::Bad);
 }
 
 /// Asserts that a body reads as a reply, and that the reply's frame is its length and the body.

@@ -7,7 +7,7 @@ use tsd_model::{Cap, CapPair, Geometry, PlaceKind};
 use tsd_words::{Command, CopyFs, Format, Fresh, Load, TreeRoot, command};
 
 /// Words, and the command that they spell. R and W stand for 32 digits `a` and `b`, Z for 64 digits `0`.
-const SPELLED: [(&str, Command); 11] = [
+const SPELLED: [(&str, Command); 12] = [
     (
         "fresh 8 1 R W near",
         Command::Fresh(Fresh {
@@ -51,6 +51,7 @@ const SPELLED: [(&str, Command); 11] = [
     ("upgrade", Command::Upgrade),
     ("audit", Command::Audit),
     ("verify", Command::Verify),
+    ("info", Command::Info),
     (
         "copyfs inode 0 R chain 4294967295 W low",
         Command::CopyFs(CopyFs {

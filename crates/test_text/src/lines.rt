@@ -37,13 +37,20 @@ fn is_line(rt: &impl Abort, line: &OutBuf, text: &str) {
     );
 }
 
+/// The request that a line spells, put where another one stood.
+fn parsed(line: &[u8]) -> Request {
+    let mut request = Request::End { session: 7 };
+    parse_line(line, &mut request);
+    request
+}
+
 /// Asserts that a request is printed as this line, and read from it.
 fn is_spelled(rt: &impl Abort, text: &str, request: &Request) {
     let mut line = OutBuf::new();
     assert!(rt; *request != Request::Bad);
     print_request(request, &mut line);
     is_line(rt, &line, text);
-    assert_eq!(rt; parse_line(text.as_bytes()), *request, "{text}");
+    assert_eq!(rt; parsed(text.as_bytes()), *request, "{text}");
 }
 
 /// Each form of request.
@@ -273,7 +280,7 @@ fn long_line(rt: HostRuntime) {
     let fed = cutter.feed(b"a\nfree\n");
     assert_eq!(rt; (fed.used, fed.whole, cutter.line().len()), (2, true, 8401));
     cutter.feed(b"free\n");
-    assert_eq!(rt; parse_line(cutter.line()), Request::GetFree);
+    assert_eq!(rt; parsed(cutter.line()), Request::GetFree);
 }
 
 /// A full buffer takes no more.

@@ -5,11 +5,11 @@ pub const VERSION: &str = "tsd 0.2.0\n";
 
 /// What a command line may be. The help has it as a line.
 pub const USAGE: &str =
-    "usage: tsd [mirror IMAGE] IMAGE COMMAND | help [TOPIC] | --help | --version";
+    "usage: tsd [--overwrite] [mirror IMAGE] IMAGE COMMAND | help [TOPIC] | -h | -V";
 
 /// The topics of the help.
 pub const TOPICS: &str =
-    "fresh, format, run, serve, shell, copyfs, check, load, upgrade, audit, verify, mirror, requests and replies";
+    "fresh, format, run, serve, group, shell, copyfs, check, info, load, upgrade, audit, verify, mirror, requests and replies";
 
 /// The text of a topic of the help.
 pub fn text_of(topic: &str) -> Option<&'static str> {
@@ -18,9 +18,11 @@ pub fn text_of(topic: &str) -> Option<&'static str> {
         "format" => Some(FORMAT),
         "run" => Some(RUN),
         "serve" => Some(SERVE),
+        "group" => Some(GROUP),
         "shell" => Some(SHELL),
         "copyfs" => Some(COPYFS),
         "check" => Some(CHECK),
+        "info" => Some(INFO),
         "load" => Some(LOAD),
         "upgrade" => Some(UPGRADE),
         "audit" => Some(AUDIT),
@@ -38,13 +40,14 @@ pub const HELP: &str =
 reclaims a block when its last pointer goes, and admits a client to a block by
 a capability or along a pointer from a block already granted.
 
-usage: tsd [mirror IMAGE] IMAGE COMMAND | help [TOPIC] | --help | --version
+usage: tsd [--overwrite] [mirror IMAGE] IMAGE COMMAND | help [TOPIC] | -h | -V
 
 IMAGE is a file or a block device, or `-` for a disk in memory that is gone when
 the program ends. It is open for one process at a time. A file that is named
-help is given as ./help, one named mirror as ./mirror. A word of COMMAND that
-begins with `@`, as @FILE, stands for the first word in that file: so a
-capability stays off the command line, which other users see.
+help is given as ./help, one named mirror as ./mirror. Where it holds something
+that is no disk it is lost to a new disk, or to a copy, only behind --overwrite.
+A word of COMMAND that begins with `@`, as @FILE, stands for the first word in
+that file: so a capability stays off the command line, which other users see.
 
 commands
 
@@ -52,9 +55,11 @@ commands
   format   makes a disk with the capabilities of a seed, and prints them
   run      opens the disk and answers lines
   serve    opens the disk and answers frames
+  group    answers frames; those that come together are committed together
   shell    opens the disk and answers lines on a tree of files in it
   copyfs   copies a tree of files from one primary block to another
   check    tells how full the disk is, or what is wrong with the image
+  info     tells the disk's version and size too, a value in each line
   load     carries out requests drawn from a seed, and counts the answers
   upgrade  keeps digests in place of capabilities from then on
   audit    tells which blocks the primary blocks lead to, as a certificate
@@ -85,15 +90,17 @@ more
   tsd help replies   the lines of replies, and the refusals
   man tsd            the man page tsd.1, which has all of these
   docs/FORMAT.md     the bytes of an image, the lines, the frames and the faults
-                     of an image; it is in the folder of the script `tsd`
+                     of an image; `make install` puts it into share/doc/tsd
 ";
 
 /// The topic `fresh`.
 pub const FRESH: &str = "tsd IMAGE fresh BLOCKS SECTORS READCAP WRITECAP PLACE
 
 Makes a disk with one primary block, 0, and with four pointer slots for each
-block. Then it answers the lines of standard input. What the file held is lost;
-a missing file is made, for its owner alone.
+block. Then it answers the lines of standard input. A disk that the file held is
+lost; where it has more than its primary blocks, that is asked at a terminal. A
+file that holds anything else is refused, unless --overwrite stands before the
+image. A missing file is made, for its owner alone.
 
   BLOCKS    how many blocks, 8 to 1048576
   SECTORS   how many sectors of 512 bytes a block has: 1, 2, 4 or 8
@@ -108,8 +115,11 @@ that file.
 
 example
 
-  printf 'open 1\\nwrite 1 0 %032d 6869\\n' 2 \\
-    | tsd disk.img fresh 8 1 $(printf %032d 1) $(printf %032d 2) near
+  umask 077
+  head -c 16 /dev/urandom | od -An -v -tx1 | tr -d ' \\n' > readcap
+  head -c 16 /dev/urandom | od -An -v -tx1 | tr -d ' \\n' > writecap
+  printf 'open 1\\nwrite 1 0 %s 6869\\n' $(cat writecap) \\
+    | tsd disk.img fresh 8 1 @readcap @writecap near
 ";
 
 /// The topic `format`.
@@ -117,7 +127,10 @@ pub const FORMAT: &str = "tsd IMAGE format BLOCKS SECTORS SLOTS PRIMARIES SEED
 
 Makes a disk whose capabilities come of a seed, and prints them: for each
 primary block a line `cap` with its number, its capability to read and that to
-write. What the file held is lost; a missing file is made, for its owner alone.
+write. A disk that the file held is lost; where it has more than its primary
+blocks, that is asked at a terminal. A file that holds anything else is refused,
+unless --overwrite stands before the image. A missing file is made, for its
+owner alone.
 
   BLOCKS     how many blocks, 8 to 1048576
   SECTORS    how many sectors of 512 bytes a block has: 1, 2, 4 or 8
@@ -130,8 +143,10 @@ that file.
 
 example
 
+  umask 077
   head -c 32 /dev/urandom | od -An -v -tx1 | tr -d ' \\n' > seed
-  tsd disk.img format 64 1 256 2 @seed
+  tsd pair.img format 64 1 256 2 @seed > caps
+  cat caps
 ";
 
 /// The topic `run`.
@@ -146,9 +161,11 @@ input. A reply is sent when the disk holds what it tells.
 
 The lines are in `tsd help requests` and `tsd help replies`.
 
+The example goes on with the disk and readcap of `tsd help fresh`.
+
 example
 
-  printf 'open 1\\nread 1 0 %032d\\n' 1 | tsd disk.img run near
+  printf 'open 1\\nread 1 0 %s\\n' $(cat readcap) | tsd disk.img run near
 ";
 
 /// The topic `serve`.
@@ -167,6 +184,28 @@ The bodies are in docs/FORMAT.md.
 example
 
   printf '\\001\\000\\007' | tsd disk.img serve near | od -An -tu1
+";
+
+/// The topic `group`.
+pub const GROUP: &str = "tsd IMAGE group PLACE
+
+Answers frames, as `serve` does, with group commit: the requests that lie there
+together are committed as one batch, and then their replies are sent. Many
+clients, or a program that sends ahead, wait for two syncs together in place of
+two each. Nothing waits for a clock: a request that comes alone is answered at
+once.
+
+A reply is sent when the disk holds what it tells. After a crash the disk is the
+one after some of the requests, in order, among them each whose reply was sent;
+it may be a whole group further than the last reply, where `serve` is one
+request further at most. It takes one image in a file or a device: no mirror,
+and not `-`.
+
+  PLACE  which free block is taken first, as for `serve`
+
+example
+
+  printf '\\001\\000\\007' | tsd disk.img group near | od -An -tu1
 ";
 
 /// The topic `shell`.
@@ -215,10 +254,12 @@ answered by one: `ok`, `data DATA`, `names NAME ..`, `free N`, or `no` and
 Other users see the words of a command line. @FILE stands for the first word in
 that file.
 
+The example goes on with the disk and writecap of `tsd help fresh`.
+
 example
 
   printf 'mkfs\\nput /a 6869\\nls /\\ncat /a\\n' \\
-    | tsd disk.img shell inode 0 $(printf %032d 2) near
+    | tsd disk.img shell inode 0 @writecap near
 ";
 
 /// The topic `copyfs`.
@@ -257,10 +298,12 @@ that file.
 
 example
 
-  tsd disk.img format 64 1 256 2 $(printf %064d 0) | tee caps
+  umask 077
+  head -c 32 /dev/urandom | od -An -v -tx1 | tr -d ' \\n' > seed
+  tsd trees.img format 64 1 256 2 @seed > caps
   awk '{ print $4 > \"write\" $2 }' caps
-  printf 'mkfs\\nput /a 6869\\n' | tsd disk.img shell inode 0 @write0 near
-  tsd disk.img copyfs inode 0 @write0 chain 1 @write1 near
+  printf 'mkfs\\nput /a 6869\\n' | tsd trees.img shell inode 0 @write0 near
+  tsd trees.img copyfs inode 0 @write0 chain 1 @write1 near
 ";
 
 /// The topic `check`.
@@ -268,11 +311,37 @@ pub const CHECK: &str = "tsd IMAGE check
 
 Opens the disk and prints `clean LIVE FREE POINTERS`: how many blocks are live
 and how many free, and how many pointers are held. Where the image stands for no
-disk, it prints the first thing that is wrong with it, and the status is 3.
+disk, it prints the first thing that is wrong with it, and the status is 3. An
+image that can't be written is opened to be read alone, as by `audit` and
+`verify`: where it needs a recovery, that is told, and the status is 4.
 
 example
 
   tsd disk.img check
+";
+
+/// The topic `info`.
+pub const INFO: &str = "tsd IMAGE info
+
+Tells what the image says of itself, a name and a value in each line:
+
+  version    1 keeps capabilities, 2 digests of them
+  sectors    how many sectors of 512 bytes a block has
+  blocks     how many blocks
+  primaries  how many of them are primary
+  slots      for how many pointers there is room
+  live       how many blocks are live
+  free       how many are free
+  pointers   how many pointers are held
+  size       how many bytes a whole image has
+
+The image is tested as by `check`, and opened to be read alone: where it needs a
+recovery, that is told, and the status is 4. `tsd IMAGE check` makes one. Over
+`mirror` both images are opened to be written.
+
+example
+
+  tsd disk.img info
 ";
 
 /// The topic `load`.
@@ -291,8 +360,10 @@ the end.
 
 example
 
-  tsd disk.img format 64 1 256 2 $(printf %064d 0)
-  tsd disk.img load $(printf %064d 0) 2000 zone
+  umask 077
+  head -c 32 /dev/urandom | od -An -v -tx1 | tr -d ' \\n' > seed
+  tsd load.img format 64 1 256 2 @seed > caps
+  tsd load.img load @seed 2000 zone
 ";
 
 /// The topic `upgrade`.
@@ -320,6 +391,7 @@ path leads with one less. A primary block has depth 0 and, in place of A, `-`.
 example
 
   tsd disk.img audit > certificate
+  cp disk.img copy.img
   tsd copy.img verify < certificate
 ";
 
@@ -342,37 +414,50 @@ against the pointers of the disk. Where a line is refused, the rest is read too.
 
 example
 
+  cp disk.img copy.img
   tsd disk.img audit | tsd copy.img verify
 ";
 
 /// The topic `mirror`.
 pub const MIRROR: &str = "tsd mirror IMAGE IMAGE COMMAND
 
-Does what COMMAND says on two images as one disk. It first copies the first
-image to the second: it reads both, writes what differs, and syncs. Then it
-writes both, reads the first, and goes on with the other one where a call on one
-of them fails. That is told at once, with the image's path and the system's
-words.
+Does what COMMAND says on two images as one disk. It first tests the first image
+as `check` does, by reads alone: where it stands for no disk the status is 3,
+and the second image isn't touched. Then it copies the first to the second: it
+reads both, writes what differs, and syncs; how many sectors that were is told.
+Then it writes both, reads the first, and goes on with the other one where a
+call on one of them fails. That is told at once, with the image's path and the
+system's words.
 
 A missing second image is made, for its owner alone; a missing first one by
-`fresh` and `format` alone. What the second image held is lost. Two paths of one
-file, or of one device, are refused before anything is written. A block device
-may not be smaller than the other image, since the copying goes over all sectors
-of the larger one: as the first it is a device fault, as the second it is lost.
+`fresh` and `format` alone. A disk that the second image held is lost; where it
+holds anything else it is refused, unless --overwrite stands before `mirror`.
+Two paths of one file, or of one device, are refused before anything is written.
+A block device may not be smaller than the other image, since the copying goes
+over all sectors of the larger one: as the first it is a device fault, as the
+second it is lost.
 
 The status is 11 where all was done and one image failed, and its line says
 which: `tsd: side lost, first` or `tsd: side lost, second`. The other image has
 all that was answered. To have two again, replace what failed, and give the good
 image first in the next run: it is copied to the other one.
 
+Before an image goes on alone it is marked, by a small file beside it of its
+name and `.went-on-alone`; for a device, and where that can't be made, in
+/var/lib/tsd, or the folder that TSD_STATE names. As the second image, beside a
+first one without a mark, it is refused with status 4, and the message says
+which to give first. As the first it is copied to the other one, and then its
+mark is taken away. Where the mark can't be made nothing more is answered.
+
 Where both fail, the first one in the copying too, the status is 4. A command
-over one of the images alone leaves the other as it was: give the one that was
-written last first.
+over one of the images alone leaves the other as it was, and makes no mark: give
+the one that was written last first.
+
+The example goes on with the disk of `tsd help fresh`.
 
 example
 
-  tsd one.img fresh 8 1 $(printf %032d 1) $(printf %032d 2) near </dev/null
-  printf 'free\\n' | tsd mirror one.img two.img run near
+  printf 'free\\n' | tsd mirror disk.img second.img run near
 ";
 
 /// The topic `requests`.

@@ -8,8 +8,14 @@
 //! the script `tests/edge`, which runs the built program.
 #![tactic(auto)]
 
+mod asking;
+mod ended;
+mod grouped;
 mod help;
+mod line;
+mod opening;
 mod run;
+mod testing;
 #[cfg(test)]
 mod tests;
 mod usage;
@@ -20,11 +26,12 @@ mod words;
 mod words_tests;
 
 use file_stations::{InputSource, StandIns, Trouble};
+use opening::tells_into_image;
 use run::{run, tell};
 use std::io::{self, Stderr, Write};
 use std::process::ExitCode;
 use tsd_serve::{MirrorStatus, Status};
-use words::arguments;
+use words::{NoWords, arguments, tell_not_text};
 
 fn main(rt: HostRuntime) -> ExitCode {
     let mut errors = rt.stderr();
@@ -45,14 +52,20 @@ fn main(rt: HostRuntime) -> ExitCode {
 fn answer(rt: &HostRuntime, errors: &mut Stderr) -> MirrorStatus {
     let words = match arguments(rt) {
         Ok(words) => words,
-        Err(status) => {
-            let status = MirrorStatus::Ended(status);
+        Err(why) => {
+            let status = MirrorStatus::Ended(why.status());
             tell(errors, &status);
+            if why == NoWords::NotText {
+                let _told = tell_not_text(rt, errors);
+            }
             return status;
         }
     };
     let mut input = InputSource::new(rt.stdin());
     let mut output = io::writer(rt);
+    if tells_into_image(rt, words.as_slice()) {
+        return run(rt, words, &mut input, &mut output, &mut io::sink());
+    }
     let status = run(rt, words, &mut input, &mut output, errors);
     if let Some(trouble) = input.trouble() {
         tell_stream(errors, "input", &trouble);

@@ -4,12 +4,18 @@ ghost use Rattle.std.specs.Prelude.{◌≡◌, ◌≢◌, ◌<◌, ◌+◌, ◌*
 ghost use Rattle.tsd_model.specs.Rank.{rank_of, zones_after};
 ghost use Rattle.tsd_model.specs.declared.requests.PlaceKind.TheVariants.{Low, Near, Spread};
 
+use crate::asking::is_kept;
+use crate::ended::{Cause, Ended, tell_cause};
+use crate::grouped::{obeyed, words_of_serve};
 use crate::help::{HELP, VERSION, text_of};
+use crate::line::{Line, Target};
+use crate::opening::{copied, cut_off, look, mirrored, opening_of};
+use crate::testing::flaw_of;
 use crate::usage::Misread;
-use crate::words::{WordFault, meant, opening_of};
+use crate::words::{WordFault, meant};
 use file_stations::{
-    FileSides, FileStation, ImageFile, Kind, NamedImage, Opening, Progress, Trouble, are_one,
-    tell_image,
+    Content, FileSides, FileStation, ImageFile, IntoFile, Mark, Named, NamedImage, Opening,
+    Progress, Shown, Trouble, are_one, content_of,
 };
 use image_device::{MemStation, Source};
 use place_policy::{PlaceBook, Placement, ZONE_TURNS, low_rank, near_rank, spread_rank, zone_rank};
@@ -18,13 +24,7 @@ use std::alloc::{AllocError, Global};
 use std::io::{self, Write};
 use std::marker::Brand;
 use tsd_model::PlaceKind;
-use tsd_serve::{MirrorStatus, Status, mirror_status_line, tsd, tsd_mirror};
-
-/// The first word of a disk in memory.
-const MEMORY: &str = "-";
-
-/// The first word before two images that are one disk.
-const MIRROR: &str = "mirror";
+use tsd_serve::{Command, MirrorStatus, Status, command, mirror_status_line, tsd, tsd_mirror};
 
 /// Does what the words say, and ends with a status. A status that isn't Done is told in a line of errors, and a second
 /// line says why, where the system or a word does.
@@ -36,8 +36,8 @@ pub fn run<S: Source, O: Write, E: Write>(
     errors: &mut E,
 ) -> MirrorStatus {
     let ended = match first_of(&words) {
-        "--help" => Ended::of_text(put_out(output, HELP.as_bytes())),
-        "--version" => Ended::of_text(put_out(output, VERSION.as_bytes())),
+        "--help" | "-h" => Ended::of_text(put_out(output, HELP.as_bytes())),
+        "--version" | "-V" => Ended::of_text(put_out(output, VERSION.as_bytes())),
         "help" => help(words, output),
         _ => match serve(rt, words, input, output, errors) {
             Ok(ended) => ended,
@@ -49,141 +49,12 @@ pub fn run<S: Source, O: Write, E: Write>(
     ended.status
 }
 
-/// How a run ended.
-#[derive(Drop)]
-struct Ended {
-    status: MirrorStatus,
-    cause: Cause,
-}
-
-/// What is told of how a run ended, besides its status.
-#[derive(Drop)]
-enum Cause {
-    /// Nothing.
-    Untold,
-
-    /// A call on the image's file failed. Where a write or a sync did, what the image is kept in.
-    Image {
-        path: String,
-        trouble: Trouble,
-        unsure: Option<Kind>,
-    },
-
-    /// Sending failed.
-    Output(Trouble),
-
-    /// A word stands for none.
-    Word(WordFault),
-
-    /// The words aren't understood.
-    Misread(Misread),
-
-    /// These two paths name one file.
-    OneFile(String, String),
-}
-
-impl Ended {
-    /// With a status alone.
-    fn alone(status: Status) -> Ended
-        ensures { result.status ≡ MirrorStatus.Ended status }
-    {
-        Ended {
-            status: MirrorStatus::Ended(status),
-            cause: Cause::Untold,
-        }
-    }
-
-    /// With words that aren't understood.
-    fn misread(words: Misread) -> Ended
-        ensures { result.status ≡ MirrorStatus.Ended Status.Usage }
-    {
-        Ended {
-            status: MirrorStatus::Ended(Status::Usage),
-            cause: Cause::Misread(words),
-        }
-    }
-
-    /// After a text that was put out, or wasn't.
-    fn of_text(put: Result<(), Trouble>) -> Ended
-        ensures done { IsOk put → result.status ≡ MirrorStatus.Ended Status.Done }
-        ensures fault { IsErr put → result.status ≡ MirrorStatus.Ended Status.PutFault }
-    {
-        match put {
-            Ok(()) => Ended::alone(Status::Done),
-            Err(trouble) => Ended {
-                status: MirrorStatus::Ended(Status::PutFault),
-                cause: Cause::Output(trouble),
-            },
-        }
-    }
-}
-
-/// Writes what is told besides the status.
-fn tell_cause<E: Write>(errors: &mut E, cause: &Cause) {
-    let _told = match cause {
-        Cause::Untold => Ok(()),
-        Cause::Output(trouble) => writeln!(errors, "tsd: standard output: {trouble}"),
-        Cause::Word(fault) => writeln!(errors, "tsd: {}: {}", fault.word, fault.trouble),
-        Cause::Misread(words) => writeln!(errors, "{words}"),
-        Cause::OneFile(first, second) => {
-            writeln!(errors, "tsd: {first} and {second} are one file")
-        }
-        Cause::Image {
-            path,
-            trouble,
-            unsure,
-        } => tell_image(errors, path.as_str(), trouble, *unsure),
-    };
-}
-
 /// The first word, or none.
 fn first_of(words: &Vec<String>) -> &str {
     match words.first() {
         Some(word) => word.as_str(),
         None => "",
     }
-}
-
-/// What is served.
-#[derive(Drop)]
-enum Target {
-    /// A disk in memory.
-    Memory,
-
-    /// The image at a path.
-    File(String),
-
-    /// The images at two paths, as one disk.
-    Sides(String, String),
-}
-
-/// What is served, by the words before a command. Where there are none, neither is there a command.
-fn target_of(alloc: Global, images: Vec<String>) -> Result<Target, AllocError> {
-    let mut images = images.into_iter();
-    let first = match images.next() {
-        Some(word) => word,
-        None => String::new(alloc),
-    };
-    Ok(match (images.next(), images.next()) {
-        (Some(first), Some(second)) => Target::Sides(first, second),
-        _ if first.as_str() == MEMORY => Target::Memory,
-        _ => Target::File(first),
-    })
-}
-
-/// The words before a command, one or behind `mirror` two more, and those of the command.
-fn parted(alloc: Global, words: Vec<String>) -> Result<(Vec<String>, Vec<String>), AllocError> {
-    let before = if first_of(&words) == MIRROR { 3 } else { 1 };
-    let mut images = Vec::new(alloc);
-    let mut command = Vec::new(alloc);
-    for word in words {
-        if images.len() < before {
-            images.push(word)?;
-        } else {
-            command.push(word)?;
-        }
-    }
-    Ok((images, command))
 }
 
 /// Puts out the text of the topic behind `help`, or without one that of `--help`.
@@ -199,6 +70,22 @@ fn help<O: Write>(words: Vec<String>, output: &mut O) -> Ended {
     }
 }
 
+/// How a run is asked to serve what it serves.
+#[derive(Clone, Copy)]
+struct Asked<'a> {
+    /// The words of the command, each as it is meant.
+    command: &'a Vec<String>,
+
+    /// Whether they are those of `serve`, in place of `group`: requests are served in groups.
+    is_grouped: bool,
+
+    /// Whether what is no disk may be overwritten.
+    overwrites: bool,
+
+    /// In which order free blocks are taken.
+    book: &'a PlaceBook,
+}
+
 /// Serves the image that the first word names, or the two behind `mirror`, as those behind it say.
 fn serve<S: Source, O: Write, E: Write>(
     rt: &HostRuntime,
@@ -208,9 +95,8 @@ fn serve<S: Source, O: Write, E: Write>(
     errors: &mut E,
 ) -> Result<Ended, AllocError> {
     let is_nothing = words.is_empty();
-    let (images, given) = parted(rt.alloc(), words)?;
-    let target = target_of(rt.alloc(), images)?;
-    let meant = match all_meant(rt, &given)? {
+    let line = Line::of(rt.alloc(), words)?;
+    let meant = match all_meant(rt, &line.command)? {
         Ok(meant) => meant,
         Err(fault) => {
             return Ok(Ended {
@@ -219,12 +105,42 @@ fn serve<S: Source, O: Write, E: Write>(
             });
         }
     };
-    let ended = with_placements(rt, target, &meant, input, output, errors)?;
+    let Line {
+        overwrites,
+        target,
+        command: given,
+    } = line;
+    let is_mirror = matches!(target, Target::Sides(..) | Target::NoSides);
+    let ended = match words_of_serve(rt.alloc(), &meant)? {
+        Some(_) if !matches!(target, Target::File(..)) => Ended::alone(Status::Usage),
+        Some(words) => with_placements(
+            rt,
+            target,
+            (overwrites, true),
+            &words,
+            input,
+            output,
+            errors,
+        )?,
+        None => with_placements(
+            rt,
+            target,
+            (overwrites, false),
+            &meant,
+            input,
+            output,
+            errors,
+        )?,
+    };
     let is_told = matches!(ended.cause, Cause::OneFile(..));
     Ok(match ended.status {
         MirrorStatus::Ended(Status::Usage) if is_told => ended,
         MirrorStatus::Ended(Status::Usage) if is_nothing => Ended::misread(Misread::Nothing),
-        MirrorStatus::Ended(Status::Usage) => Ended::misread(Misread::Command { given, meant }),
+        MirrorStatus::Ended(Status::Usage) => Ended::misread(Misread::Command {
+            given,
+            meant,
+            is_mirror,
+        }),
         _ => ended,
     })
 }
@@ -245,10 +161,12 @@ fn all_meant(
     Ok(Ok(found))
 }
 
-/// Makes the placements and serves.
+/// Makes the placements and serves. `how` says whether what is no disk may be overwritten, and whether requests are
+/// served in groups.
 fn with_placements<S: Source, O: Write, E: Write>(
     rt: &HostRuntime,
     target: Target,
+    how: (bool, bool),
     command: &Vec<String>,
     input: &mut S,
     output: &mut O,
@@ -286,32 +204,67 @@ fn with_placements<S: Source, O: Write, E: Write>(
         Placement::new(PlaceKind::Spread, spread),
         Placement::new(PlaceKind::Zone, zone),
     );
+    tell_equal(errors, command);
+    let (overwrites, is_grouped) = how;
+    let asked = Asked {
+        command,
+        is_grouped,
+        overwrites,
+        book: &book,
+    };
     Ok(match target {
         Target::Memory => serve_memory(alloc, command, &book, input, output),
-        Target::File(path) => serve_file(rt, path, command, &book, input, output, errors),
+        Target::File(path) => serve_file(rt, path, asked, input, output, errors),
         Target::Sides(first, second) => {
-            serve_sides(rt, (first, second), command, &book, input, output, errors)
+            serve_sides(rt, (first, second), asked, input, output, errors)
         }
+        Target::NoSides => Ended::alone(Status::Usage),
     })
+}
+
+/// Why the image at a path isn't opened so, or nothing where it may be.
+fn refusal<S: Source, E: Write>(
+    rt: &HostRuntime,
+    path: &str,
+    opening: Opening,
+    asked: Asked<'_>,
+    input: &mut S,
+    errors: &mut E,
+) -> Option<Trouble> {
+    let content = match look(rt, path, opening, asked.overwrites) {
+        Ok(content) => content,
+        Err(trouble) => return Some(trouble),
+    };
+    let is_lost = content == Content::Disk && matches!(opening, Opening::Made { .. });
+    if is_lost && !asked.overwrites && is_kept(rt, path, asked.book, input, errors) {
+        return Some(Trouble::Declined);
+    }
+    None
 }
 
 /// Serves an image in a file. Each reply is written to the output as soon as it is made.
 fn serve_file<S: Source, O: Write, E: Write>(
     rt: &HostRuntime,
     path: String,
-    command: &Vec<String>,
-    book: &PlaceBook,
+    asked: Asked<'_>,
     input: &mut S,
     output: &mut O,
     errors: &mut E,
 ) -> Ended {
-    let image = match opening_of(command) {
-        Some(opening) => ImageFile::open(rt, path.as_str(), opening),
+    let image = match opening_of(asked.command) {
+        Some(opening) => match refusal(rt, path.as_str(), opening, asked, input, errors) {
+            Some(trouble) => return Ended::refused(Cause::of_image(path, trouble)),
+            None => ImageFile::open(rt, path.as_str(), opening),
+        },
         None => Err(Trouble::NotOpen),
     };
+    if is_made(&image) {
+        forget_mark(rt, path.as_str());
+    }
     tell_readers(errors, path.as_str(), &image);
-    let mut station = FileStation::new(rt.alloc(), image, output, Progress::of(rt));
-    let status = tsd(rt.alloc(), command, input, &mut station, book);
+    let station = FileStation::new(rt.alloc(), image, output, Progress::of(rt));
+    let how = (asked.command, asked.is_grouped, asked.book);
+    let (mut station, status) = obeyed(rt.alloc(), how, input, station);
     station.wipe();
     let cause = match (station.trouble(), station.output_trouble()) {
         (Some(trouble), _) => Cause::Image {
@@ -320,11 +273,37 @@ fn serve_file<S: Source, O: Write, E: Write>(
             unsure: station.unsure(),
         },
         (None, Some(trouble)) => Cause::Output(trouble),
-        (None, None) => Cause::Untold,
+        (None, None) => cut_cause(rt, path, &status),
     };
     Ended {
         status: MirrorStatus::Ended(status),
         cause,
+    }
+}
+
+/// What is told of an image that stands for no world: whether its file was cut off.
+fn cut_cause(rt: &HostRuntime, path: String, status: &Status) -> Cause {
+    if !matches!(status, Status::NotImage(_)) {
+        return Cause::Untold;
+    }
+    match cut_off(rt, path.as_str()) {
+        Some((has, needs)) => Cause::CutOff { path, has, needs },
+        None => Cause::Untold,
+    }
+}
+
+/// Whether a disk is made in an image that was opened.
+fn is_made(image: &Result<ImageFile, Trouble>) -> bool {
+    match image {
+        Ok(file) => file.is_made(),
+        Err(_) => false,
+    }
+}
+
+/// Takes the mark of an image away in which a disk is made: what that went on with is lost.
+fn forget_mark(rt: &HostRuntime, path: &str) {
+    if let Ok(mark) = Mark::of(rt, path) {
+        let _gone = mark.take_away(rt);
     }
 }
 
@@ -333,31 +312,36 @@ fn serve_file<S: Source, O: Write, E: Write>(
 fn serve_sides<S: Source, O: Write, E: Write>(
     rt: &HostRuntime,
     paths: (String, String),
-    command: &Vec<String>,
-    book: &PlaceBook,
+    asked: Asked<'_>,
     input: &mut S,
     output: &mut O,
     errors: &mut E,
 ) -> Ended {
-    let (first, second) = paths;
-    if are_one(rt, first.as_str(), second.as_str()) {
+    if are_one(rt, paths.0.as_str(), paths.1.as_str()) {
+        let (first, second) = paths;
         return Ended {
             status: MirrorStatus::Ended(Status::Usage),
             cause: Cause::OneFile(first, second),
         };
     }
-    let alloc = rt.alloc();
-    let (image, copy) = open_sides(rt, first.as_str(), second.as_str(), command);
-    tell_readers(errors, first.as_str(), &image);
-    tell_readers(errors, second.as_str(), &copy);
-    let first = NamedImage { path: first, image };
-    let second = NamedImage {
-        path: second,
-        image: copy,
+    let paths = match tested(rt, paths, asked, output) {
+        Ok(paths) => paths,
+        Err(ended) => return ended,
     };
-    let progress = Progress::of(rt);
-    let mut sides = FileSides::new(alloc, first, second, output, progress, errors);
-    let (status, _) = tsd_mirror::<_, _, Brand>(alloc, command, input, &mut sides, book);
+    let (first, second) = match open_sides(rt, paths, asked, input, errors) {
+        Ok(opened) => opened,
+        Err(ended) => return ended,
+    };
+    tell_readers(errors, first.named.path.as_str(), &first.image);
+    tell_readers(errors, second.named.path.as_str(), &second.image);
+    let mut sides = FileSides::new(rt, first, second, output, Progress::of(rt), errors);
+    let (status, _) = tsd_mirror::<_, _, Brand>(
+        rt.alloc(),
+        asked.command,
+        input,
+        &mut sides,
+        asked.book,
+    );
     sides.wipe();
     let cause = match sides.output_trouble() {
         Some(trouble) => Cause::Output(trouble),
@@ -366,23 +350,116 @@ fn serve_sides<S: Source, O: Write, E: Write>(
     Ended { status, cause }
 }
 
-/// Opens two images as a command opens one: the second to hold a copy, once the first is open.
-fn open_sides(
+/// These two paths, where the first image stands for a world, or a command doesn't open one, or it can't be told: else the
+/// run ends before the second one is opened.
+fn tested<O: Write>(
     rt: &HostRuntime,
-    first: &str,
-    second: &str,
-    command: &Vec<String>,
-) -> (Result<ImageFile, Trouble>, Result<ImageFile, Trouble>) {
-    let Some(opening) = opening_of(command) else {
-        return (Err(Trouble::NotOpen), Err(Trouble::NotOpen));
+    paths: (String, String),
+    asked: Asked<'_>,
+    output: &mut O,
+) -> Result<(String, String), Ended> {
+    let is_kept = match opening_of(asked.command) {
+        Some(opening) => mirrored(opening) == Opening::Kept,
+        None => false,
     };
-    let copied = match opening {
-        Opening::Kept => Opening::Copied,
-        _ => opening,
+    let into = IntoFile::of(rt, paths.0.as_str());
+    if !is_kept || into.output || into.errors {
+        return Ok(paths);
+    }
+    let Ok(Some(flaw)) = flaw_of(rt, paths.0.as_str(), asked.book) else {
+        return Ok(paths);
     };
-    match ImageFile::open(rt, first, opening) {
-        Ok(file) => (Ok(file), ImageFile::open(rt, second, copied)),
-        Err(trouble) => (Err(trouble), Err(Trouble::NotOpen)),
+    let says = matches!(command(asked.command), Some(Command::Check | Command::Info));
+    if says {
+        if let Err(trouble) = put_out(output, flaw.line.as_slice()) {
+            return Err(Ended::of_text(Err(trouble)));
+        }
+    }
+    let (first, _) = paths;
+    let cause = cut_cause(rt, first, &flaw.status);
+    Err(Ended {
+        status: MirrorStatus::Ended(flaw.status),
+        cause,
+    })
+}
+
+/// Opens two images as a command asks for it: the second to hold a copy, once the first is open. Where one of them is
+/// refused nothing is made; a second one that can't be read is lost.
+fn open_sides<S: Source, E: Write>(
+    rt: &HostRuntime,
+    paths: (String, String),
+    asked: Asked<'_>,
+    input: &mut S,
+    errors: &mut E,
+) -> Result<(NamedImage, NamedImage), Ended> {
+    let (first, second) = paths;
+    let Some(opening) = opening_of(asked.command) else {
+        return Err(Ended::alone(Status::Usage));
+    };
+    let (opening, copied) = (mirrored(opening), copied(opening));
+    if let Some(trouble) = refusal(rt, first.as_str(), opening, asked, input, errors) {
+        return Err(Ended::refused(Cause::of_image(first, trouble)));
+    }
+    let unread = match refusal(rt, second.as_str(), copied, asked, input, errors) {
+        None => None,
+        Some(Trouble::System(error)) => Some(Trouble::System(error)),
+        Some(trouble) => return Err(Ended::refused(Cause::of_image(second, trouble))),
+    };
+    let (first, second) = in_order(rt, first, second, copied)?;
+    let image = ImageFile::open(rt, first.as_str(), opening);
+    let copy = match (&image, unread) {
+        (Ok(_), None) => ImageFile::open(rt, second.as_str(), copied),
+        (Ok(_), Some(trouble)) => Err(trouble),
+        (Err(_), _) => Err(Trouble::NotOpen),
+    };
+    Ok((named(rt, first, image)?, named(rt, second, copy)?))
+}
+
+/// These two paths, where the first image may be copied to the second one: it may not where that went on alone later.
+fn in_order(
+    rt: &HostRuntime,
+    first: String,
+    second: String,
+    copied: Opening,
+) -> Result<(String, String), Ended> {
+    if copied != Opening::Copied {
+        return Ok((first, second));
+    }
+    let mark = marked(rt, first.as_str())?;
+    let other = marked(rt, second.as_str())?;
+    let is_disk = matches!(content_of(rt, second.as_str(), None), Ok(Content::Disk));
+    if is_disk && other.is_later(&mark) {
+        let mark = other.into_place();
+        return Err(Ended::refused(Cause::WentOn {
+            first,
+            second,
+            mark,
+        }));
+    }
+    Ok((first, second))
+}
+
+/// An image with its mark.
+fn named(
+    rt: &HostRuntime,
+    path: String,
+    image: Result<ImageFile, Trouble>,
+) -> Result<NamedImage, Ended> {
+    let mark = marked(rt, path.as_str())?;
+    Ok(NamedImage {
+        named: Named { path, mark },
+        image,
+    })
+}
+
+/// The mark of the image at a path, or the place for it.
+fn marked(rt: &HostRuntime, path: &str) -> Result<Mark, Ended> {
+    match Mark::of(rt, path) {
+        Ok(mark) => Ok(mark),
+        Err(error) => Err(match String::from_str(rt.alloc(), path) {
+            Ok(path) => Ended::refused(Cause::of_image(path, Trouble::Mark(error))),
+            Err(_) => Ended::alone(Status::NoMemory),
+        }),
     }
 }
 
@@ -390,9 +467,22 @@ fn open_sides(
 fn tell_readers<E: Write>(errors: &mut E, path: &str, image: &Result<ImageFile, Trouble>) {
     if let Ok(file) = image {
         if let Some(readers) = file.readers() {
+            let path = Shown { name: path };
             let _told = writeln!(
                 errors,
                 "tsd: {path}: it holds capabilities, and {readers} may read it"
+            );
+        }
+    }
+}
+
+/// Tells where a disk is made whose primary block has one capability for both, so that who may read it may write it.
+fn tell_equal<E: Write>(errors: &mut E, words: &Vec<String>) {
+    if let Some(Command::Fresh(fresh)) = command(words) {
+        if fresh.caps.read == fresh.caps.write {
+            let _told = writeln!(
+                errors,
+                "tsd: READCAP and WRITECAP are one: who may read block 0 may write it too"
             );
         }
     }

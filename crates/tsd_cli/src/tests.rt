@@ -82,8 +82,8 @@ const RUNS: [(&str, &str, u64, Status, &str, &str); 13] = [
         NEVER,
         Status::Usage,
         "",
-        "tsd: usage\ntsd: behind IMAGE stands a command: fresh, format, run, serve, shell, copyfs, check, load, \
-            upgrade, audit or verify\n",
+        "tsd: usage\ntsd: behind IMAGE stands a command: fresh, format, run, serve, group, shell, copyfs, check, \
+            info, load, upgrade, audit or verify\n",
     ),
     (
         "- fresh 8",
@@ -107,8 +107,8 @@ const RUNS: [(&str, &str, u64, Status, &str, &str); 13] = [
         NEVER,
         Status::Usage,
         "",
-        "tsd: usage\ntsd: no command is called ran; there are fresh, format, run, serve, shell, \
-            copyfs, check, load, upgrade, audit and verify\n",
+        "tsd: usage\ntsd: no command is called ran; there are fresh, format, run, serve, group, shell, \
+            copyfs, check, info, load, upgrade, audit and verify\n",
     ),
     (
         "disk.img check near",

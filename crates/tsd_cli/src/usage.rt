@@ -35,6 +35,9 @@ pub enum Misread {
 
         /// The words that they stand for, one for each.
         meant: Vec<String>,
+
+        /// Whether `mirror` stands before the image.
+        is_mirror: bool,
     },
 }
 
@@ -43,8 +46,18 @@ impl fmt::Display for Misread {
         match self {
             Misread::Nothing => f.write_str(USAGE),
             Misread::Topic(words) => tell_topic(f, words.as_slice()),
-            Misread::Command { given, meant } => {
-                tell_command(f, given.as_slice(), meant.as_slice())
+            Misread::Command {
+                given,
+                meant,
+                is_mirror,
+            } => {
+                tell_command(f, given.as_slice(), meant.as_slice())?;
+                if *is_mirror {
+                    f.write_str(
+                        "; behind mirror stand two images, and an image of that name is ./mirror",
+                    )?;
+                }
+                Ok(())
             }
         }
     }
@@ -210,7 +223,7 @@ fn operands_of(command: &str) -> Option<&'static [Operand]> {
             Operand::Primaries,
             Operand::Seed,
         ]),
-        "run" | "serve" => Some(&[Operand::Placement]),
+        "run" | "serve" | "group" => Some(&[Operand::Placement]),
         "shell" => Some(&[
             Operand::Kind,
             Operand::Root,
@@ -227,7 +240,7 @@ fn operands_of(command: &str) -> Option<&'static [Operand]> {
             Operand::Placement,
         ]),
         "load" => Some(&[Operand::Seed, Operand::Count, Operand::Placement]),
-        "check" | "upgrade" | "audit" | "verify" => Some(&[]),
+        "check" | "info" | "upgrade" | "audit" | "verify" => Some(&[]),
         _ => None,
     }
 }
@@ -268,8 +281,8 @@ fn tell_command<W: fmt::Write>(
     let (Some((shown, given)), Some((name, meant))) = (given.split_first(), meant.split_first())
     else {
         return f.write_str(
-            "tsd: behind IMAGE stands a command: fresh, format, run, serve, shell, copyfs, check, load, upgrade, \
-             audit or verify",
+            "tsd: behind IMAGE stands a command: fresh, format, run, serve, group, shell, copyfs, check, info, \
+             load, upgrade, audit or verify",
         );
     };
     match operands_of(name.as_str()) {
@@ -281,7 +294,7 @@ fn tell_command<W: fmt::Write>(
                 Printable { word }
             )?;
             f.write_str(
-                "fresh, format, run, serve, shell, copyfs, check, load, upgrade, audit and verify",
+                "fresh, format, run, serve, group, shell, copyfs, check, info, load, upgrade, audit and verify",
             )
         }
         Some(operands) if operands.len() != meant.len() => {

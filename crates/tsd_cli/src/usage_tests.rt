@@ -16,7 +16,14 @@ fn told(rt: &HostRuntime, text: &str) -> Result<String, Fail> {
     if command(&meant).is_some() {
         return Ok(String::new(alloc));
     }
-    Ok(format!(in alloc; "{}", Misread::Command { given, meant })?)
+    Ok(format!(in alloc;
+        "{}",
+        Misread::Command {
+            given,
+            meant,
+            is_mirror: false
+        }
+    )?)
 }
 
 /// A capability.

@@ -1,19 +1,13 @@
 //! The words of the command line, and those that stand in a file.
 
-ghost use Rattle.std.specs.Prelude.{◌≡◌, ◌*◌};
-ghost use Rattle.tsd_model.specs.Geometry.{IsLawful};
-ghost use Rattle.image_layout.specs.Areas.{total};
-ghost use Rattle.file_stations.specs.declared.image_file.Opening.TheVariants as opening;
-
-use file_stations::Opening;
-use image_layout::Layout;
+use crate::line::MIRROR;
 use std::alloc::AllocError;
+use std::env::{Env, FillError};
 use std::fmt::{self, Formatter};
 use std::fs::File;
-use std::io::{self, Read};
+use std::io::{self, Read, Write};
 use std::{env, str};
-use tsd_model::Geometry;
-use tsd_serve::{Command, Status, command};
+use tsd_serve::Status;
 
 /// What a word of a command begins with where it names a file.
 pub const FILE_SIGN: u8 = b'@';
@@ -21,31 +15,76 @@ pub const FILE_SIGN: u8 = b'@';
 /// The most bytes of a file among which its first word is looked for.
 const LOOKED_AT: u64 = 4_096;
 
-/// The bytes of a sector.
-const SECTOR: u64 = 512;
+/// The most bytes of a word that isn't UTF-8 that are told.
+const TOLD_MAX: usize = 4_096;
+
+/// The words of the command line can't be read.
+#[derive(Clone, Copy, Debug, PartialEq, Eq)]
+pub enum NoWords {
+    /// One of them isn't UTF-8.
+    NotText,
+
+    /// There is no memory for them.
+    NoMemory,
+}
+
+impl NoWords {
+    /// How a run ends with them.
+    pub fn status(self) -> Status {
+        match self {
+            NoWords::NotText => Status::Usage,
+            NoWords::NoMemory => Status::NoMemory,
+        }
+    }
+}
 
 /// The words of the command line, without the program's name.
-pub fn arguments(rt: &HostRuntime) -> Result<Vec<String>, Status> {
+pub fn arguments(rt: &HostRuntime) -> Result<Vec<String>, NoWords> {
     let alloc = rt.alloc();
     let args = match env::args(rt) {
         Ok(args) => args,
-        Err(error) => return Err(argument_fault(&error)),
+        Err(error) => return Err(no_words(&error)),
     };
     let mut words = Vec::new(alloc);
     for word in args.skip(1) {
         if words.push(word).is_err() {
-            return Err(Status::NoMemory);
+            return Err(NoWords::NoMemory);
         }
     }
     Ok(words)
 }
 
-/// A word that isn't UTF-8 makes the command line faulty.
-fn argument_fault(error: &io::Error) -> Status {
+/// Why there are none.
+fn no_words(error: &io::Error) -> NoWords {
     match error.kind() {
-        io::ErrorKind::OutOfMemory => Status::NoMemory,
-        _ => Status::Usage,
+        io::ErrorKind::OutOfMemory => NoWords::NoMemory,
+        _ => NoWords::NotText,
     }
+}
+
+/// Tells which word of the command line isn't UTF-8, and what it is where it stands in the place of an image.
+pub fn tell_not_text<E: Write>(rt: &HostRuntime, errors: &mut E) -> io::Result<()> {
+    let mut room = [0u8; TOLD_MAX];
+    let mut last_image = 1;
+    for place in 1..usize::MAX {
+        let word = match rt.arg(place, &mut room) {
+            Ok(count) => &room[..count],
+            Err(FillError::TooLong) => continue,
+            Err(FillError::NotPresent) => break,
+        };
+        if str::from_utf8(word).is_ok() {
+            if place == 1 && word == MIRROR.as_bytes() {
+                last_image = 3;
+            }
+            continue;
+        }
+        write!(errors, "tsd: word {place} isn't UTF-8, as a name has to be")?;
+        if place <= last_image {
+            write!(errors, "; it is {}", word.escape_ascii())?;
+        }
+        return writeln!(errors);
+    }
+    Ok(())
 }
 
 /// Why a file has no word to give.
@@ -101,7 +140,7 @@ impl WordFault {
     /// Such a word makes the command line faulty, unless there was no memory to read it.
     pub fn status(&self) -> Status {
         match &self.trouble {
-            WordTrouble::System(error) => argument_fault(error),
+            WordTrouble::System(error) => no_words(error).status(),
             _ => Status::Usage,
         }
     }
@@ -152,22 +191,4 @@ fn first_word(bytes: &[u8], is_all: bool) -> Result<&[u8], WordTrouble> {
         None if is_all => Err(WordTrouble::Empty),
         _ => Err(WordTrouble::TooLong),
     }
-}
-
-/// What a command opens an image for; none where the words are no command.
-pub fn opening_of(words: &Vec<String>) -> Option<Opening> {
-    match command(words)? {
-        Command::Fresh(fresh) => Some(making(&fresh.geometry)),
-        Command::Format(format) => Some(making(&format.geometry)),
-        _ => Some(Opening::Kept),
-    }
-}
-
-/// To make a disk of this size.
-fn making(geometry: &Geometry) -> Opening
-    requires { IsLawful geometry.now }
-    ensures { result ≡ opening.Made (total geometry.now * 512) }
-{
-    let bytes = u64::from(Layout::of(geometry).total()) * SECTOR;
-    Opening::Made { bytes }
 }

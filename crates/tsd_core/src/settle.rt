@@ -1,11 +1,12 @@
 //! What is left to be done between requests.
 
-ghost use Rattle.std.specs.Prelude.{◌≡◌, [], length, ◌↔◌, ◌+◌, ◌-◌, ◌<◌, ◌≤◌, true, OnOk, OnErr};
+ghost use Rattle.std.specs.Prelude.{◌≡◌, [], length, ◌↔◌, ◌+◌, ◌-◌, ◌<◌, ◌≤◌, true, OnOk, OnErr, false};
 ghost use Rattle.std.specs.Prelude.{IfOk, IsTrue};
 ghost use Rattle.image_device.specs.Counts.{CountsFault};
 ghost use Rattle.image_device.specs.Runs.{LeavesPart};
 ghost use Rattle.image_world.specs.Behind.{behind};
 ghost use Rattle.image_world.specs.Debt.{debt, graph_in, owed};
+ghost use Rattle.image_world.specs.Fresh.{AreClosed};
 ghost use Rattle.tsd_model.specs.Doomed.{doomed};
 ghost use Rattle.volume_laws.specs.Data.{KeepsData};
 ghost use Rattle.volume_laws.specs.Rings.{HasBatches};
@@ -56,6 +57,63 @@ impl Core {
     {
         self.check();
         self.volume.settle_some(dev)
+    }
+
+    /// Makes one step of reclamation, if one is left; whether it did. The state stays. `Failed` comes only where the
+    /// device's count of faults rose; the core is spent then.
+    pub fn settle_one<D: Device>(&mut self, dev: &mut D) -> Result<bool, Failed>
+        requires ready { IsCoreReady self.old }
+        requires at { D.told → IsCoreAt self.old (D.view dev.old) }
+        ensures ready { OnOk result (IsCoreReady self.new) }
+        ensures at { D.told → OnOk result (IsCoreAt self.new (D.view dev.new)) }
+        ensures state { D.told → OnOk result (state_on self.new (D.view dev.new).reads ≡ state_on self.old
+            (D.view dev.old).reads) }
+        ensures lowered { IfOk result (λ some. some ≡ true → owed self.new.volume.tables < owed
+            self.old.volume.tables) }
+        ensures none { IfOk result (λ some. some ≡ false → owed self.new.volume.tables ≡ 0) }
+        ensures size { SameSize self.old self.new }
+        ensures spent { OnErr result (self.new.volume.is_spent ≡ true) }
+        ensures sent { D.told → (D.view dev.new).sent ≡ (D.view dev.old).sent }
+        ensures behind { D.told → LeavesPart (behind self.old.volume.tables.geometry) (D.view dev.old)
+            (D.view dev.new) }
+        ensures any_moment { D.told → LeavesWorld (D.view dev.old) (D.view dev.new) }
+        ensures works { Works (D.view dev.old) (D.view dev.new) }
+        ensures faults { CountsFault result (D.view dev.old).faults (D.view dev.new).faults }
+    {
+        self.check();
+        self.volume.settle_one(dev)
+    }
+
+    /// Puts all records of the journal in place and closes its gates. The state stays, and what is left to be
+    /// reclaimed. `Failed` comes only where the device's count of faults rose; the core is spent then.
+    pub fn empty_ring<D: Device>(&mut self, dev: &mut D) -> Result<(), Failed>
+        requires ready { IsCoreReady self.old }
+        requires at { D.told → IsCoreAt self.old (D.view dev.old) }
+        ensures ready { OnOk result (IsCoreReady self.new) }
+        ensures at { D.told → OnOk result (IsCoreAt self.new (D.view dev.new)) }
+        ensures closed { D.told → OnOk result (AreClosed (D.view dev.new).reads) }
+        ensures state { D.told → OnOk result (state_on self.new (D.view dev.new).reads ≡ state_on self.old
+            (D.view dev.old).reads) }
+        ensures owes { OnOk result (owed self.new.volume.tables ≡ owed self.old.volume.tables) }
+        ensures size { SameSize self.old self.new }
+        ensures spent { OnErr result (self.new.volume.is_spent ≡ true) }
+        ensures sent { D.told → (D.view dev.new).sent ≡ (D.view dev.old).sent }
+        ensures behind { D.told → LeavesPart (behind self.old.volume.tables.geometry) (D.view dev.old)
+            (D.view dev.new) }
+        ensures any_moment { D.told → LeavesWorld (D.view dev.old) (D.view dev.new) }
+        ensures works { Works (D.view dev.old) (D.view dev.new) }
+        ensures faults { CountsFault result (D.view dev.old).faults (D.view dev.new).faults }
+    {
+        self.check();
+        self.volume.empty_ring(dev)
+    }
+
+    /// Whether a step of reclamation is left.
+    pub fn is_owed(&self) -> bool
+        requires { IsCoreReady self.now }
+        ensures { IsTrue result ↔ (0 < owed self.now.volume.tables) }
+    {
+        self.volume.is_owed()
     }
 
     /// Makes all steps of reclamation that are left, and puts all records of the journal in place. The state stays.

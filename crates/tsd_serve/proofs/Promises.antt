@@ -32,7 +32,7 @@ are_of : (r : Status) (p : Spelling Request) (bytes : List ℕ) (ended : Type 0)
 are_of status.Done p bytes ended asked by = inr (inr by.3)
 are_of status.Truncated p bytes ended asked by = inr (inr by.3)
 are_of status.SourceFault p bytes ended asked by = inr (inl (by.1 ∙ ap p.requests (sym (take_all (2 ^ 40) bytes by.0))))
-are_of status.TooLong p bytes ended asked by = inr (inl by.2)
+are_of status.TooLong p bytes ended asked by = inr (inl by.1)
 are_of status.DeviceFault p bytes ended asked by = elim by [ inl some ↦ inr (inl some) | inr all ↦ inr (inr all.2) ]
 are_of status.PutFault p bytes ended asked by = elim by [ inl some ↦ inr (inl some) | inr all ↦ inr (inr all.2) ]
 are_of status.Usage p bytes ended asked by = absurd by
@@ -90,6 +90,7 @@ headline (command.Fresh fresh) r source port none same sound did told =
 headline (command.Format words) r source port none same sound did told = tt
 headline (command.Shell shell) r source port none same sound did told = tt
 headline command.Check r source port none same sound did told = tt
+headline command.Info r source port none same sound did told = tt
 headline (command.Load load) r source port none same sound did told = tt
 headline command.Upgrade r source port none same sound did told = tt
 headline command.Audit r source port none same sound did told = tt

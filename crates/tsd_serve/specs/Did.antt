@@ -25,6 +25,8 @@ use Rattle.audit_runs.specs.Verify.{VerifyRan}
 use Rattle.image_copy.specs.Copied.{HasCopied, IsCopyEnding, IsCopyJudged, IsLeftOfCopy, IsNotBegun}
 use Rattle.image_runs.specs.Behind.{LeavesSameBehind, LeavesSectorsBehind}
 use Rattle.image_runs.specs.Check.{HasChecked, IsSaying}
+use Rattle.image_runs.specs.declared.check.Telling.{Telling}
+use Rattle.image_runs.specs.declared.check.Telling.TheVariants as telling
 use Rattle.image_runs.specs.Format.{HasFormatted, IsLeftOfFormat}
 use Rattle.image_runs.specs.Load.{HasLoaded, IsLeftOfLoad}
 use Rattle.image_runs.specs.Sending.{IsEnding}
@@ -75,13 +77,13 @@ pub record VerifiedBy (r : Status) (source : Taking) (port : Moments) : Type 0 w
 
 -- ---- commands that take no input
 
--- An image was judged: what the status says of it, and its line or a front of that was sent. It stands for the same
--- world, or for none as before.
-pub record Checked (r : Status) (port : Moments) : Type 0 where
+-- An image was judged: what the status says of it, and what is told of it or a front of that was sent. It stands for
+-- the same world, or for none as before.
+pub record Checked (t : Telling) (r : Status) (port : Moments) : Type 0 where
   pub ending : IsEnding r
-  pub said : port.tells → HasChecked r port.old.reads port.old.sent port.new.sent
+  pub said : port.tells → HasChecked t r port.old.reads port.old.sent port.new.sent
   pub any_moment : port.tells → IsFirm port.old
-      → LeavesOnly port.old port.new (λ x f. StandAlike port.old.reads x × IsSaying port.old.reads port.old.sent f)
+      → LeavesOnly port.old port.new (λ x f. StandAlike port.old.reads x × IsSaying t port.old.reads port.old.sent f)
   pub spared : SparesImage r port
 
 -- a disk was made, which opens no image and takes no memory
@@ -141,7 +143,8 @@ Did (Some (command.Run kind)) r source port = Opened r line_voice line_spelling 
 Did (Some (command.Serve kind)) r source port =
     HasNoCutter r source port ⊎ Opened r frame_voice frame_spelling kind source port
 Did (Some (command.Shell shell)) r source port = Mounted r shell source port
-Did (Some command.Check) r source port = source.untouched × Checked r port
+Did (Some command.Check) r source port = source.untouched × Checked telling.Clean r port
+Did (Some command.Info) r source port = source.untouched × Checked telling.Info r port
 Did (Some (command.Load load)) r source port = source.untouched × Loaded load r port
 Did (Some command.Upgrade) r source port = source.untouched × Upgraded r port
 Did (Some command.Audit) r source port = source.untouched × Audited r port

@@ -13,7 +13,9 @@ use audit_runs::{audit_image, verify_image};
 use fs_trees::ShellKind;
 use image_copy::copy_image;
 use image_device::{Port, Source};
-use image_runs::{check_image, format_image, load_image, serve_fresh, serve_image, upgrade_image};
+use image_runs::{
+    Telling, check_image, format_image, load_image, serve_fresh, serve_image, upgrade_image,
+};
 use image_shell::{serve_chain_image, serve_inode_image};
 use place_policy::PlaceBook;
 use request_frames::FrameCutter;
@@ -26,7 +28,7 @@ use tsd_words::{Command, Fresh, Shell, Status, command};
 /// Does what the words say over the image beside the port: `fresh BLOCKS SECTORS READCAP WRITECAP PLACE` formats it and
 /// answers the lines of the input until it ends, `run PLACE` opens it and answers lines, `serve PLACE` opens it and
 /// answers frames. `shell KIND ROOT CAP PLACE` opens it, mounts the tree of files under a block, and answers lines on
-/// that. `format BLOCKS SECTORS SLOTS PRIMARIES SEED` makes a disk, `check` tells what an image is, `load
+/// that. `format BLOCKS SECTORS SLOTS PRIMARIES SEED` makes a disk, `check` and `info` tell what an image is, `load
 /// SEED COUNT PLACE` carries out the requests of a seed, and `upgrade` has an image keep digests in place of
 /// capabilities. `audit` puts a certificate of which blocks are reached, and `verify` reads one and tells what it
 /// shows. `copyfs KIND ROOT CAP KIND ROOT CAP PLACE` copies the tree of files under one block to another block.
@@ -101,7 +103,8 @@ pub(crate) fn obey<S: Source, P: Port>(
         Command::Run(kind) => run_lines(alloc, kind, source, port, places),
         Command::Serve(kind) => run_frames(alloc, kind, source, port, places),
         Command::Shell(shell) => shell_lines(alloc, &shell, source, port, places),
-        Command::Check => check_image(alloc, port),
+        Command::Check => check_image(alloc, port, Telling::Clean),
+        Command::Info => check_image(alloc, port, Telling::Info),
         Command::Load(words) => load_image(alloc, &words, places.pick(words.kind), port),
         Command::Upgrade => upgrade_image(alloc, port),
         Command::Audit => audit_image(alloc, port),

@@ -117,13 +117,14 @@ copy_of layout root cap to_layout to_root to_cap placement = do
   kind ← kind_of placement
   Some (record { from = f; into = g; kind = kind })
 
--- check; upgrade; audit; verify
+-- check; info; upgrade; audit; verify
 unfoldable pub alone_of : List ℕ → Option Command
 alone_of name =
     cond (bytes_eq name (codes "check")) (Some command.Check)
+    (cond (bytes_eq name (codes "info")) (Some command.Info)
     (cond (bytes_eq name (codes "upgrade")) (Some command.Upgrade)
     (cond (bytes_eq name (codes "audit")) (Some command.Audit)
-    (cond (bytes_eq name (codes "verify")) (Some command.Verify) None)))
+    (cond (bytes_eq name (codes "verify")) (Some command.Verify) None))))
 
 -- run PLACE; serve PLACE
 unfoldable pub served_of : List ℕ → List ℕ → Option Command

@@ -108,6 +108,9 @@ pub enum Command {
     /// Opens an image, and tells how large its world is or what is wrong with it.
     Check,
 
+    /// Opens an image, and tells what it says of itself or what is wrong with it.
+    Info,
+
     /// Opens an image, and carries out the requests of a seed.
     Load(Load),
 

@@ -19,6 +19,6 @@ mod words;
 pub use caps::cap_lines;
 pub use commands::{Command, CopyFs, Format, Fresh, Load, Shell, TreeRoot};
 pub use image_text::image_line;
-pub use lines::{Summary, clean_line, load_line, upgrade_line};
+pub use lines::{Summary, clean_line, info_lines, load_line, upgrade_line};
 pub use status::{Status, status_line};
 pub use words::command;

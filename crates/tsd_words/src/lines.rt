@@ -1,14 +1,23 @@
 //! Lines of numbers.
 
 ghost use Rattle.std.specs.Prelude.{◌≡◌, ◌+◌, ◌≤◌, [], ◌∷◌, ◌++◌, length, codes, decimal};
-ghost use Rattle.tsd_words.specs.Lines.{clean_words, line_of, load_words, upgrade_line};
+ghost use Rattle.tsd_model.specs.Geometry.{IsLawful};
+ghost use Rattle.tsd_words.specs.Lines.{clean_words, info_lines, line_of, load_words, upgrade_line, value_line};
 
+use image_layout::Layout;
 use script_text::OutBuf;
 use script_text::parse::LINE_MAX;
 use script_text::printing::{put_number, put_word};
+use tsd_model::Geometry;
 
 /// The most bytes of a word and a number with the spaces before them.
 const COUNTED_ROOM: usize = 20;
+
+/// The most bytes of a line of a name and a value.
+const VALUE_ROOM: usize = 31;
+
+/// The bytes of a sector.
+const SECTOR_BYTES: u64 = 512;
 
 /// The version of an image that keeps digests.
 const DIGEST_VERSION: u32 = 2;
@@ -45,6 +54,48 @@ pub fn clean_line(live: u32, free: u32, pointers: u32) -> OutBuf
     put_number(&mut line, pointers);
     line.put(b"\n".as_slice());
     line
+}
+
+/// The lines of what an image says of itself: its version and its size, how many of its blocks are free, and how many
+/// pointers are held.
+pub fn info_lines(version: u32, size: &Geometry, free: u32, pointers: u32) -> OutBuf
+    requires lawful { IsLawful size.now }
+    requires some { free ≤ size.now.blocks }
+    ensures { result ≡ info_lines version size.now free pointers }
+{
+    let bytes = u64::from(Layout::of(size).total()) * SECTOR_BYTES;
+    let mut lines = OutBuf::new();
+    put_value(&mut lines, b"version".as_slice(), u64::from(version));
+    put_value(&mut lines, b"sectors".as_slice(), u64::from(size.sectors));
+    put_value(&mut lines, b"blocks".as_slice(), u64::from(size.blocks));
+    put_value(
+        &mut lines,
+        b"primaries".as_slice(),
+        u64::from(size.primaries),
+    );
+    put_value(&mut lines, b"slots".as_slice(), u64::from(size.slots));
+    put_value(
+        &mut lines,
+        b"live".as_slice(),
+        u64::from(size.blocks - free),
+    );
+    put_value(&mut lines, b"free".as_slice(), u64::from(free));
+    put_value(&mut lines, b"pointers".as_slice(), u64::from(pointers));
+    put_value(&mut lines, b"size".as_slice(), bytes);
+    lines
+}
+
+/// A name and its value as a line.
+fn put_value(into: &mut OutBuf, name: &[u8], value: u64)
+    requires short { length name.now ≤ 9 }
+    requires room { length into.old + VALUE_ROOM ≤ LINE_MAX }
+    ensures text { into.new ≡ into.old ++ value_line name.now value }
+    ensures room { length into.new ≤ length into.old + VALUE_ROOM }
+{
+    let mut digits = itoa::Buffer::new();
+    into.put(name);
+    put_word(into, digits.format(value).as_bytes());
+    into.put(b"\n".as_slice());
 }
 
 /// The line of an image that keeps digests.

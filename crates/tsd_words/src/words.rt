@@ -77,7 +77,7 @@ fn bytes(word: &String) -> &[u8]
     word.as_str().as_bytes()
 }
 
-/// `check`, `upgrade`, `audit` and `verify`.
+/// `check`, `info`, `upgrade`, `audit` and `verify`.
 #[tactic(auto, unfolding(crate::specs::Words::alone_of))]
 fn alone(name: &[u8]) -> Option<Command>
     ensures value { result ≡ alone_of name.now }
@@ -85,6 +85,8 @@ fn alone(name: &[u8]) -> Option<Command>
 {
     if name == b"check".as_slice() {
         Some(Command::Check)
+    } else if name == b"info".as_slice() {
+        Some(Command::Info)
     } else if name == b"upgrade".as_slice() {
         Some(Command::Upgrade)
     } else if name == b"audit".as_slice() {

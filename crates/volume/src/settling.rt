@@ -56,6 +56,25 @@ impl Volume {
         Ok(self.is_owed())
     }
 
+    /// Makes one step of reclamation, if one is left; whether it did. It commits one batch of at most 33 homes. `Failed`
+    /// comes only where the device's count of faults rose; the volume is then spent.
+    pub fn settle_one<D: Device>(&mut self, dev: &mut D) -> Result<bool, Failed>
+        requires ready { IsVolumeReady self.old }
+        requires unspent { self.old.is_spent ≡ false }
+        requires at { D.told → IsVolumeAt self.old (D.view dev.old) }
+        ensures operation { IsOperation D.told [] (λ w. w) self.old self.new (D.view dev.old) (D.view dev.new) result }
+        ensures cost { IsWithin D.told (owed self.old.tables) 0 (due self.old) self.old self.new (D.view dev.old)
+            (D.view dev.new) result }
+        ensures version { self.new.tables.version ≡ self.old.tables.version }
+        ensures told { OnOk result (told_by self.new ≡ told_by self.old) }
+        ensures ring { OnOk result (HasBatch 33 self.old.ring self.new.ring) }
+        ensures lowered { IfOk result (λ some. some ≡ true → owed self.new.tables < owed self.old.tables) }
+        ensures none { IfOk result (λ some. some ≡ false → owed self.new.tables ≡ 0) }
+        ensures ready { OnOk result (IsVolumeReady self.new) }
+    {
+        self.settle_step(dev)
+    }
+
     /// Makes all steps of reclamation that are left. `Failed` comes only where the device's count of faults rose; the
     /// volume is then spent.
     pub fn settle_all<D: Device>(&mut self, dev: &mut D) -> Result<(), Failed>
@@ -178,8 +197,8 @@ impl Volume {
         find_step(&self.pointers, &self.counts, &self.live, &mut self.guesses)
     }
 
-    /// Whether a step is left.
-    fn is_owed(&self) -> bool
+    /// Whether a step of reclamation is left.
+    pub fn is_owed(&self) -> bool
         requires { IsVolumeReady self.now }
         ensures { IsTrue result ↔ (0 < owed self.now.tables) }
     {

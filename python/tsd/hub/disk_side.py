@@ -1,20 +1,20 @@
-"""The hub's side of the disk: its program, requests in, and each reply to whom it is for."""
+"""The hub's side of the disk: its program, requests in, replies out, in one order."""
 
 from __future__ import annotations
 
-import asyncio
+import contextlib
+import fcntl
+import os
+import subprocess
 import tempfile
-from collections import deque
-from typing import Callable, Deque, NamedTuple, Sequence
+from typing import List, NamedTuple
 
-from tsd.errors import NoReply
-from tsd.frames import frame
-from tsd.hub.bodies import bodies_of
+from tsd.hub.buffers import Buffer, Moved
 from tsd.programs import kill_session, words_of
-from tsd.replies import decode_reply
 
-Receiver = Callable[[bytes], None]
-SECONDS_TO_END = 60.0
+PIPE_BYTES = 1 << 20
+SECONDS_TO_TELL = 10.0
+F_SETPIPE_SZ = 1031
 
 
 class Ending(NamedTuple):
@@ -25,64 +25,76 @@ class Ending(NamedTuple):
 
 
 class DiskSide:
-    """A running program that serves frames. Its replies come in the order of the requests."""
+    """A running program that serves frames."""
 
-    def __init__(self, words: Sequence[str]) -> None:
-        """Of the words that start it; inside a running loop."""
-        self._words = words
+    def __init__(self, words: List[str]) -> None:
+        """Of the words that start it, in a session of its own: a Ctrl-C at the terminal is for the hub alone."""
         self._error = tempfile.TemporaryFile()
-        self._order: Deque[Receiver] = deque()
-        self._turn = asyncio.Lock()
-        self._process: asyncio.subprocess.Process
-
-    async def start(self) -> None:
-        """Starts it, in a session of its own: a Ctrl-C at the terminal is for the hub alone."""
-        self._process = await asyncio.create_subprocess_exec(
-            *self._words, stdin=asyncio.subprocess.PIPE, stdout=asyncio.subprocess.PIPE, stderr=self._error,
-            start_new_session=True)
+        self._process = subprocess.Popen(words, stdin=subprocess.PIPE, stdout=subprocess.PIPE, stderr=self._error,
+                                         start_new_session=True, bufsize=0)
+        assert self._process.stdin is not None and self._process.stdout is not None
+        self._stdin, self._stdout = self._process.stdin, self._process.stdout
+        self.input, self.output = self._stdin.fileno(), self._stdout.fileno()
+        for descriptor in (self.input, self.output):
+            os.set_blocking(descriptor, False)
+            with contextlib.suppress(OSError):
+                fcntl.fcntl(descriptor, F_SETPIPE_SZ, PIPE_BYTES)
+        self.takes_requests = True
+        self.waits_for_room = False
+        self.requests = Buffer()
+        self.replies = Buffer()
 
     @property
     def process(self) -> int:
         """The number of its process."""
         return self._process.pid
 
-    async def send(self, body: bytes, receiver: Receiver) -> None:
-        """Sends a request, when it is its turn and the disk takes more. The reply's body goes to the receiver; where
-        the disk has ended none comes."""
-        async with self._turn:
-            self._order.append(receiver)
-            assert self._process.stdin is not None
-            self._process.stdin.write(frame(body))
-            try:
-                await self._process.stdin.drain()
-            except ConnectionError:
-                pass
+    def send(self) -> bool:
+        """Sends as much as it takes at once; whether all. Where it takes no more it has ended, and its output says
+        so."""
+        if not self.takes_requests:
+            return True
+        moved = self.requests.write_to(self.input)
+        if moved == Moved.OVER:
+            self.requests.clear()
+        return moved != Moved.SOME
 
-    async def run(self) -> Ending:
-        """Gives out replies until the disk has ended, and tells how. What is no reply ends it too."""
-        assert self._process.stdout is not None
-        complaint = ""
-        try:
-            async for body in bodies_of(self._process.stdout):
-                decode_reply(body)
-                if not self._order:
-                    raise NoReply("a reply came to no request")
-                self._order.popleft()(body)
-        except NoReply as error:
-            complaint = str(error)
-            self._kill()
-        status = await self._process.wait()
-        return Ending(status, complaint or words_of(self._error))
+    def read(self, may_end: bool) -> bool:
+        """Reads what has come, with the end that may stand behind it; whether its output goes on."""
+        moved = Moved.SOME
+        while moved == Moved.SOME:
+            moved = self.replies.read_from(self.output, may_end)
+        return moved != Moved.OVER
 
-    async def stop(self, running: asyncio.Future[Ending]) -> Ending:
-        """Ends its input and waits for its end; one that doesn't end within a minute is killed."""
-        assert self._process.stdin is not None
-        self._process.stdin.close()
-        done, _ = await asyncio.wait({running}, timeout=SECONDS_TO_END)
-        if not done:
-            self._kill()
-        return await running
+    def end_requests(self) -> None:
+        """Ends its requests."""
+        if self.takes_requests:
+            self.takes_requests = False
+            self._stdin.close()
 
-    def _kill(self) -> None:
-        if self._process.returncode is None:
+    def kill(self) -> None:
+        """Kills it, with what it has started itself."""
+        if self._process.poll() is None:
             kill_session(self.process)
+
+    def ending(self, seconds: float) -> Ending:
+        """How it ended; it is killed where it hasn't when the time is over."""
+        try:
+            self._process.wait(max(0.0, seconds))
+        except subprocess.TimeoutExpired:
+            self.kill()
+        return Ending(self._process.wait(), words_of(self._error))
+
+
+def serving_command(program: List[str]) -> str:
+    """The command that serves frames: `group`, by which requests that come together share their syncs, where the
+    program has it, and else `serve`."""
+    null = subprocess.DEVNULL
+    process = subprocess.Popen(program + ["help", "group"], stdin=null, stdout=null, stderr=null,
+                               start_new_session=True)
+    try:
+        return "group" if process.wait(SECONDS_TO_TELL) == 0 else "serve"
+    except subprocess.TimeoutExpired:
+        kill_session(process.pid)
+        process.wait()
+        return "serve"

@@ -1,21 +1,20 @@
-"""Whole files over the shell's lines: they go and come in pieces."""
+"""Files over the shell's lines: asks, and the bytes of files as they come."""
 
 from __future__ import annotations
 
 import contextlib
-import os
-import secrets
-from itertools import chain
-from typing import BinaryIO, Callable, Generator, Iterator, List
+from typing import Callable, Dict, Generator, Iterator, List, Optional
 
 from tsd.errors import NoReply, TsdError
-from tsd.shell.lines import INODE, below, bringing_line, line_of, piece_length, split_path
+from tsd.shell.lines import bringing_line, line_of
 from tsd.shell.program import ShellProgram
-from tsd.shell.refusals import ShellRefused
+from tsd.shell.refusals import Limits, ShellRefused
 
 # Is called with how many bytes have gone or come; what it raises stops the transfer.
 Progress = Callable[[int], None]
 DATA = b"data "
+NONE = b"-"
+FILE, DIRECTORY = "file", "directory"
 
 
 class Stopped(TsdError):
@@ -30,83 +29,85 @@ def no_progress(count: int) -> None:
 
 
 class Files:
-    """The files of a disk. Paths are such as `disk_path` gives."""
+    """The files of a disk. Paths are such as `disk_path` gives. A refusal names them, and the limits of the disk."""
 
-    def __init__(self, program: ShellProgram, kind: str) -> None:
+    def __init__(self, program: ShellProgram, limits: Limits) -> None:
         self._program = program
-        self._kind = kind
+        self.limits = limits
+        self._sizes: Dict[str, int] = {}
+
+    @property
+    def kind(self) -> str:
+        """The file system."""
+        return self.limits.kind
 
     def free(self) -> int:
         """How many blocks are free."""
-        return int(self._program.expect(line_of("df"), "free")[0])
+        return int(self._expect(line_of("df"), "free")[0])
 
     def names(self, path: str) -> List[str]:
         """The names in a directory, in order."""
-        names = self._program.expect(line_of("ls", path), "names")
+        names = self._expect(line_of("ls", path), "names", path)
         return [] if names == ["-"] else names
 
     def do(self, name: str, *paths: str) -> None:
         """An ask that is answered `ok`: mkfs, mkdir, rm, cp."""
-        self._program.expect(line_of(name, *paths), "ok")
+        size = self._sizes.get(paths[0]) if name == "cp" else None
+        for path in paths[-1:] or tuple(self._sizes):
+            self._sizes.pop(path, None)
+        self._expect(line_of(name, *paths), "ok", *paths)
+        if size is not None:
+            self._sizes[paths[-1]] = size
 
-    def is_file(self, path: str) -> bool:
-        """Whether a file is there; a refusal where something else is, or the way isn't there. It adds no bytes."""
+    def bring(self, name: str, path: str, data: bytes) -> None:
+        """A `put` or an `append`."""
+        before = 0 if name == "put" else self._sizes.get(path)
+        self._sizes.pop(path, None)
+        self._expect(bringing_line(name, path, data), "ok", path)
+        if before is not None:
+            self._sizes[path] = before + len(data)
+
+    def look(self, path: str) -> Optional[str]:
+        """What is there: a file, a directory, or nothing; a refusal where the way isn't there. It adds no bytes to a
+        file, which changes nothing."""
         try:
-            self._bring("append", path, b"")
+            self._expect(bringing_line("append", path, b""), "ok", path)
         except ShellRefused as refused:
+            if refused.rule == "is-dir":
+                return DIRECTORY
             if refused.rule == "no-entry":
-                return False
+                return None
             raise
-        return True
+        return FILE
 
     def get(self, path: str, progress: Progress = no_progress) -> Generator[bytes, None, None]:
         """A file's bytes, as they come."""
+        count = 0
         with contextlib.closing(self._program.pieces(line_of("cat", path))) as pieces:
-            yield from bytes_of(pieces, progress)
+            try:
+                for piece in bytes_of(pieces, progress):
+                    count += len(piece)
+                    yield piece
+            except ShellRefused as refused:
+                raise self._told(refused, path) from None
+        self._sizes[path] = count
 
-    def put(self, source: BinaryIO, path: str, progress: Progress = no_progress) -> None:
-        """All bytes of a source to a file, in place of an old one.
+    def size(self, path: str, progress: Progress = no_progress) -> int:
+        """How many bytes a file has. No line tells it: the file is read where nothing here has read it before."""
+        if path not in self._sizes:
+            for _ in self.get(path, progress):
+                pass
+        return self._sizes[path]
 
-        What fits in one line is one change. A longer file that is new, or any over chains, is written at its path piece
-        by piece; over inodes one that replaces another is written beside it first, so that the old one stays until all
-        is there. What was written of a file that a refusal or a stop cuts off is taken away.
-        """
-        beside = below(split_path(path)[0], f"put-{secrets.token_hex(4)}")
-        length = min(piece_length(path), piece_length(beside))
-        first = source.read(length)
-        second = source.read(length) if len(first) == length else b""
-        if not second:
-            self._bring("put", path, first)
-            progress(len(first))
-        elif self._kind == INODE and self.is_file(path):
-            self._put_long(chain([first, second], pieces_of(source, length)), beside, progress)
-            self.do("rm", path)
-            self.do("cp", beside, path)
-            self.do("rm", beside)
-        else:
-            self._put_long(chain([first, second], pieces_of(source, length)), path, progress)
-
-    def _put_long(self, pieces: Iterator[bytes], path: str, progress: Progress) -> None:
-        first = next(pieces)
-        self._bring("put", path, first)
-        sent = len(first)
+    def _expect(self, line: bytes, first: str, *paths: str) -> List[str]:
         try:
-            progress(sent)
-            for piece in pieces:
-                self._bring("append", path, piece)
-                sent += len(piece)
-                progress(sent)
-        except (ShellRefused, Stopped, OSError):
-            self.do("rm", path)
-            raise
+            return self._program.expect(line, first)
+        except ShellRefused as refused:
+            raise self._told(refused, *paths) from None
 
-    def _bring(self, name: str, path: str, data: bytes) -> None:
-        self._program.expect(bringing_line(name, path, data), "ok")
-
-
-def pieces_of(source: BinaryIO, length: int) -> Iterator[bytes]:
-    """What is left of a source, in pieces of a length."""
-    return iter(lambda: source.read(length), b"")
+    def _told(self, refused: ShellRefused, *paths: str) -> ShellRefused:
+        refused.paths, refused.limits = paths, self.limits
+        return refused
 
 
 def bytes_of(pieces: Iterator[bytes], progress: Progress) -> Iterator[bytes]:
@@ -120,14 +121,14 @@ def bytes_of(pieces: Iterator[bytes], progress: Progress) -> Iterator[bytes]:
             if not text.startswith(DATA):
                 raise NoReply("an answer to cat has no bytes")
             is_begun, text = True, text[len(DATA):]
-        if text == b"-":
+        if text == NONE:
             continue
         even = len(text) // 2 * 2
         data, text = decoded(text[:even]), text[even:]
         count += len(data)
         progress(count)
         yield data
-    if text and (text != b"-" or count):
+    if text and (text != NONE or count):
         raise NoReply("an answer to cat ends inside a byte")
 
 
@@ -137,19 +138,3 @@ def decoded(digits: bytes) -> bytes:
         return bytes.fromhex(digits.decode("ascii"))
     except ValueError:
         raise NoReply("an answer to cat has what is no digit") from None
-
-
-def save(pieces: Generator[bytes, None, None], local: str) -> None:
-    """Writes a file of this machine whole or not at all, in place of an old one."""
-    part = f"{local}.{os.getpid()}.part"
-    try:
-        first = next(pieces, b"")
-        with contextlib.closing(pieces), open(part, "xb") as file:
-            file.write(first)
-            for piece in pieces:
-                file.write(piece)
-        os.replace(part, local)
-    except BaseException:
-        with contextlib.suppress(FileNotFoundError):
-            os.unlink(part)
-        raise

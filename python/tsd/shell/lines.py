@@ -21,11 +21,23 @@ def disk_path(text: str) -> str:
     """A path as the disk spells it: a slash at its start may be left out, and one at its end is dropped."""
     names = text.strip("/").split("/") if text.strip("/") else []
     if len(names) > MOST_NAMES:
-        raise BadPath(f"{text}: a path has at most {MOST_NAMES} names")
+        raise BadPath(f"{text}: a path has at most {MOST_NAMES} names, not {len(names)}")
     for name in names:
         if not NAME.match(name) or name in NO_NAMES:
-            raise BadPath(f"{text}: a name has 1 to 28 letters, digits, dots, lines below and dashes")
+            raise BadPath(f"{text}: {name!r} is no name: it has 1 to 28 letters, digits, dots, lines below and dashes")
     return "/" + "/".join(names)
+
+
+def path_from(directory: str, text: str) -> str:
+    """The path of the disk that a text means in a directory: one that begins with a slash begins at the top; `.` is the
+    directory, and `..` the one above it."""
+    names = [] if text.startswith("/") else directory.strip("/").split("/")
+    for name in text.strip("/").split("/"):
+        if name == "..":
+            names = names[:-1]
+        elif name != "." and (name or text.strip("/")):
+            names.append(name)
+    return disk_path("/".join(names))
 
 
 def split_path(path: str) -> Tuple[str, str]:

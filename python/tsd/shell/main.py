@@ -11,20 +11,30 @@ import sys
 from pathlib import Path
 from typing import Iterator, List, Optional
 
+from tsd.arguments import seconds
 from tsd.capability import Capability
 from tsd.errors import LinkError, ProgramEnded
+from tsd.image_header import geometry_of
 from tsd.peers import ProgramPeer
 from tsd.programs import PLACES, image_word, program_words, secret_word
-from tsd.shell.commands import Commands, Quit, complain
+from tsd.shell.commands import NOTHING_HERE, Commands, Quit, answer_to, complain
 from tsd.shell.completion import Completer
 from tsd.shell.files import Files
 from tsd.shell.lines import CHAIN, INODE
 from tsd.shell.program import ShellProgram
+from tsd.shell.puts import Left, State
+from tsd.shell.refusals import Limits, ShellRefused
+from tsd.shell.root import what_is_there
 
 FAILED, USAGE, INTERRUPTED = 1, 2, 130
 LIMIT = 60.0
-PROMPT = "tsd> "
+PROMPT = "tsd{}> "
 MOST_HISTORY = 1000
+
+
+def limit(text: str) -> float:
+    """A number of seconds."""
+    return seconds(float(text))
 
 
 def options(words: Optional[List[str]] = None) -> argparse.Namespace:
@@ -39,7 +49,7 @@ def options(words: Optional[List[str]] = None) -> argparse.Namespace:
     parser.add_argument("place", nargs="?", choices=PLACES, default="near",
                         help="which free block is taken first (near)")
     parser.add_argument("--cap-file", metavar="FILE", help="a file whose first word is the capability")
-    parser.add_argument("--limit", type=float, default=LIMIT, help="seconds without an answer that are too many (60)")
+    parser.add_argument("--limit", type=limit, default=LIMIT, help="seconds without an answer that are too many (60)")
     parser.add_argument("--program", help="the program tsd")
     return parser.parse_args(words)
 
@@ -82,7 +92,7 @@ def history_file() -> Path:
 
 
 @contextlib.contextmanager
-def line_editing(files: Files) -> Iterator[None]:
+def line_editing(commands: Commands) -> Iterator[None]:
     """History and Tab, where this Python has them."""
     try:
         import readline
@@ -94,7 +104,7 @@ def line_editing(files: Files) -> Iterator[None]:
         readline.read_history_file(path)
     readline.set_history_length(MOST_HISTORY)
     readline.set_completer_delims(" ")
-    readline.set_completer(Completer(files).complete)
+    readline.set_completer(Completer(commands).complete)
     is_libedit = "libedit" in (readline.__doc__ or "")
     readline.parse_and_bind("bind ^I rl_complete" if is_libedit else "tab: complete")
     try:
@@ -109,9 +119,12 @@ def prompt(commands: Commands) -> int:
     """Commands at a terminal, until its end."""
     while True:
         try:
-            line = input(PROMPT)
+            line = input(PROMPT.format("" if commands.directory == "/" else f" {commands.directory}"))
         except KeyboardInterrupt:
             print()
+            continue
+        except UnicodeDecodeError:
+            complain("a line has to be UTF-8")
             continue
         except EOFError:
             print()
@@ -137,16 +150,60 @@ def script(commands: Commands) -> int:
     return status
 
 
-def run(given: argparse.Namespace) -> int:
-    """tsd-shell, with its program."""
+def tell_unfinished(commands: Commands, at_terminal: bool) -> None:
+    """Tells what earlier puts left, and at a terminal offers to finish it or to take it away."""
+    for left in commands.puts.left():
+        complain(f"tsd-shell: {left}")
+        if at_terminal:
+            choose(commands, left)
+        else:
+            complain(f"tsd-shell: finish {left.stage.at} or discard {left.stage.at} ends that")
+
+
+def choose(commands: Commands, left: Left) -> None:
+    """Asks what is to become of it."""
+    choices = ["finish"] * (left.state is State.WHOLE) + ["discard", "leave"]
+    answer = answer_to(f"{', '.join(choices[:-1])} or {choices[-1]} it? ")
+    if answer in choices and answer != "leave":
+        commands.run(f"{answer} {left.stage.at}")
+    else:
+        print("it stays; the command unfinished tells of it")
+
+
+def is_mounted(files: Files) -> bool:
+    """Whether a tree of files is there."""
+    try:
+        files.look("/")
+    except ShellRefused as refused:
+        return refused.rule != "not-this-fs"
+    return True
+
+
+def serve(given: argparse.Namespace, files: Files, nothing_here: str) -> int:
+    """Commands over the files, at a terminal or in a script."""
     at_terminal = sys.stdin.isatty() and sys.stdout.isatty()
-    with opened(given, capability(given.cap_file)) as program:
-        files = Files(program, given.kind)
-        commands = Commands(files, at_terminal)
-        if not at_terminal:
-            return script(commands)
-        with line_editing(files):
-            return prompt(commands)
+    commands = Commands(files, at_terminal, nothing_here)
+    tell_unfinished(commands, at_terminal)
+    if not at_terminal:
+        return script(commands)
+    with line_editing(commands):
+        return prompt(commands)
+
+
+def run(given: argparse.Namespace) -> int:
+    """tsd-shell, with its program. Where no tree of files is there the block that it would hang from is looked at, so
+    that nobody is told to begin a new one over a damaged one."""
+    if isinstance(sys.stdout, io.TextIOWrapper):
+        sys.stdout.reconfigure(errors="replace")
+    cap, geometry = capability(given.cap_file), geometry_of(given.image)
+    limits = Limits(given.kind, geometry.block_length if geometry else None)
+    with opened(given, cap) as program:
+        files = Files(program, limits)
+        if is_mounted(files):
+            return serve(given, files, NOTHING_HERE)
+    nothing_here = what_is_there(given, cap)
+    with opened(given, cap) as program:
+        return serve(given, Files(program, limits), nothing_here)
 
 
 def main(words: Optional[List[str]] = None) -> int:

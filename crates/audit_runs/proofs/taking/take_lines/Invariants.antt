@@ -7,8 +7,8 @@ use Rattle.audit_runs.specs.Lines.{listing_spelling}
 use Rattle.audit_runs.specs.Taking.{HasTaken}
 use Rattle.audit_runs.proofs.taking.take_lines.Given as goal
 
-abbrev pub invariant-loop-said : goal.invariant-loop-said
-invariant-loop-said g l =
+abbrev pub invariant-loop-certificate : goal.invariant-loop-certificate
+invariant-loop-certificate g l =
     let before = l.fn.source in
     record {
       limit : l.intake.limit ≡ 2 ^ 40;
@@ -19,8 +19,8 @@ invariant-loop-said g l =
           × Came g.S.Source.told (g.S.Source.taken before) (g.S.Source.taken l.source) (g.S.Source.left_bytes before) (g.S.Source.left_bytes l.source) bytes
           × Handed listing_spelling (λ x. WasFed x l.lines.cutter) (IsAtEnd g.S.Source.told (g.S.Source.ended l.source) (g.S.Source.left_bytes l.source)) l.intake bytes said
           × HasTaken (length l.fn.certificate.entries) said l.fault l.certificate
-          × (length said + remaining l.intake ≤ 2 ^ 40 + 513);
+          × (length said + remaining l.intake ≤ 2 ^ 40 + 65537);
     }
 
-abbrev pub decreases-loop-said : goal.decreases-loop-said
-decreases-loop-said g l = remaining l.intake
+abbrev pub decreases-loop-certificate : goal.decreases-loop-certificate
+decreases-loop-certificate g l = remaining l.intake

@@ -8,7 +8,7 @@ use Rattle.image_runs.proofs.check.check_image.Goals as goal
 pub returns-in-Ok-put_all-clause-said : goal.returns-in-Ok-put_all-clause-said
 returns-in-Ok-put_all-clause-said g c told =
     let old = g.P.Device.view c.args.port.now in
-    checked_whole c.in-Ok.found old.reads c.judge.new.line old.sent (g.P.Device.view c.put_all.new.port).sent c.in-Ok.ensures.finding (c.in-Ok.ensures.found told)
+    checked_whole c.args.telling c.in-Ok.found old.reads c.judge.new.line old.sent (g.P.Device.view c.put_all.new.port).sent c.in-Ok.ensures.finding (c.in-Ok.ensures.found told)
     (c.in-Ok-put_all.ensures.sent told ∙ ap (λ (b : List ℕ). b ++ c.as_slice.result.now) (c.judge.ensures.sent told) ∙ ap (λ (t : List ℕ). old.sent ++ t) c.as_slice.ensures.value)
 
 pub returns-in-Ok-put_all-clause-any_moment : goal.returns-in-Ok-put_all-clause-any_moment
@@ -16,7 +16,7 @@ returns-in-Ok-put_all-clause-any_moment g c told firm =
     let old = g.P.Device.view c.args.port.now in
     let mid = g.P.Device.view c.judge.new.dev in
     let new = g.P.Device.view c.put_all.new.port in
-    saying_moments old mid new c.in-Ok.found c.judge.new.line (g.met.P.Device.sound c.judge.new.dev told) (c.in-Ok.ensures.found told) (c.judge.ensures.sent told)
+    saying_moments c.args.telling old mid new c.in-Ok.found c.judge.new.line (g.met.P.Device.sound c.judge.new.dev told) (c.in-Ok.ensures.found told) (c.judge.ensures.sent told)
     (c.judge.ensures.any_moment told firm)
     (subst (λ (t : List ℕ). LeavesOnly mid new (IsLeftInPut t mid)) c.as_slice.ensures.value (c.put_all.ensures.any_moment told))
 
@@ -36,14 +36,14 @@ returns-in-Err-put_all-clause-any_moment g c told firm =
     let old = g.P.Device.view c.args.port.now in
     let mid = g.P.Device.view c.judge.new.dev in
     let new = g.P.Device.view c.put_all.new.port in
-    saying_moments old mid new c.in-Ok.found c.judge.new.line (g.met.P.Device.sound c.judge.new.dev told) (c.in-Ok.ensures.found told) (c.judge.ensures.sent told)
+    saying_moments c.args.telling old mid new c.in-Ok.found c.judge.new.line (g.met.P.Device.sound c.judge.new.dev told) (c.in-Ok.ensures.found told) (c.judge.ensures.sent told)
     (c.judge.ensures.any_moment told firm)
     (subst (λ (t : List ℕ). LeavesOnly mid new (IsLeftInPut t mid)) c.as_slice.ensures.value (c.put_all.ensures.any_moment told))
 
 pub returns-in-Err-clause-said : goal.returns-in-Err-clause-said
 returns-in-Err-clause-said g c told =
     let old = g.P.Device.view c.args.port.now in
-    unchecked c.in-Err.why old.reads old.sent (g.P.Device.view c.judge.new.dev).sent c.in-Err.ensures.failing (c.judge.ensures.sent told)
+    unchecked c.args.telling c.in-Err.why old.reads old.sent (g.P.Device.view c.judge.new.dev).sent c.in-Err.ensures.failing (c.judge.ensures.sent told)
 
 pub returns-in-Err-clause-any_moment : goal.returns-in-Err-clause-any_moment
 returns-in-Err-clause-any_moment g c told firm =

@@ -11,8 +11,8 @@ use Rattle.serving.proofs.run.serve.Goals as goal
 ok_not_err : {T E : Type 0} (r : Result T E) (x : T) (why : E) → r ≡ Ok x → r ≡ Err why → ⊥
 ok_not_err r x why ok err = cc
 
-pub loop-request-init : goal.loop-request-init
-loop-request-init g c = record {
+pub loop-server-init : goal.loop-server-init
+loop-server-init g c = record {
   limit = c.new-intake.ensures.limit;
   lender = refl;
   aside = refl;
@@ -34,19 +34,19 @@ loop-request-init g c = record {
   );
 }
 
-pub loop-request-preserved : goal.loop-request-preserved
-loop-request-preserved g c =
-    let i = c.loop-request.invariant in
+pub loop-server-preserved : goal.loop-server-preserved
+loop-server-preserved g c =
+    let i = c.loop-server.invariant in
     let was = i.goes in
     let found = c.in-Request.ensures.found was.0 was.1 was.3 in
     record {
       limit = c.next.ensures.limit ∙ i.limit;
       lender = c.answer.ensures.lender ∙ i.lender;
       aside = c.answer.ensures.aside ∙ i.aside;
-      aside_kept = λ told. aside_then (g.H.Server.aside c.args.server.now) (g.H.Server.aside c.loop-request.server) (g.P.Device.view c.args.port.now) (g.P.Device.view c.loop-request.port) (g.P.Device.view c.answer.new.port) (g.met.P.Device.sound c.loop-request.port told) i.aside (i.aside_kept told) (c.answer.ensures.aside_kept told);
+      aside_kept = λ told. aside_then (g.H.Server.aside c.args.server.now) (g.H.Server.aside c.loop-server.server) (g.P.Device.view c.args.port.now) (g.P.Device.view c.loop-server.port) (g.P.Device.view c.answer.new.port) (g.met.P.Device.sound c.loop-server.port told) i.aside (i.aside_kept told) (c.answer.ensures.aside_kept told);
       ready = c.answer.ensures.ready (ok_not_err c.answer.result _ _ c.in-Ok.is);
       at = c.answer.ensures.at (ok_not_err c.answer.result _ _ c.in-Ok.is);
-      once = omega (arith, i.once, c.in-Request.ensures.later _ refl);
+      once = omega (arith, i.once, c.in-Request.ensures.later refl);
       source_faults = omega (arith, i.source_faults, c.in-Request.ensures.no_source_fault (λ e. cc));
       faults = c.in-Ok.ensures.faults.1 (λ e. cc) ∙ i.faults;
       put_faults = c.in-Ok.ensures.put_faults.1 (λ e. cc) ∙ i.put_faults;
@@ -57,14 +57,14 @@ loop-request-preserved g c =
         found.2,
         λ told.
             let a = c.in-Ok.ensures.answered told in
-            goes_next g.H.Server.service g.met.H.Server.counted g.H.Server.work (IsOfPort g.P.Device.view) _ _ (g.P.Device.view c.args.port.now) was.1 _ _ (g.P.Device.view c.loop-request.port) (was.4 told) _ (g.P.Device.view c.answer.new.port) (c.answer.ensures.any_moment told) (c.answer.ensures.debt told)
+            goes_next g.H.Server.service g.met.H.Server.counted g.H.Server.work (IsOfPort g.P.Device.view) _ _ (g.P.Device.view c.args.port.now) was.1 _ _ (g.P.Device.view c.loop-server.port) (was.4 told) _ (g.P.Device.view c.answer.new.port) (c.answer.ensures.any_moment told) (c.answer.ensures.debt told)
             (g.met.P.Device.sound c.answer.new.port told) _ (g.met.H.Server.rests_now c.answer.new.self _ (c.answer.ensures.at (ok_not_err c.answer.result _ _ c.in-Ok.is) told).1) _ a.0 a.1 a.2 (c.in-Ok.ensures.less told) (c.in-Ok.ensures.paid told) (c.answer.new.port, refl) (c.in-Ok.ensures.prompt told),
       );
     }
 
 pub returns-in-Err-clause-ran : goal.returns-in-Err-clause-ran
 returns-in-Err-clause-ran g c =
-    let i = c.loop-request.invariant in
+    let i = c.loop-server.invariant in
     let was = i.goes in
     let found = c.in-Request.ensures.found was.0 was.1 was.3 in
     let asked = asked_stopped g.R.Protocol.spelling g.met.R.Protocol.lawful c.in-Err.why _ _ c.next.new.self (was.0 ++ found.0) _ c.in-Err.ensures.stops found.2 in
@@ -72,99 +72,99 @@ returns-in-Err-clause-ran g c =
     (came_then g.S.Source.told _ _ _ _ _ _ was.0 found.0 was.2 found.1) asked.1
     (λ told.
     ends_longer g.H.Server.service g.H.Server.work _ _ _ (g.P.Device.view c.args.port.now) (g.P.Device.view c.answer.new.port) _ asked.0 c.in-Err.why c.in-Err.ensures.stops
-    (ends_stopped g.H.Server.service g.met.H.Server.counted g.H.Server.work (IsOfPort g.P.Device.view) _ _ (g.P.Device.view c.args.port.now) was.1 _ _ (g.P.Device.view c.loop-request.port) (was.4 told) _ (g.P.Device.view c.answer.new.port) (c.answer.ensures.any_moment told) (c.answer.ensures.debt told)
+    (ends_stopped g.H.Server.service g.met.H.Server.counted g.H.Server.work (IsOfPort g.P.Device.view) _ _ (g.P.Device.view c.args.port.now) was.1 _ _ (g.P.Device.view c.loop-server.port) (was.4 told) _ (g.P.Device.view c.answer.new.port) (c.answer.ensures.any_moment told) (c.answer.ensures.debt told)
     c.in-Err.why _ c.in-Err.ensures.stops (c.in-Err.ensures.left told) (c.answer.ensures.most told)))
 
 pub returns-in-Ok-close-clause-ran : goal.returns-in-Ok-close-clause-ran
 returns-in-Ok-close-clause-ran g c =
-    let i = c.loop-request.invariant in
+    let i = c.loop-server.invariant in
     let was = i.goes in
     let found = c.in-End.ensures.found was.0 was.1 was.3 in
     ran_of _ g.H.Server.service g.H.Server.work g.R.Protocol.spelling _ _ c.args.limit c.next.new.self.limit (taking g.S.Source.told g.S.Source.taken g.S.Source.left_bytes g.S.Source.ended c.args.source.now c.next.new.source) _ (moments g.P.Device.told g.P.Device.view c.args.port.now c.close.new.dev) (was.0 ++ found.0) was.1 (c.next.ensures.limit ∙ i.limit)
     (came_then g.S.Source.told _ _ _ _ _ _ was.0 found.0 was.2 found.1) found.2
     (λ told.
-    ends_done g.H.Server.service g.met.H.Server.counted g.H.Server.work (IsOfPort g.P.Device.view) _ _ (g.P.Device.view c.args.port.now) was.1 _ _ (g.P.Device.view c.loop-request.port) (was.4 told) (g.P.Device.view c.close.new.dev) (c.close.ensures.any_moment told) (c.close.ensures.debt told) (c.close.ensures.sent told) (c.close.ensures.most told)
+    ends_done g.H.Server.service g.met.H.Server.counted g.H.Server.work (IsOfPort g.P.Device.view) _ _ (g.P.Device.view c.args.port.now) was.1 _ _ (g.P.Device.view c.loop-server.port) (was.4 told) (g.P.Device.view c.close.new.dev) (c.close.ensures.any_moment told) (c.close.ensures.debt told) (c.close.ensures.sent told) (c.close.ensures.most told)
     _ (c.in-Ok-close.ensures.state told))
 
 pub returns-in-Err-close-clause-ran : goal.returns-in-Err-close-clause-ran
 returns-in-Err-close-clause-ran g c =
-    let i = c.loop-request.invariant in
+    let i = c.loop-server.invariant in
     let was = i.goes in
     let found = c.in-End.ensures.found was.0 was.1 was.3 in
     ran_of _ g.H.Server.service g.H.Server.work g.R.Protocol.spelling _ _ c.args.limit c.next.new.self.limit (taking g.S.Source.told g.S.Source.taken g.S.Source.left_bytes g.S.Source.ended c.args.source.now c.next.new.source) _ (moments g.P.Device.told g.P.Device.view c.args.port.now c.close.new.dev) (was.0 ++ found.0) was.1 (c.next.ensures.limit ∙ i.limit)
     (came_then g.S.Source.told _ _ _ _ _ _ was.0 found.0 was.2 found.1) (inr (found.2.0, found.2.1, found.2.3))
     (λ told.
-    ends_close_fault g.H.Server.service g.met.H.Server.counted g.H.Server.work (IsOfPort g.P.Device.view) _ _ (g.P.Device.view c.args.port.now) was.1 _ _ (g.P.Device.view c.loop-request.port) (was.4 told) (g.P.Device.view c.close.new.dev) (c.close.ensures.any_moment told) (c.close.ensures.debt told) (c.close.ensures.sent told) (c.close.ensures.most told) _)
+    ends_close_fault g.H.Server.service g.met.H.Server.counted g.H.Server.work (IsOfPort g.P.Device.view) _ _ (g.P.Device.view c.args.port.now) was.1 _ _ (g.P.Device.view c.loop-server.port) (was.4 told) (g.P.Device.view c.close.new.dev) (c.close.ensures.any_moment told) (c.close.ensures.debt told) (c.close.ensures.sent told) (c.close.ensures.most told) _)
 
 pub returns-in-CutOff-clause-ran : goal.returns-in-CutOff-clause-ran
 returns-in-CutOff-clause-ran g c =
-    let i = c.loop-request.invariant in
+    let i = c.loop-server.invariant in
     let was = i.goes in
     let found = c.in-CutOff.ensures.found was.0 was.1 was.3 in
-    ran_of _ g.H.Server.service g.H.Server.work g.R.Protocol.spelling _ _ c.args.limit c.next.new.self.limit (taking g.S.Source.told g.S.Source.taken g.S.Source.left_bytes g.S.Source.ended c.args.source.now c.next.new.source) _ (moments g.P.Device.told g.P.Device.view c.args.port.now c.loop-request.port) (was.0 ++ found.0) was.1 (c.next.ensures.limit ∙ i.limit)
+    ran_of _ g.H.Server.service g.H.Server.work g.R.Protocol.spelling _ _ c.args.limit c.next.new.self.limit (taking g.S.Source.told g.S.Source.taken g.S.Source.left_bytes g.S.Source.ended c.args.source.now c.next.new.source) _ (moments g.P.Device.told g.P.Device.view c.args.port.now c.loop-server.port) (was.0 ++ found.0) was.1 (c.next.ensures.limit ∙ i.limit)
     (came_then g.S.Source.told _ _ _ _ _ _ was.0 found.0 was.2 found.1) found.2
-    (λ told. ends_now g.H.Server.service g.H.Server.work (IsOfPort g.P.Device.view) _ _ (g.P.Device.view c.args.port.now) g.met.H.Server.counted _ was.1 _ _ (g.P.Device.view c.loop-request.port) (was.4 told) (served_of g.H.Server.service g.H.Server.work (IsOfPort g.P.Device.view) _ _ (g.P.Device.view c.args.port.now) was.1 _ _ (g.P.Device.view c.loop-request.port) (was.4 told)))
+    (λ told. ends_now g.H.Server.service g.H.Server.work (IsOfPort g.P.Device.view) _ _ (g.P.Device.view c.args.port.now) g.met.H.Server.counted _ was.1 _ _ (g.P.Device.view c.loop-server.port) (was.4 told) (served_of g.H.Server.service g.H.Server.work (IsOfPort g.P.Device.view) _ _ (g.P.Device.view c.args.port.now) was.1 _ _ (g.P.Device.view c.loop-server.port) (was.4 told)))
 
 pub returns-in-Fault-clause-ran : goal.returns-in-Fault-clause-ran
 returns-in-Fault-clause-ran g c =
-    let i = c.loop-request.invariant in
+    let i = c.loop-server.invariant in
     let was = i.goes in
     let found = c.in-Fault.ensures.found was.0 was.1 was.3 in
-    ran_of _ g.H.Server.service g.H.Server.work g.R.Protocol.spelling _ _ c.args.limit c.next.new.self.limit (taking g.S.Source.told g.S.Source.taken g.S.Source.left_bytes g.S.Source.ended c.args.source.now c.next.new.source) _ (moments g.P.Device.told g.P.Device.view c.args.port.now c.loop-request.port) (was.0 ++ found.0) was.1 (c.next.ensures.limit ∙ i.limit)
+    ran_of _ g.H.Server.service g.H.Server.work g.R.Protocol.spelling _ _ c.args.limit c.next.new.self.limit (taking g.S.Source.told g.S.Source.taken g.S.Source.left_bytes g.S.Source.ended c.args.source.now c.next.new.source) _ (moments g.P.Device.told g.P.Device.view c.args.port.now c.loop-server.port) (was.0 ++ found.0) was.1 (c.next.ensures.limit ∙ i.limit)
     (came_then g.S.Source.told _ _ _ _ _ _ was.0 found.0 was.2 found.1) found.2
-    (λ told. ends_now g.H.Server.service g.H.Server.work (IsOfPort g.P.Device.view) _ _ (g.P.Device.view c.args.port.now) g.met.H.Server.counted _ was.1 _ _ (g.P.Device.view c.loop-request.port) (was.4 told) (served_of g.H.Server.service g.H.Server.work (IsOfPort g.P.Device.view) _ _ (g.P.Device.view c.args.port.now) was.1 _ _ (g.P.Device.view c.loop-request.port) (was.4 told)))
+    (λ told. ends_now g.H.Server.service g.H.Server.work (IsOfPort g.P.Device.view) _ _ (g.P.Device.view c.args.port.now) g.met.H.Server.counted _ was.1 _ _ (g.P.Device.view c.loop-server.port) (was.4 told) (served_of g.H.Server.service g.H.Server.work (IsOfPort g.P.Device.view) _ _ (g.P.Device.view c.args.port.now) was.1 _ _ (g.P.Device.view c.loop-server.port) (was.4 told)))
 
 pub returns-in-TooLong-clause-ran : goal.returns-in-TooLong-clause-ran
 returns-in-TooLong-clause-ran g c =
-    let i = c.loop-request.invariant in
+    let i = c.loop-server.invariant in
     let was = i.goes in
     let found = c.in-TooLong.ensures.found was.0 was.1 was.3 in
-    ran_of _ g.H.Server.service g.H.Server.work g.R.Protocol.spelling _ _ c.args.limit c.next.new.self.limit (taking g.S.Source.told g.S.Source.taken g.S.Source.left_bytes g.S.Source.ended c.args.source.now c.next.new.source) _ (moments g.P.Device.told g.P.Device.view c.args.port.now c.loop-request.port) (was.0 ++ found.0) was.1 (c.next.ensures.limit ∙ i.limit)
+    ran_of _ g.H.Server.service g.H.Server.work g.R.Protocol.spelling _ _ c.args.limit c.next.new.self.limit (taking g.S.Source.told g.S.Source.taken g.S.Source.left_bytes g.S.Source.ended c.args.source.now c.next.new.source) _ (moments g.P.Device.told g.P.Device.view c.args.port.now c.loop-server.port) (was.0 ++ found.0) was.1 (c.next.ensures.limit ∙ i.limit)
     (came_then g.S.Source.told _ _ _ _ _ _ was.0 found.0 was.2 found.1) found.2
-    (λ told. ends_now g.H.Server.service g.H.Server.work (IsOfPort g.P.Device.view) _ _ (g.P.Device.view c.args.port.now) g.met.H.Server.counted _ was.1 _ _ (g.P.Device.view c.loop-request.port) (was.4 told) (served_of g.H.Server.service g.H.Server.work (IsOfPort g.P.Device.view) _ _ (g.P.Device.view c.args.port.now) was.1 _ _ (g.P.Device.view c.loop-request.port) (was.4 told)))
+    (λ told. ends_now g.H.Server.service g.H.Server.work (IsOfPort g.P.Device.view) _ _ (g.P.Device.view c.args.port.now) g.met.H.Server.counted _ was.1 _ _ (g.P.Device.view c.loop-server.port) (was.4 told) (served_of g.H.Server.service g.H.Server.work (IsOfPort g.P.Device.view) _ _ (g.P.Device.view c.args.port.now) was.1 _ _ (g.P.Device.view c.loop-server.port) (was.4 told)))
 
 pub returns-in-Err-clause-prompt : goal.returns-in-Err-clause-prompt
 returns-in-Err-clause-prompt g c told =
-    let was = c.loop-request.invariant.goes in
-    prompt_stopped g.H.Server.service g.met.H.Server.counted g.H.Server.work (IsOfPort g.P.Device.view) _ _ (g.P.Device.view c.args.port.now) was.1 _ _ (g.P.Device.view c.loop-request.port) (was.4 told) _ (g.P.Device.view c.answer.new.port) (c.answer.ensures.any_moment told) (c.answer.ensures.debt told)
+    let was = c.loop-server.invariant.goes in
+    prompt_stopped g.H.Server.service g.met.H.Server.counted g.H.Server.work (IsOfPort g.P.Device.view) _ _ (g.P.Device.view c.args.port.now) was.1 _ _ (g.P.Device.view c.loop-server.port) (was.4 told) _ (g.P.Device.view c.answer.new.port) (c.answer.ensures.any_moment told) (c.answer.ensures.debt told)
     c.in-Err.why _ c.in-Err.ensures.stops (c.in-Err.ensures.left told)
 
 pub returns-in-Ok-close-clause-prompt : goal.returns-in-Ok-close-clause-prompt
 returns-in-Ok-close-clause-prompt g c told =
-    let was = c.loop-request.invariant.goes in
-    prompt_done _ g.H.Server.service g.met.H.Server.counted g.H.Server.work (IsOfPort g.P.Device.view) _ _ (g.P.Device.view c.args.port.now) was.1 _ _ (g.P.Device.view c.loop-request.port) (g.P.Device.view c.close.new.dev) (was.4 told) (c.close.ensures.sent told) (λ cut. absurd cut)
+    let was = c.loop-server.invariant.goes in
+    prompt_done _ g.H.Server.service g.met.H.Server.counted g.H.Server.work (IsOfPort g.P.Device.view) _ _ (g.P.Device.view c.args.port.now) was.1 _ _ (g.P.Device.view c.loop-server.port) (g.P.Device.view c.close.new.dev) (was.4 told) (c.close.ensures.sent told) (λ cut. absurd cut)
 
 pub returns-in-Err-close-clause-prompt : goal.returns-in-Err-close-clause-prompt
 returns-in-Err-close-clause-prompt g c told =
-    let was = c.loop-request.invariant.goes in
-    prompt_done _ g.H.Server.service g.met.H.Server.counted g.H.Server.work (IsOfPort g.P.Device.view) _ _ (g.P.Device.view c.args.port.now) was.1 _ _ (g.P.Device.view c.loop-request.port) (g.P.Device.view c.close.new.dev) (was.4 told) (c.close.ensures.sent told) (λ cut. absurd cut)
+    let was = c.loop-server.invariant.goes in
+    prompt_done _ g.H.Server.service g.met.H.Server.counted g.H.Server.work (IsOfPort g.P.Device.view) _ _ (g.P.Device.view c.args.port.now) was.1 _ _ (g.P.Device.view c.loop-server.port) (g.P.Device.view c.close.new.dev) (was.4 told) (c.close.ensures.sent told) (λ cut. absurd cut)
 
 pub returns-in-CutOff-clause-prompt : goal.returns-in-CutOff-clause-prompt
 returns-in-CutOff-clause-prompt g c told =
-    let was = c.loop-request.invariant.goes in
-    prompt_done _ g.H.Server.service g.met.H.Server.counted g.H.Server.work (IsOfPort g.P.Device.view) _ _ (g.P.Device.view c.args.port.now) was.1 _ _ (g.P.Device.view c.loop-request.port) (g.P.Device.view c.loop-request.port) (was.4 told) refl (λ cut. refl)
+    let was = c.loop-server.invariant.goes in
+    prompt_done _ g.H.Server.service g.met.H.Server.counted g.H.Server.work (IsOfPort g.P.Device.view) _ _ (g.P.Device.view c.args.port.now) was.1 _ _ (g.P.Device.view c.loop-server.port) (g.P.Device.view c.loop-server.port) (was.4 told) refl (λ cut. refl)
 
 pub returns-in-Fault-clause-prompt : goal.returns-in-Fault-clause-prompt
 returns-in-Fault-clause-prompt g c told =
-    let was = c.loop-request.invariant.goes in
-    prompt_done _ g.H.Server.service g.met.H.Server.counted g.H.Server.work (IsOfPort g.P.Device.view) _ _ (g.P.Device.view c.args.port.now) was.1 _ _ (g.P.Device.view c.loop-request.port) (g.P.Device.view c.loop-request.port) (was.4 told) refl (λ cut. refl)
+    let was = c.loop-server.invariant.goes in
+    prompt_done _ g.H.Server.service g.met.H.Server.counted g.H.Server.work (IsOfPort g.P.Device.view) _ _ (g.P.Device.view c.args.port.now) was.1 _ _ (g.P.Device.view c.loop-server.port) (g.P.Device.view c.loop-server.port) (was.4 told) refl (λ cut. refl)
 
 pub returns-in-TooLong-clause-prompt : goal.returns-in-TooLong-clause-prompt
 returns-in-TooLong-clause-prompt g c told =
-    let was = c.loop-request.invariant.goes in
-    prompt_done _ g.H.Server.service g.met.H.Server.counted g.H.Server.work (IsOfPort g.P.Device.view) _ _ (g.P.Device.view c.args.port.now) was.1 _ _ (g.P.Device.view c.loop-request.port) (g.P.Device.view c.loop-request.port) (was.4 told) refl (λ cut. refl)
+    let was = c.loop-server.invariant.goes in
+    prompt_done _ g.H.Server.service g.met.H.Server.counted g.H.Server.work (IsOfPort g.P.Device.view) _ _ (g.P.Device.view c.args.port.now) was.1 _ _ (g.P.Device.view c.loop-server.port) (g.P.Device.view c.loop-server.port) (was.4 told) refl (λ cut. refl)
 
 pub returns-in-Err-clause-aside_kept : goal.returns-in-Err-clause-aside_kept
 returns-in-Err-clause-aside_kept g c told =
-    let i = c.loop-request.invariant in
-    aside_then (g.H.Server.aside c.args.server.now) (g.H.Server.aside c.loop-request.server) (g.P.Device.view c.args.port.now) (g.P.Device.view c.loop-request.port) (g.P.Device.view c.answer.new.port) (g.met.P.Device.sound c.loop-request.port told) i.aside (i.aside_kept told) (c.answer.ensures.aside_kept told)
+    let i = c.loop-server.invariant in
+    aside_then (g.H.Server.aside c.args.server.now) (g.H.Server.aside c.loop-server.server) (g.P.Device.view c.args.port.now) (g.P.Device.view c.loop-server.port) (g.P.Device.view c.answer.new.port) (g.met.P.Device.sound c.loop-server.port told) i.aside (i.aside_kept told) (c.answer.ensures.aside_kept told)
 
 pub returns-in-Ok-close-clause-aside_kept : goal.returns-in-Ok-close-clause-aside_kept
 returns-in-Ok-close-clause-aside_kept g c told =
-    let i = c.loop-request.invariant in
-    aside_then (g.H.Server.aside c.args.server.now) (g.H.Server.aside c.loop-request.server) (g.P.Device.view c.args.port.now) (g.P.Device.view c.loop-request.port) (g.P.Device.view c.close.new.dev) (g.met.P.Device.sound c.loop-request.port told) i.aside (i.aside_kept told) (c.close.ensures.aside_kept told)
+    let i = c.loop-server.invariant in
+    aside_then (g.H.Server.aside c.args.server.now) (g.H.Server.aside c.loop-server.server) (g.P.Device.view c.args.port.now) (g.P.Device.view c.loop-server.port) (g.P.Device.view c.close.new.dev) (g.met.P.Device.sound c.loop-server.port told) i.aside (i.aside_kept told) (c.close.ensures.aside_kept told)
 
 pub returns-in-Err-close-clause-aside_kept : goal.returns-in-Err-close-clause-aside_kept
 returns-in-Err-close-clause-aside_kept g c told =
-    let i = c.loop-request.invariant in
-    aside_then (g.H.Server.aside c.args.server.now) (g.H.Server.aside c.loop-request.server) (g.P.Device.view c.args.port.now) (g.P.Device.view c.loop-request.port) (g.P.Device.view c.close.new.dev) (g.met.P.Device.sound c.loop-request.port told) i.aside (i.aside_kept told) (c.close.ensures.aside_kept told)
+    let i = c.loop-server.invariant in
+    aside_then (g.H.Server.aside c.args.server.now) (g.H.Server.aside c.loop-server.server) (g.P.Device.view c.args.port.now) (g.P.Device.view c.loop-server.port) (g.P.Device.view c.close.new.dev) (g.met.P.Device.sound c.loop-server.port told) i.aside (i.aside_kept told) (c.close.ensures.aside_kept told)

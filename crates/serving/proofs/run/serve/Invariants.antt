@@ -6,8 +6,8 @@ use Rattle.serving.specs.Prompt.{IsOfPort}
 use Rattle.serving.specs.Ran.{Came, IsAtEnd}
 use Rattle.serving.proofs.run.serve.Given as goal
 
-abbrev pub invariant-loop-request : goal.invariant-loop-request
-invariant-loop-request g l =
+abbrev pub invariant-loop-server : goal.invariant-loop-server
+invariant-loop-server g l =
     let view = g.P.Device.view in
     let before = l.initial.source in
     let start = view l.initial.port in
@@ -28,5 +28,5 @@ invariant-loop-request g l =
           × (g.P.Device.told → Goes g.H.Server.service g.H.Server.work (IsOfPort view) (g.H.Server.state l.initial.server start.reads) (g.H.Server.due l.initial.server start.reads) start qs (g.H.Server.state l.server (view l.port).reads) (g.H.Server.due l.server (view l.port).reads) (view l.port));
     }
 
-abbrev pub decreases-loop-request : goal.decreases-loop-request
-decreases-loop-request g l = remaining l.intake
+abbrev pub decreases-loop-server : goal.decreases-loop-server
+decreases-loop-server g l = remaining l.intake

@@ -3,8 +3,8 @@ use Rattle.serving.specs.Goes.{remaining, Handed, Reads}
 use Rattle.serving.specs.Ran.{Came, IsAtEnd}
 use Rattle.serving.proofs.intake.Intake.next.Given as goal
 
-abbrev pub invariant-loop-request : goal.invariant-loop-request
-invariant-loop-request g l =
+abbrev pub invariant-loop-self : goal.invariant-loop-self
+invariant-loop-self g l =
     let before = l.initial.source in
     record {
       over : l.self.over ≡ false;
@@ -18,5 +18,5 @@ invariant-loop-request g l =
           × Reads g.R.Protocol.spelling (λ x. g.R.Protocol.was_fed x l.protocol) l.self (bytes ++ more) qs;
     }
 
-abbrev pub decreases-loop-request : goal.decreases-loop-request
-decreases-loop-request g l = l.self.limit + 1 - l.self.taken
+abbrev pub decreases-loop-self : goal.decreases-loop-self
+decreases-loop-self g l = l.self.limit + 1 - l.self.taken

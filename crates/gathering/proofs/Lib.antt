@@ -1,0 +1,6 @@
+mod Events
+mod Reading
+mod Wholes
+mod Flushing
+pub mod Merely
+pub mod Closed

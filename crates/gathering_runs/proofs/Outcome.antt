@@ -1,0 +1,28 @@
+-- What the outcome of a call tells.
+use Rattle.std.proofs.Common.{◌≡◌, ◌⊎◌, inl, inr, ℕ, refl, subst}
+use Rattle.std.specs.Prelude.{Result, Ok, Err, OnOk, OnErr, IfErr}
+use Rattle.image_device.specs.Counts.{CountsFaultOf}
+
+pub ok_is : {T E P : Type 0} (r : Result T E) (x : T) → r ≡ Ok x → OnOk r P → P
+ok_is (Ok y) x is p = p
+ok_is (Err e) x is p = absurd (cc)
+
+pub err_is : {T E P : Type 0} (r : Result T E) (x : E) → r ≡ Err x → OnErr r P → P
+err_is (Ok y) x is p = absurd (cc)
+err_is (Err e) x is p = p
+
+pub ok_or_err : {T E : Type 0} (r : Result T E) → ((x : T) × (r ≡ Ok x)) ⊎ ((x : E) × (r ≡ Err x))
+ok_or_err (Ok y) = inl (y, refl)
+ok_or_err (Err e) = inr (e, refl)
+
+-- a call that went well left each count of faults
+pub counts_ok : {T E : Type 0} (why : E) (r : Result T E) (x : T) (before now : ℕ) → r ≡ Ok x → CountsFaultOf why r before now → now ≡ before
+counts_ok why (Ok y) x before now is counts = counts.1 (λ e. cc)
+counts_ok why (Err e) x before now is counts = absurd (cc)
+
+pub err_is_if : {T E : Type 0} (P : E → Type 0) (r : Result T E) (x : E) → r ≡ Err x → IfErr r P → P x
+err_is_if P (Ok y) x is p = absurd (cc)
+err_is_if P (Err e) x is p = subst (λ y. P y) (err_same e x is) p
+  where
+    err_same : {T E : Type 0} (a b : E) → ◌≡◌ {A = Result T E} (Err a) (Err b) → a ≡ b
+    err_same a b same = cc

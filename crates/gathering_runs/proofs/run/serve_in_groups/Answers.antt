@@ -1,0 +1,233 @@
+use Rattle.std.proofs.Common.{◌≡◌, cond, ℕ, List, [], ◌∷◌, ◌++◌, refl, ◌∙◌, ap, subst, arith, append_assoc, append-nil}
+use Rattle.image_device.specs.Image.{Image}
+use Rattle.image_device.specs.Runs.{LeavesOnly}
+use Rattle.tsd_words.specs.declared.status.Status.TheVariants as status
+use Rattle.serving.specs.Goes.{Handed, ends_left}
+use Rattle.serving.specs.Ran.{AskedBy, IsAtEnd}
+use Rattle.serving.specs.Voice.{spoken}
+use Rattle.serving.proofs.Inputs.{came_first, came_then, handed_first}
+use Rattle.gathering.specs.Gathered.{cleared}
+use Rattle.gathering_runs.specs.Promise.{IsLeftByRun}
+use Rattle.gathering_runs.specs.Run.{AskedInGroups}
+use Rattle.gathering_runs.specs.Turns.{StopsBy, Turned}
+use Rattle.gathering_runs.proofs.Ending.{asked_none, asked_then_stopped, asked_to_end, left_longer, not_answered, not_done}
+use Rattle.gathering_runs.proofs.Handing.{handed_then}
+use Rattle.gathering_runs.proofs.Outcome.{counts_ok, err_is_if, ok_is}
+use Rattle.gathering_runs.proofs.Turning.{Went, left_then, went, went_then}
+use Rattle.gathering_runs.proofs.run.serve_in_groups.Goals as goal
+
+pub returns-in-Err-clause-ran : goal.returns-in-Err-clause-ran
+returns-in-Err-clause-ran g c = record {
+  bytes = [];
+  came_in = came_first g.S.Source.told _ _;
+  asked = [];
+  these = asked_none g.R.Protocol.spelling c.in-Err.why c.args.limit _ c.in-Err.ensures.stops g.met.R.Protocol.lawful.none;
+  any_moment = λ told. (c.in-Err.ensures.did told).any_moment;
+  served = λ told all. absurd (not_answered c.in-Err.why c.in-Err.ensures.stops all);
+  done = λ told is. absurd (not_done c.in-Err.why c.in-Err.ensures.stops is);
+}
+
+pub loop-server-init : goal.loop-server-init
+loop-server-init g c = record {
+  limit = c.new-intake.ensures.limit;
+  aside = c.begin.ensures.aside;
+  ready = c.in-Ok.ensures.ready;
+  between = c.in-Ok.ensures.between;
+  once = omega (arith, c.new-intake.ensures.ends);
+  source_faults = refl;
+  faults = c.in-Ok.ensures.device_fault.1 (λ e. cc);
+  put_faults = c.in-Ok.ensures.put_fault.1 (λ e. cc);
+  goes = (
+    [],
+    [],
+    came_first g.S.Source.told _ _,
+    handed_first g.R.Protocol.spelling _ _ c.new-intake.result c.requires.fresh g.met.R.Protocol.lawful.none c.new-intake.ensures.taken c.new-intake.ensures.held c.new-intake.ensures.over,
+    λ told. went (spoken g.H.Handler.rules g.R.Replies.voice) (g.H.Handler.aside c.args.server.now) _ _ _ _ _ _ [] refl (c.in-Ok.ensures.did told),
+  );
+}
+
+pub loop-server-smaller : goal.loop-server-smaller
+loop-server-smaller g c = let less = c.in-Request.ensures.less refl in omega (arith, less, c.serve_in_hand-left.ensures.fewer)
+
+pub loop-server-preserved : goal.loop-server-preserved
+loop-server-preserved g c =
+    let i = c.loop-server.invariant in
+    let was = i.goes in
+    let found = c.in-Request.ensures.found was.0 was.1 was.3 in
+    let e = c.serve_in_hand-left.ensures in
+    let did = e.did in
+    let r = c.serve_in_hand-left.result.1 in
+    let q = c.next.new.into in
+    let k = spoken g.H.Handler.rules g.R.Replies.voice in
+    let sp = g.R.Protocol.spelling in
+    let ended = IsAtEnd g.S.Source.told (g.S.Source.ended c.next.new.source) (g.S.Source.left_bytes c.next.new.source) in
+    let fed1 = λ (x : List ℕ). g.R.Protocol.was_fed x c.next.new.protocol in
+    let fed2 = λ (x : List ℕ). g.R.Protocol.was_fed x c.serve_in_hand-left.new.protocol in
+    let j = c.serve_in_hand-left.new.intake in
+    let bytes = was.0 ++ found.0 in
+    let part = g.H.Handler.aside c.args.server.now in
+    let v0 = g.P.Device.view c.args.port in
+    let v1 = g.P.Device.view c.loop-server.disk.port in
+    let v2 = g.P.Device.view c.serve_in_hand-left.result.0.port in
+    let s1 = g.H.Handler.state c.loop-server.server (cleared v1.reads) in
+    let s2 = g.H.Handler.state c.serve_in_hand-left.new.server (cleared v2.reads) in
+    let left : ends_left j ≡ ends_left c.next.new.self = ap (λ b. cond b 0 1) did.1.over in
+    record {
+      limit = did.1.limit ∙ c.next.ensures.limit ∙ i.limit;
+      aside = e.aside ∙ i.aside;
+      ready = ok_is r _ c.in-Ok-served.is e.ready;
+      between = λ told. ok_is r _ c.in-Ok-served.is (e.between told);
+      once = let l = c.in-Request.ensures.later refl in omega (arith, i.once, l, left);
+      source_faults = omega (arith, i.source_faults, c.in-Request.ensures.no_source_fault (λ e. cc));
+      faults = counts_ok status.DeviceFault r _ _ _ c.in-Ok-served.is e.device_fault ∙ i.faults;
+      put_faults = counts_ok status.PutFault r _ _ _ c.in-Ok-served.is e.put_fault ∙ i.put_faults;
+      goes = (
+        bytes,
+        was.1 ++ q ∷ did.0,
+        came_then g.S.Source.told _ _ _ _ _ _ was.0 found.0 was.2 found.1,
+        subst (λ l. Handed sp fed2 ended j bytes l) (append_assoc was.1 (q ∷ []) did.0) (handed_then sp fed1 fed2 ended c.next.new.self j bytes (was.1 ++ q ∷ []) did.0 found.2 did.1),
+        λ told.
+            went_then k part _ s1 s2 v0 v1 v2 was.1 (q ∷ did.0) (was.4 told)
+            (went k part r _ s1 s2 v1 v2 (q ∷ did.0) c.in-Ok-served.is (subst (λ (p : Image → Image). Turned r k p s1 s2 v1 v2 (q ∷ did.0)) i.aside (did.2 told))),
+      );
+    }
+
+pub returns-in-Err-served-clause-ran : goal.returns-in-Err-served-clause-ran
+returns-in-Err-served-clause-ran g c =
+    let i = c.loop-server.invariant in
+    let was = i.goes in
+    let found = c.in-Request.ensures.found was.0 was.1 was.3 in
+    let e = c.serve_in_hand-left.ensures in
+    let did = e.did in
+    let r = c.serve_in_hand-left.result.1 in
+    let q = c.next.new.into in
+    let k = spoken g.H.Handler.rules g.R.Replies.voice in
+    let sp = g.R.Protocol.spelling in
+    let ended = IsAtEnd g.S.Source.told (g.S.Source.ended c.next.new.source) (g.S.Source.left_bytes c.next.new.source) in
+    let fed1 = λ (x : List ℕ). g.R.Protocol.was_fed x c.next.new.protocol in
+    let fed2 = λ (x : List ℕ). g.R.Protocol.was_fed x c.serve_in_hand-left.new.protocol in
+    let j = c.serve_in_hand-left.new.intake in
+    let bytes = was.0 ++ found.0 in
+    let part = g.H.Handler.aside c.args.server.now in
+    let v0 = g.P.Device.view c.args.port in
+    let v1 = g.P.Device.view c.loop-server.disk.port in
+    let v2 = g.P.Device.view c.serve_in_hand-left.result.0.port in
+    let s0 = g.H.Handler.state c.args.server.now v0.reads in
+    let s1 = g.H.Handler.state c.loop-server.server (cleared v1.reads) in
+    let s2 = g.H.Handler.state c.serve_in_hand-left.new.server (cleared v2.reads) in
+    let stops = err_is_if StopsBy r _ c.in-Err-served.is e.stops in
+    let handed = subst (λ l. Handed sp fed2 ended j bytes l) (append_assoc was.1 (q ∷ []) did.0) (handed_then sp fed1 fed2 ended c.next.new.self j bytes (was.1 ++ q ∷ []) did.0 found.2 did.1) in
+    let asked = asked_then_stopped sp g.met.R.Protocol.lawful c.in-Err-served.why fed2 ended j bytes (was.1 ++ q ∷ did.0) stops handed in
+    record {
+      bytes = bytes;
+      came_in = came_then g.S.Source.told _ _ _ _ _ _ was.0 found.0 was.2 found.1;
+      asked = (was.1 ++ q ∷ did.0) ++ asked.0;
+      these = subst (λ n. AskedInGroups c.in-Err-served.why sp n bytes ended ((was.1 ++ q ∷ did.0) ++ asked.0)) (did.1.limit ∙ c.next.ensures.limit ∙ i.limit) asked.1;
+      any_moment = λ told.
+          left_longer k part s0 v0 v2 (was.1 ++ q ∷ did.0) asked.0
+          (left_then k part s0 s1 v0 v1 v2 was.1 (q ∷ did.0) (was.4 told) (subst (λ (p : Image → Image). Turned r k p s1 s2 v1 v2 (q ∷ did.0)) i.aside (did.2 told)).any_moment);
+      served = λ told all. absurd (not_answered c.in-Err-served.why stops all);
+      done = λ told is. absurd (not_done c.in-Err-served.why stops is);
+    }
+
+pub returns-in-Ok-finished-clause-ran : goal.returns-in-Ok-finished-clause-ran
+returns-in-Ok-finished-clause-ran g c =
+    let i = c.loop-server.invariant in
+    let was = i.goes in
+    let found = c.in-End.ensures.found was.0 was.1 was.3 in
+    let ended = IsAtEnd g.S.Source.told (g.S.Source.ended c.next.new.source) (g.S.Source.left_bytes c.next.new.source) in
+    let k = spoken g.H.Handler.rules g.R.Replies.voice in
+    let part = g.H.Handler.aside c.args.server.now in
+    let v0 = g.P.Device.view c.args.port in
+    let v1 = g.P.Device.view c.loop-server.disk.port in
+    let v2 = g.P.Device.view c.finish-left.result.0.port in
+    let s0 = g.H.Handler.state c.args.server.now v0.reads in
+    let s1 = g.H.Handler.state c.loop-server.server (cleared v1.reads) in
+    let s2 = g.H.Handler.state c.finish-left.new.server v2.reads in
+    let all : g.P.Device.told → Went k part s0 s2 v0 v2 was.1 = λ told.
+    subst (λ l. Went k part s0 s2 v0 v2 l) (append-nil was.1)
+    (went_then k part s0 s1 s2 v0 v1 v2 was.1 [] (was.4 told) (went k part c.finish-left.result.1 _ s1 s2 v1 v2 [] c.in-Ok-finished.is (subst (λ (p : Image → Image). Turned c.finish-left.result.1 k p s1 s2 v1 v2 []) i.aside (c.finish-left.ensures.did told)))) in
+    record {
+      bytes = was.0 ++ found.0;
+      came_in = came_then g.S.Source.told _ _ _ _ _ _ was.0 found.0 was.2 found.1;
+      asked = was.1;
+      these = subst (λ n. AskedBy status.Done g.R.Protocol.spelling n (was.0 ++ found.0) ended was.1) (c.next.ensures.limit ∙ i.limit) found.2;
+      any_moment = λ told. (all told).any_moment;
+      served = λ told is. (s2, (all told).served);
+      done = λ told is. (all told).served;
+    }
+
+pub returns-in-Err-finished-clause-ran : goal.returns-in-Err-finished-clause-ran
+returns-in-Err-finished-clause-ran g c =
+    let i = c.loop-server.invariant in
+    let was = i.goes in
+    let found = c.in-End.ensures.found was.0 was.1 was.3 in
+    let ended = IsAtEnd g.S.Source.told (g.S.Source.ended c.next.new.source) (g.S.Source.left_bytes c.next.new.source) in
+    let k = spoken g.H.Handler.rules g.R.Replies.voice in
+    let part = g.H.Handler.aside c.args.server.now in
+    let v0 = g.P.Device.view c.args.port in
+    let v1 = g.P.Device.view c.loop-server.disk.port in
+    let v2 = g.P.Device.view c.finish-left.result.0.port in
+    let s0 = g.H.Handler.state c.args.server.now v0.reads in
+    let s1 = g.H.Handler.state c.loop-server.server (cleared v1.reads) in
+    let s2 = g.H.Handler.state c.finish-left.new.server v2.reads in
+    let stops = err_is_if StopsBy c.finish-left.result.1 _ c.in-Err-finished.is c.finish-left.ensures.stops in
+    record {
+      bytes = was.0 ++ found.0;
+      came_in = came_then g.S.Source.told _ _ _ _ _ _ was.0 found.0 was.2 found.1;
+      asked = was.1;
+      these = asked_to_end g.R.Protocol.spelling c.in-Err-finished.why c.args.limit ended (was.0 ++ found.0) was.1 stops (subst (λ n. AskedBy status.Done g.R.Protocol.spelling n (was.0 ++ found.0) ended was.1) (c.next.ensures.limit ∙ i.limit) found.2);
+      any_moment = λ told.
+          subst (λ l. ∥ LeavesOnly v0 v2 (IsLeftByRun k part s0 v0 l) ∥₁) (append-nil was.1)
+          (left_then k part s0 s1 v0 v1 v2 was.1 [] (was.4 told) (subst (λ (p : Image → Image). Turned c.finish-left.result.1 k p s1 s2 v1 v2 []) i.aside (c.finish-left.ensures.did told)).any_moment);
+      served = λ told all. absurd (not_answered c.in-Err-finished.why stops all);
+      done = λ told is. absurd (not_done c.in-Err-finished.why stops is);
+    }
+
+pub returns-in-CutOff-clause-ran : goal.returns-in-CutOff-clause-ran
+returns-in-CutOff-clause-ran g c =
+    let i = c.loop-server.invariant in
+    let was = i.goes in
+    let found = c.in-CutOff.ensures.found was.0 was.1 was.3 in
+    let ended = IsAtEnd g.S.Source.told (g.S.Source.ended c.next.new.source) (g.S.Source.left_bytes c.next.new.source) in
+    record {
+      bytes = was.0 ++ found.0;
+      came_in = came_then g.S.Source.told _ _ _ _ _ _ was.0 found.0 was.2 found.1;
+      asked = was.1;
+      these = subst (λ n. AskedBy status.Truncated g.R.Protocol.spelling n (was.0 ++ found.0) ended was.1) (c.next.ensures.limit ∙ i.limit) found.2;
+      any_moment = λ told. (was.4 told).any_moment;
+      served = λ told all. (_, (was.4 told).served);
+      done = λ told is. absurd (cc);
+    }
+
+pub returns-in-Fault-clause-ran : goal.returns-in-Fault-clause-ran
+returns-in-Fault-clause-ran g c =
+    let i = c.loop-server.invariant in
+    let was = i.goes in
+    let found = c.in-Fault.ensures.found was.0 was.1 was.3 in
+    let ended = IsAtEnd g.S.Source.told (g.S.Source.ended c.next.new.source) (g.S.Source.left_bytes c.next.new.source) in
+    record {
+      bytes = was.0 ++ found.0;
+      came_in = came_then g.S.Source.told _ _ _ _ _ _ was.0 found.0 was.2 found.1;
+      asked = was.1;
+      these = subst (λ n. AskedBy status.SourceFault g.R.Protocol.spelling n (was.0 ++ found.0) ended was.1) (c.next.ensures.limit ∙ i.limit) found.2;
+      any_moment = λ told. (was.4 told).any_moment;
+      served = λ told all. (_, (was.4 told).served);
+      done = λ told is. absurd (cc);
+    }
+
+pub returns-in-TooLong-clause-ran : goal.returns-in-TooLong-clause-ran
+returns-in-TooLong-clause-ran g c =
+    let i = c.loop-server.invariant in
+    let was = i.goes in
+    let found = c.in-TooLong.ensures.found was.0 was.1 was.3 in
+    let ended = IsAtEnd g.S.Source.told (g.S.Source.ended c.next.new.source) (g.S.Source.left_bytes c.next.new.source) in
+    record {
+      bytes = was.0 ++ found.0;
+      came_in = came_then g.S.Source.told _ _ _ _ _ _ was.0 found.0 was.2 found.1;
+      asked = was.1;
+      these = subst (λ n. AskedBy status.TooLong g.R.Protocol.spelling n (was.0 ++ found.0) ended was.1) (c.next.ensures.limit ∙ i.limit) found.2;
+      any_moment = λ told. (was.4 told).any_moment;
+      served = λ told all. (_, (was.4 told).served);
+      done = λ told is. absurd (cc);
+    }

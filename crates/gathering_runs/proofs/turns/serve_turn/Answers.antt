@@ -1,0 +1,46 @@
+use Rattle.std.proofs.Common.{◌∷◌, [], subst}
+use Rattle.image_device.specs.Image.{Image}
+use Rattle.serving.specs.Voice.{spoken}
+use Rattle.gathering.specs.Gathered.{cleared}
+use Rattle.gathering.proofs.Merely.{rested_now}
+use Rattle.gathering_runs.specs.Turns.{Turned}
+use Rattle.gathering_runs.proofs.Ending.{left_longer}
+use Rattle.gathering_runs.proofs.Handing.{hands_none}
+use Rattle.gathering_runs.proofs.Turning.{turned_err, turned_then, went}
+use Rattle.gathering_runs.proofs.turns.serve_turn.Goals as goal
+
+pub serve_group-requires-clause-rests : goal.serve_group-requires-clause-rests
+serve_group-requires-clause-rests g c told = rested_now _ (g.met.P.Device.sound c.args.disk.port told)
+
+pub returns-in-Ok-clause-did : goal.returns-in-Ok-clause-did
+returns-in-Ok-clause-did g c =
+    let k = spoken g.H.Handler.rules g.R.Replies.voice in
+    let part = g.H.Handler.aside c.args.server.now in
+    let e1 = c.settle_in_groups-left.ensures in
+    let r = c.settle_in_groups-left.result.1 in
+    let did = c.serve_settled.ensures.did in
+    let v0 = g.P.Device.view c.args.disk.port in
+    let v1 = g.P.Device.view c.settle_in_groups-left.result.0.port in
+    let v2 = g.P.Device.view c.serve_settled.result.0.port in
+    let s0 = g.H.Handler.state c.args.server.now (cleared v0.reads) in
+    let s1 = g.H.Handler.state c.settle_in_groups-left.new.server (cleared v1.reads) in
+    let s2 = g.H.Handler.state c.serve_settled.new.server (cleared v2.reads) in
+    let q = c.args.request.now in (
+      did.0,
+      did.1,
+      λ told.
+          turned_then k part c.serve_settled.result.1 s0 s1 s2 v0 v1 v2 [] (q ∷ did.0) (went k part r _ s0 s1 v0 v1 [] c.in-Ok.is (e1.did told))
+          (subst (λ (p : Image → Image). Turned c.serve_settled.result.1 k p s1 s2 v1 v2 (q ∷ did.0)) e1.aside (did.2 told)),
+    )
+
+pub returns-in-Err-clause-did : goal.returns-in-Err-clause-did
+returns-in-Err-clause-did g c =
+    let k = spoken g.H.Handler.rules g.R.Replies.voice in
+    let part = g.H.Handler.aside c.args.server.now in
+    let v0 = g.P.Device.view c.args.disk.port in
+    let v1 = g.P.Device.view c.settle_in_groups-left.result.0.port in
+    let s0 = g.H.Handler.state c.args.server.now (cleared v0.reads) in (
+      [],
+      hands_none g.R.Protocol.spelling _ _,
+      λ told. turned_err k part _ s0 _ v0 v1 (c.args.request.now ∷ []) (left_longer k part s0 v0 v1 [] (c.args.request.now ∷ []) (c.settle_in_groups-left.ensures.did told).any_moment),
+    )

@@ -1,0 +1,3 @@
+pub mod Promise
+pub mod Turns
+pub mod Run

@@ -1,0 +1,78 @@
+// A request that no batch holds.
+ghost use Rattle.std.specs.Prelude.{◌≡◌, ◌∷◌, [], OnOk, IfErr};
+ghost use Rattle.image_device.specs.Counts.{CountsFaultOf};
+ghost use Rattle.gathering.specs.Gathered.{cleared, AreClosed};
+ghost use Rattle.serving.specs.Handling.{FitsDevice};
+ghost use Rattle.serving.specs.Voice.{spoken};
+ghost use Rattle.gathering_runs.specs.Turns.{StandsBetween, StopsBy, Turned};
+
+use crate::group::Disk;
+use crate::handler::GroupHandler;
+use image_device::Port;
+use serving::{Protocol, Replies};
+use tsd_model::Request;
+use tsd_words::Status;
+
+/// Carries out a request on the device itself, whose journal is emptied before it and behind it.
+pub(crate) fn serve_direct<P: Port, R: Protocol<Request = Request> + Replies, H: GroupHandler>(
+    server: &mut H,
+    request: &Request,
+    disk: &mut Disk<P>,
+) -> Result<(), Status>
+    requires ready { H.is_ready server.old }
+    requires between { P.told → StandsBetween (H.holds server.old) disk.old.ring (P.view disk.old.port) }
+    ensures did { P.told → Turned result (spoken H.rules R.voice) (H.aside server.old)
+        (H.state server.old (cleared (P.view disk.old.port).reads))
+        (H.state server.new (cleared (P.view disk.new.port).reads)) (P.view disk.old.port) (P.view disk.new.port)
+        (request.now ∷ []) }
+    ensures aside { H.aside server.new ≡ H.aside server.old }
+    ensures ready { OnOk result (H.is_ready server.new) }
+    ensures between { P.told → OnOk result (StandsBetween (H.holds server.new) disk.new.ring (P.view disk.new.port)) }
+    ensures stops { IfErr result StopsBy }
+    ensures device_fault { CountsFaultOf Status.DeviceFault result (P.view disk.old.port).faults
+        (P.view disk.new.port).faults }
+    ensures put_fault { CountsFaultOf Status.PutFault result (P.view disk.old.port).put_faults
+        (P.view disk.new.port).put_faults }
+{
+    if disk.ring.checkpoint(&mut disk.port).is_err() {
+        return Err(Status::DeviceFault);
+    }
+    answer::<P, R, H>(server, request, &mut disk.port)
+}
+
+/// Carries out a request on a device whose journal is closed, sends its reply, does some of what is left to be done,
+/// and closes the journal again.
+fn answer<P: Port, R: Protocol<Request = Request> + Replies, H: GroupHandler>(
+    server: &mut H,
+    request: &Request,
+    port: &mut P,
+) -> Result<(), Status>
+    requires ready { H.is_ready server.old }
+    requires at { P.told → FitsDevice (H.holds server.old) (P.view port.old) }
+    ensures did { P.told → Turned result (spoken H.rules R.voice) (H.aside server.old)
+        (H.state server.old (P.view port.old).reads) (H.state server.new (P.view port.new).reads) (P.view port.old)
+        (P.view port.new) (request.now ∷ []) }
+    ensures aside { H.aside server.new ≡ H.aside server.old }
+    ensures ready { OnOk result (H.is_ready server.new) }
+    ensures at { P.told → OnOk result (FitsDevice (H.holds server.new) (P.view port.new)) }
+    ensures closed { P.told → OnOk result (AreClosed (P.view port.new).reads) }
+    ensures stops { IfErr result StopsBy }
+    ensures device_fault { CountsFaultOf Status.DeviceFault result (P.view port.old).faults (P.view port.new).faults }
+    ensures put_fault { CountsFaultOf Status.PutFault result (P.view port.old).put_faults
+        (P.view port.new).put_faults }
+{
+    let reply = match server.apply(port, request) {
+        Ok(reply) => reply,
+        Err(_) => return Err(Status::DeviceFault),
+    };
+    if R::put_reply(port, &reply).is_err() {
+        return Err(Status::PutFault);
+    }
+    if server.settle_some(port).is_err() {
+        return Err(Status::DeviceFault);
+    }
+    if server.empty_ring(port).is_err() {
+        return Err(Status::DeviceFault);
+    }
+    Ok(())
+}

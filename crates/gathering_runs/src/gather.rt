@@ -1,0 +1,92 @@
+// Requests carried out on a disk in memory.
+ghost use Rattle.std.specs.Prelude.{◌≡◌, ◌<◌, ◌≤◌, ◌++◌, ◌⊎◌, ◌∷◌, [], ℕ, List, Ok, OnOk, OnErr, IfOk, true, unwrap_or};
+ghost use Rattle.image_device.specs.Counts.{Rose};
+ghost use Rattle.gathering.specs.Gathered.{AreClosed};
+ghost use Rattle.serving.specs.Goes.{remaining};
+ghost use Rattle.serving.specs.Handling.{FitsDevice};
+ghost use Rattle.serving.specs.Runs.{Served};
+ghost use Rattle.serving.specs.Voice.{spoken};
+ghost use Rattle.gathering_runs.specs.Turns.{HandsOut, waits_by};
+ghost use Rattle.tsd_model.specs.declared.requests.Request.{Request as Asked};
+
+use crate::handler::GroupHandler;
+use crate::room::HasRoom;
+use crate::settle::settle_few;
+use image_device::{Failed, Port};
+use serving::{Intake, Protocol, Replies};
+use tsd_model::Request;
+
+/// How many steps of reclamation are made behind a request at most.
+const STEPS: u32 = 4;
+
+/// Carries out the request that stands in the room, and then those behind it that lie there, as long as they fit;
+/// whether one waits in the room then. `Failed` comes only where a count rose.
+pub(crate) fn gather<R: Protocol<Request = Request> + Replies, H: GroupHandler, G: Port + HasRoom>(
+    server: &mut H,
+    protocol: &mut R,
+    intake: &mut Intake,
+    request: &mut Request,
+    port: &mut G,
+) -> Result<bool, Failed>
+    requires ready { H.is_ready server.old }
+    requires at { G.told → FitsDevice (H.holds server.old) (G.view port.old) }
+    // Behind the first request these were handed out and answered, or the last of them failed.
+    ensures did { (done : List Asked) × HandsOut R.spelling (λ x. R.was_fed x protocol.old)
+        (λ x. R.was_fed x protocol.new) intake.old intake.new (done ++ waits_by result request.new)
+        × (G.told → OnOk result (Served (spoken H.rules R.voice) (H.state server.old (G.view port.old).reads)
+        (G.view port.old).sent (request.old ∷ done) (H.state server.new (G.view port.new).reads)
+        (G.view port.new).sent)) }
+    ensures less { IfOk result (λ waits. waits ≡ true → remaining intake.new < remaining intake.old) }
+    ensures fewer { remaining intake.new ≤ remaining intake.old }
+    ensures aside { H.aside server.new ≡ H.aside server.old }
+    ensures ready { OnOk result (H.is_ready server.new) }
+    ensures at { G.told → OnOk result (FitsDevice (H.holds server.new) (G.view port.new)) }
+    ensures closed { G.told → OnOk result (AreClosed (G.view port.new).reads) }
+    ensures part { G.told → OnOk result (H.aside server.old (G.view port.new).reads
+        ≡ H.aside server.old (G.view port.old).reads) }
+    ensures failed { OnErr result (Rose (G.view port.old).faults (G.view port.new).faults
+        ⊎ Rose (G.view port.old).put_faults (G.view port.new).put_faults) }
+{
+    loop {
+        if carry_out::<R, H, G>(server, port, request).is_err() {
+            return Err(Failed);
+        }
+        if !intake.next_held(protocol, request) {
+            return Ok(false);
+        }
+        if !port.has_room(server.homes(request)) {
+            return Ok(true);
+        }
+    }
+}
+
+/// Carries out a request, and puts its reply. The journal is closed behind it. `Failed` comes only where a count rose.
+fn carry_out<R: Protocol<Request = Request> + Replies, H: GroupHandler, G: Port + HasRoom>(
+    server: &mut H,
+    port: &mut G,
+    request: &Request,
+) -> Result<(), Failed>
+    requires ready { H.is_ready server.old }
+    requires at { G.told → FitsDevice (H.holds server.old) (G.view port.old) }
+    ensures answered { G.told → OnOk result ((answer : List ℕ) × (spoken H.rules R.voice).gives
+        (H.state server.old (G.view port.old).reads) request.now answer (H.state server.new (G.view port.new).reads)
+        × ((G.view port.new).sent ≡ (G.view port.old).sent ++ answer)) }
+    ensures aside { H.aside server.new ≡ H.aside server.old }
+    ensures ready { OnOk result (H.is_ready server.new) }
+    ensures at { G.told → OnOk result (FitsDevice (H.holds server.new) (G.view port.new)) }
+    ensures closed { G.told → OnOk result (AreClosed (G.view port.new).reads) }
+    ensures part { G.told → OnOk result (H.aside server.old (G.view port.new).reads
+        ≡ H.aside server.old (G.view port.old).reads) }
+    ensures faults { OnOk result ((G.view port.new).faults ≡ (G.view port.old).faults) }
+    ensures put_faults { OnOk result ((G.view port.new).put_faults ≡ (G.view port.old).put_faults) }
+    ensures failed { OnErr result (Rose (G.view port.old).faults (G.view port.new).faults
+        ⊎ Rose (G.view port.old).put_faults (G.view port.new).put_faults) }
+{
+    let reply = server.apply(port, request)?;
+    R::put_reply(port, &reply)?;
+    server.empty_ring(port)?;
+    match settle_few(server, port, STEPS) {
+        Ok(_) => Ok(()),
+        Err(failed) => Err(failed),
+    }
+}

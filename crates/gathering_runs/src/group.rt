@@ -1,0 +1,93 @@
+// One group, from its first request to its flush.
+ghost use Rattle.std.specs.Prelude.{◌≡◌, ◌<◌, ◌≤◌, ◌++◌, ◌∷◌, [], List, OnOk, IfOk, IfErr, true};
+ghost use Rattle.image_device.specs.Calls.{Uses};
+ghost use Rattle.image_device.specs.Counts.{CountsFaultOf};
+ghost use Rattle.gathering.specs.Gathered.{cleared, HasRested};
+ghost use Rattle.serving.specs.Goes.{remaining};
+ghost use Rattle.serving.specs.Voice.{spoken};
+ghost use Rattle.gathering_runs.specs.Turns.{HandsOut, StandsBetween, StopsBy, Turned, waits_by, status_by};
+ghost use Rattle.tsd_model.specs.declared.requests.Request.{Request as Asked};
+
+use crate::gather::gather;
+use crate::handler::GroupHandler;
+use gathering::{Began, FlushFault, Flushed, Gather};
+use image_device::Port;
+use intent_journal::{Batch, Ring};
+use serving::{Intake, Protocol, Replies};
+use std::alloc::Global;
+use tsd_model::Request;
+use tsd_words::Status;
+
+/// The device, the records that are on it and not in place yet, and room for a batch.
+#[derive(Drop)]
+pub(crate) struct Disk<P: Port> {
+    pub(crate) port: P,
+    pub(crate) ring: Ring,
+    pub(crate) batch: Batch,
+}
+
+/// Carries out requests as one group, from the one that stands in the room on, and commits them; whether a request
+/// waits in the room then.
+pub(crate) fn serve_group<
+    P: Port,
+    R: Protocol<Request = Request> + Replies,
+    H: GroupHandler,
+    K: Began,
+>(
+    alloc: Global,
+    server: &mut H,
+    protocol: &mut R,
+    intake: &mut Intake,
+    request: &mut Request,
+    disk: Disk<P>,
+) -> (Disk<P>, Result<bool, Status>)
+    requires rests { P.told → HasRested K.start (P.view disk.port) }
+    requires counts { Uses 0 K.start (P.view disk.port) }
+    requires faults { (P.view disk.port).faults ≡ K.start.faults }
+    requires ready { H.is_ready server.old }
+    requires between { P.told → StandsBetween (H.holds server.old) disk.ring K.start }
+    ensures did { (done : List Asked) × HandsOut R.spelling (λ x. R.was_fed x protocol.old)
+        (λ x. R.was_fed x protocol.new) intake.old intake.new (done ++ waits_by result.1 request.new)
+        × (P.told → Turned result.1 (spoken H.rules R.voice) (H.aside server.old)
+        (H.state server.old (cleared K.start.reads)) (H.state server.new (cleared (P.view result.0.port).reads)) K.start
+        (P.view result.0.port) (request.old ∷ done)) }
+    ensures less { IfOk result.1 (λ waits. waits ≡ true → remaining intake.new < remaining intake.old) }
+    ensures fewer { remaining intake.new ≤ remaining intake.old }
+    ensures aside { H.aside server.new ≡ H.aside server.old }
+    ensures ready { OnOk result.1 (H.is_ready server.new) }
+    ensures between { P.told → OnOk result.1 (StandsBetween (H.holds server.new) result.0.ring
+        (P.view result.0.port)) }
+    ensures stops { IfErr result.1 StopsBy }
+    ensures device_fault { CountsFaultOf Status.DeviceFault result.1 K.start.faults (P.view result.0.port).faults }
+    ensures put_fault { CountsFaultOf Status.PutFault result.1 K.start.put_faults (P.view result.0.port).put_faults }
+{
+    let Disk { port, ring, batch } = disk;
+    let mut gathering = Gather::<P, K>::new(alloc, port, ring, batch);
+    let gathered = gather::<R, H, Gather<P, K>>(server, protocol, intake, request, &mut gathering);
+    let Flushed {
+        inner,
+        ring,
+        batch,
+        result,
+    } = gathering.flush();
+    let disk = Disk {
+        port: inner,
+        ring,
+        batch,
+    };
+    match result {
+        Ok(()) => (disk, Ok(gathered.unwrap_or(false))),
+        Err(fault) => (disk, Err(status_of(fault))),
+    }
+}
+
+/// The status that tells of a fault.
+pub(crate) fn status_of(fault: FlushFault) -> Status
+    ensures { result ≡ status_by fault }
+{
+    match fault {
+        FlushFault::Device => Status::DeviceFault,
+        FlushFault::Put => Status::PutFault,
+        FlushFault::Room => Status::NoMemory,
+    }
+}

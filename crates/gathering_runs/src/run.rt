@@ -1,0 +1,193 @@
+//! The loop over an input.
+
+ghost use Rattle.std.specs.Prelude.{◌≡◌, ◌≢◌, ◌≤◌, [], OnOk, IfOk, IfErr};
+ghost use Rattle.image_device.specs.Counts.{CountsFaultOf, Rose};
+ghost use Rattle.gathering.specs.Gathered.{cleared};
+ghost use Rattle.serving.specs.Handling.{FitsDevice};
+ghost use Rattle.serving.specs.Ran.{EndsOnce, moments, taking};
+ghost use Rattle.serving.specs.Voice.{spoken};
+ghost use Rattle.gathering_runs.specs.Run.{RanInGroups};
+ghost use Rattle.gathering_runs.specs.Turns.{StandsBetween, StopsBy, Turned};
+
+use crate::group::Disk;
+use crate::handler::GroupHandler;
+use crate::settle::settle_in_groups;
+use crate::turns::serve_in_hand;
+use image_device::{Port, Source};
+use intent_journal::{Batch, Ring};
+use serving::{INPUT_MAX, Intake, Next, Protocol, Replies};
+use std::alloc::Global;
+use tsd_model::Request;
+use tsd_words::Status;
+
+/// Serves the requests of an input until it ends, in groups: those that lie there together are committed as one batch,
+/// and then their replies are sent. In the end all that is left to be done is done.
+///
+/// The status is Done, or SourceFault, DeviceFault or PutFault where that count rose, NoMemory where none was found or
+/// a group had no room, TooLong where a byte after the first `limit` came, or Truncated where the input ended inside a
+/// request.
+///
+/// That no reply waits for a further take is shown by the code, and no clause says it.
+pub fn serve_in_groups<
+    S: Source,
+    P: Port,
+    R: Protocol<Request = Request> + Replies,
+    H: GroupHandler,
+>(
+    alloc: Global,
+    server: &mut H,
+    protocol: &mut R,
+    source: &mut S,
+    port: P,
+    limit: u64,
+) -> (P, Status)
+    requires few { limit ≤ INPUT_MAX }
+    requires fresh { R.was_fed [] protocol.old }
+    requires ready { H.is_ready server.old }
+    requires at { P.told → FitsDevice (H.holds server.old) (P.view port) }
+    // What came in and what was sent, by status; and where the device tells, what a crash at any moment may have left.
+    ensures ran { RanInGroups result.1 (spoken H.rules R.voice) R.spelling (H.aside server.old)
+        (H.state server.old (P.view port).reads) (H.state server.new (P.view result.0).reads) limit
+        (taking S.told S.taken S.left_bytes S.ended source.old source.new) (moments P.told P.view port result.0) }
+    ensures at { result.1 ≡ Status.Done → P.told → FitsDevice (H.holds server.new) (P.view result.0) }
+    ensures closed { result.1 ≡ Status.Done → P.told → H.is_closed (P.view result.0).reads }
+    // Nothing more is taken once the end was found.
+    ensures once { EndsOnce (S.ends source.old) (S.ends source.new) }
+    // A count of faults rose only where the status is that fault's.
+    ensures source_fault { result.1 ≡ Status.SourceFault → Rose (S.faults source.old) (S.faults source.new) }
+    ensures device_fault { result.1 ≡ Status.DeviceFault → Rose (P.view port).faults (P.view result.0).faults }
+    ensures put_fault { result.1 ≡ Status.PutFault → Rose (P.view port).put_faults (P.view result.0).put_faults }
+    ensures no_source_fault { result.1 ≢ Status.SourceFault → S.faults source.new ≡ S.faults source.old }
+    ensures no_device_fault { result.1 ≢ Status.DeviceFault → (P.view result.0).faults ≡ (P.view port).faults }
+    ensures no_put_fault { result.1 ≢ Status.PutFault → (P.view result.0).put_faults ≡ (P.view port).put_faults }
+{
+    let mut port = port;
+    let (ring, batch) = match begin::<P, R, H>(alloc, server, &mut port) {
+        Ok(rooms) => rooms,
+        Err(why) => return (port, why),
+    };
+    let mut disk = Disk { port, ring, batch };
+    let mut intake = Intake::new(limit);
+    let mut request = Request::Bad;
+    loop {
+        match intake.next::<S, R>(protocol, source, &mut request) {
+            Next::Request => {
+                let (left, served) = serve_in_hand::<P, R, H>(
+                    alloc,
+                    server,
+                    protocol,
+                    &mut intake,
+                    &mut request,
+                    disk,
+                );
+                disk = left;
+                match served {
+                    Ok(()) => {}
+                    Err(why) => return (disk.port, why),
+                }
+            }
+            Next::End => {
+                let (left, finished) = finish::<P, R, H>(alloc, server, disk);
+                match finished {
+                    Ok(()) => return (left.port, Status::Done),
+                    Err(why) => return (left.port, why),
+                }
+            }
+            Next::CutOff => return (disk.port, Status::Truncated),
+            Next::Fault => return (disk.port, Status::SourceFault),
+            Next::TooLong => return (disk.port, Status::TooLong),
+        }
+    }
+}
+
+/// Empties the journal of the device, and finds room for groups.
+fn begin<P: Port, R: Protocol<Request = Request> + Replies, H: GroupHandler>(
+    alloc: Global,
+    server: &mut H,
+    port: &mut P,
+) -> Result<(Ring, Batch), Status>
+    requires ready { H.is_ready server.old }
+    requires at { P.told → FitsDevice (H.holds server.old) (P.view port.old) }
+    ensures did { P.told → Turned result (spoken H.rules R.voice) (H.aside server.old)
+        (H.state server.old (P.view port.old).reads) (H.state server.new (cleared (P.view port.new).reads))
+        (P.view port.old) (P.view port.new) [] }
+    ensures aside { H.aside server.new ≡ H.aside server.old }
+    ensures ready { OnOk result (H.is_ready server.new) }
+    ensures between { P.told → IfOk result (λ rooms. StandsBetween (H.holds server.new) rooms.0 (P.view port.new)) }
+    ensures stops { IfErr result StopsBy }
+    ensures device_fault { CountsFaultOf Status.DeviceFault result (P.view port.old).faults (P.view port.new).faults }
+    ensures put_fault { CountsFaultOf Status.PutFault result (P.view port.old).put_faults
+        (P.view port.new).put_faults }
+{
+    let ring = match Ring::new(alloc) {
+        Ok(ring) => ring,
+        Err(_) => return Err(Status::NoMemory),
+    };
+    let batch = match Batch::new(alloc) {
+        Ok(batch) => batch,
+        Err(_) => return Err(Status::NoMemory),
+    };
+    match server.empty_ring(port) {
+        Ok(()) => Ok((ring, batch)),
+        Err(_) => Err(Status::DeviceFault),
+    }
+}
+
+/// Does all that is left to be done, in groups, and puts all records of the journal in place.
+fn finish<P: Port, R: Protocol<Request = Request> + Replies, H: GroupHandler>(
+    alloc: Global,
+    server: &mut H,
+    disk: Disk<P>,
+) -> (Disk<P>, Result<(), Status>)
+    requires ready { H.is_ready server.old }
+    requires between { P.told → StandsBetween (H.holds server.old) disk.ring (P.view disk.port) }
+    ensures did { P.told → Turned result.1 (spoken H.rules R.voice) (H.aside server.old)
+        (H.state server.old (cleared (P.view disk.port).reads)) (H.state server.new (P.view result.0.port).reads)
+        (P.view disk.port) (P.view result.0.port) [] }
+    ensures aside { H.aside server.new ≡ H.aside server.old }
+    ensures at { P.told → OnOk result.1 (FitsDevice (H.holds server.new) (P.view result.0.port)) }
+    ensures closed { P.told → OnOk result.1 (H.is_closed (P.view result.0.port).reads) }
+    ensures stops { IfErr result.1 StopsBy }
+    ensures device_fault { CountsFaultOf Status.DeviceFault result.1 (P.view disk.port).faults
+        (P.view result.0.port).faults }
+    ensures put_fault { CountsFaultOf Status.PutFault result.1 (P.view disk.port).put_faults
+        (P.view result.0.port).put_faults }
+{
+    let (left, settled) = settle_in_groups::<P, R, H>(alloc, server, disk);
+    match settled {
+        Ok(()) => {
+            let mut disk = left;
+            let closed = close::<P, R, H>(server, &mut disk);
+            (disk, closed)
+        }
+        Err(why) => (left, Err(why)),
+    }
+}
+
+/// Puts all records of the journal in place, on the device itself; where something is left to be done, it does that.
+fn close<P: Port, R: Protocol<Request = Request> + Replies, H: GroupHandler>(
+    server: &mut H,
+    disk: &mut Disk<P>,
+) -> Result<(), Status>
+    requires ready { H.is_ready server.old }
+    requires between { P.told → StandsBetween (H.holds server.old) disk.old.ring (P.view disk.old.port) }
+    ensures did { P.told → Turned result (spoken H.rules R.voice) (H.aside server.old)
+        (H.state server.old (cleared (P.view disk.old.port).reads)) (H.state server.new (P.view disk.new.port).reads)
+        (P.view disk.old.port) (P.view disk.new.port) [] }
+    ensures aside { H.aside server.new ≡ H.aside server.old }
+    ensures at { P.told → OnOk result (FitsDevice (H.holds server.new) (P.view disk.new.port)) }
+    ensures closed { P.told → OnOk result (H.is_closed (P.view disk.new.port).reads) }
+    ensures stops { IfErr result StopsBy }
+    ensures device_fault { CountsFaultOf Status.DeviceFault result (P.view disk.old.port).faults
+        (P.view disk.new.port).faults }
+    ensures put_fault { CountsFaultOf Status.PutFault result (P.view disk.old.port).put_faults
+        (P.view disk.new.port).put_faults }
+{
+    if disk.ring.checkpoint(&mut disk.port).is_err() {
+        return Err(Status::DeviceFault);
+    }
+    match server.close(&mut disk.port) {
+        Ok(()) => Ok(()),
+        Err(_) => Err(Status::DeviceFault),
+    }
+}

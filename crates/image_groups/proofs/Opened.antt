@@ -1,0 +1,107 @@
+-- A disk that was opened, and a run in groups from there as one from the start.
+use Rattle.std.proofs.Common.{◌≡◌, ℕ, List, [], refl, sym, ◌∙◌, subst, append-nil}
+use Rattle.std.proofs.Math.Logic.{∥∥₁_elim}
+use Rattle.std.specs.Prelude.{Result, Ok, Err}
+use Rattle.tsd_model.specs.World.{World}
+use Rattle.tsd_model.specs.declared.requests.PlaceKind.{PlaceKind}
+use Rattle.tsd_model.specs.declared.requests.Request.{Request}
+use Rattle.image_device.specs.Runs.{IsFirm, LeavesOnly}
+use Rattle.image_device.specs.View.{View}
+use Rattle.image_device.proofs.Moments.{joined, weakened}
+use Rattle.image_layout.specs.Image.{Image}
+use Rattle.image_world.specs.Faults.{IsGood}
+use Rattle.image_world.specs.Stands.{Stands, world_of}
+use Rattle.recovery.specs.Opening.{StandAlike}
+use Rattle.tsd_words.specs.declared.status.Status.{Status}
+use Rattle.tsd_words.specs.declared.status.Status.TheVariants as status
+use Rattle.serving.specs.Input.{Spelling}
+use Rattle.serving.specs.ModelRules.{Placed}
+use Rattle.serving.specs.Runs.{Served}
+use Rattle.serving.specs.Voice.{Voice}
+use Rattle.image_runs.specs.Opened.{IsJudged, IsNotImage, IsUnopened}
+use Rattle.image_runs.specs.Served.{disk_service, start_of, IsAtEase}
+use Rattle.gathering_runs.specs.Promise.{IsLeftByRun, IsOfPrefix}
+use Rattle.gathering_runs.specs.Run.{AnsweredAll, AskedInGroups}
+use Rattle.image_groups.specs.Served.{GroupsEnd}
+
+module _ (v : Voice) (kind : PlaceKind) (old mid : View) (qs : List Request) (opens : IsFirm old → LeavesOnly old mid (λ x f. StandAlike old.reads x × (f ≡ old.sent))) where
+  -- what is left while an image is opened
+  opening_left : IsFirm old → (w : World) → Stands old.reads w → LeavesOnly old mid (IsOfPrefix (disk_service v) (start_of kind old.reads) old.sent qs)
+  opening_left firm w stands =
+      let own : Stands old.reads (world_of old.reads) = record { good = stands.good; world = refl } in
+      weakened old mid _ _ (opens firm) (λ x f left. record {
+        first = [];
+        rest = qs;
+        parts = refl;
+        answers = [];
+        state = start_of kind old.reads;
+        run = refl;
+        stands = (left.0 (world_of old.reads)).0 own;
+        sent = record { front = []; back = []; sent = left.1 ∙ sym (append-nil old.sent); whole = refl };
+      })
+
+  pub ends_opened : (r : Status) (new : View) (s now : Placed) (part : Image → Image) → s ≡ start_of kind old.reads → mid.sent ≡ old.sent
+      → ∥ LeavesOnly mid new (IsLeftByRun (disk_service v) part s mid qs) ∥₁
+      → (AnsweredAll r → (final : Placed) × Served (disk_service v) s mid.sent qs final new.sent)
+      → (r ≡ status.Done → Served (disk_service v) s mid.sent qs now new.sent)
+      → (r ≡ status.Done → IsAtEase new now.state.world)
+      → GroupsEnd r v kind old new qs
+  ends_opened r new s now part at sent moments served done ease =
+      let start = start_of kind old.reads in
+      let P = IsOfPrefix (disk_service v) start old.sent qs in
+      record {
+        any_moment = λ firm w stands.
+            let prop : IsProp (∥ LeavesOnly old new P ∥₁) = hlevel in
+            ∥∥₁_elim moments prop (λ (run : LeavesOnly mid new (IsLeftByRun (disk_service v) part s mid qs)).
+            ∣ joined old mid new P (IsLeftByRun (disk_service v) part s mid qs) (opening_left firm w stands) run (λ x f left.
+            subst (λ (b : List ℕ). IsOfPrefix (disk_service v) start b qs x f) sent (subst (λ (p : Placed). IsOfPrefix (disk_service v) p mid.sent qs x f) at left.0)) ∣₁);
+        served = λ all. let it = served all in (it.0, here it.0 it.1);
+        done = λ is. (now, here now (done is), ease is);
+      }
+    where
+      here : (final : Placed) → Served (disk_service v) s mid.sent qs final new.sent → Served (disk_service v) (start_of kind old.reads) old.sent qs final new.sent
+      here final it = subst (λ (b : List ℕ). Served (disk_service v) (start_of kind old.reads) b qs final new.sent) sent (subst (λ (p : Placed). Served (disk_service v) p mid.sent qs final new.sent) at it)
+
+  -- nothing was opened, and nothing asked
+  pub ends_unopened : (r : Status) → qs ≡ [] → mid.sent ≡ old.sent → IsUnopened r → GroupsEnd r v kind old mid qs
+  ends_unopened r none sent why =
+      let served : Served (disk_service v) (start_of kind old.reads) old.sent qs (start_of kind old.reads) mid.sent =
+      subst (λ (l : List Request). Served (disk_service v) (start_of kind old.reads) old.sent l (start_of kind old.reads) mid.sent) (sym none) (record { answers = []; run = refl; sent = sent ∙ sym (append-nil old.sent) }) in
+      record {
+        any_moment = λ firm w stands. ∣ opening_left firm w stands ∣₁;
+        served = λ all. (start_of kind old.reads, served);
+        done = λ is. absurd (subst IsUnopened is why);
+      }
+
+-- what is Ok is no error
+abbrev was_ok : {T E : Type 0} → Result T E → Type 0
+was_ok (Ok x) = Unit {0}
+was_ok (Err e) = ⊥
+
+pub ok_no_err : {T E : Type 0} (x : T) (e : E) → ◌≡◌ {A = Result T E} (Ok x) (Err e) → ⊥
+ok_no_err x e is = subst was_ok is tt
+
+-- a loop's status comes of a disk that was opened
+pub judged_groups : (image : Image) (r : Status) (p : Spelling Request) (limit : ℕ) (bytes : List ℕ) (ended : Type 0) (qs : List Request) → AskedInGroups r p limit bytes ended qs → IsGood image → IsJudged image r
+judged_groups image status.Done p limit bytes ended qs h good = good
+judged_groups image status.SourceFault p limit bytes ended qs h good = good
+judged_groups image status.PutFault p limit bytes ended qs h good = good
+judged_groups image status.TooLong p limit bytes ended qs h good = good
+judged_groups image status.Truncated p limit bytes ended qs h good = good
+judged_groups image status.DeviceFault p limit bytes ended qs h good = tt
+judged_groups image status.NoMemory p limit bytes ended qs h good = tt
+judged_groups image (status.NotImage reason) p limit bytes ended qs h good = absurd h
+judged_groups image status.Usage p limit bytes ended qs h good = absurd h
+judged_groups image (status.RootDenied level) p limit bytes ended qs h good = absurd h
+
+pub asked_groups : (r : Status) (p : Spelling Request) (limit : ℕ) (bytes : List ℕ) (ended : Type 0) (qs : List Request) → AskedInGroups r p limit bytes ended qs → IsNotImage r → ⊥
+asked_groups (status.NotImage reason) p limit bytes ended qs asked h = asked
+asked_groups status.Done p limit bytes ended qs asked h = h
+asked_groups status.SourceFault p limit bytes ended qs asked h = h
+asked_groups status.PutFault p limit bytes ended qs asked h = h
+asked_groups status.TooLong p limit bytes ended qs asked h = h
+asked_groups status.Truncated p limit bytes ended qs asked h = h
+asked_groups status.DeviceFault p limit bytes ended qs asked h = h
+asked_groups status.NoMemory p limit bytes ended qs asked h = h
+asked_groups status.Usage p limit bytes ended qs asked h = h
+asked_groups (status.RootDenied level) p limit bytes ended qs asked h = h

@@ -1,0 +1,87 @@
+use Rattle.std.proofs.Common.{inl, inr, ℕ, [], refl, sym, ◌∙◌, ap, subst, append-nil, arith}
+use Rattle.std.specs.Prelude.{Err}
+use Rattle.image_runs.proofs.Common.{Rose, Status, behind}
+use Rattle.image_runs.proofs.Opened.{not_foreign}
+use Rattle.image_runs.proofs.Started.{placed_at, not_of_source, not_of_put}
+use Rattle.image_groups.proofs.Opened.{asked_groups, ends_opened, ends_unopened, judged_groups, ok_no_err}
+use Rattle.image_groups.proofs.run.serve_image_in_groups.Goals as goal
+
+pub returns-in-Ok-clause-read : goal.returns-in-Ok-clause-read
+returns-in-Ok-clause-read g c told =
+    let ran = c.serve_in_groups.ensures.ran in
+    judged_groups (g.P.Device.view c.args.port).reads c.serve_in_groups.result.1 g.R.Protocol.spelling c.args.limit ran.bytes _ ran.asked ran.these (c.in-Ok.ensures.read told)
+
+pub returns-in-Ok-clause-ran : goal.returns-in-Ok-clause-ran
+returns-in-Ok-clause-ran g c =
+    let ran = c.serve_in_groups.ensures.ran in
+    let old = g.P.Device.view c.args.port in
+    let mid = g.P.Device.view c.open_core.new.dev in
+    record {
+      bytes = ran.bytes;
+      came_in = ran.came_in;
+      asked = ran.asked;
+      these = inr ran.these;
+      ends = λ told.
+          ends_opened g.R.Replies.voice c.args.placement.now.kind old mid ran.asked (c.open_core.ensures.any_moment told) c.serve_in_groups.result.1 (g.P.Device.view c.serve_in_groups.result.0) _ _ (behind c.in-Ok.core.volume.tables.geometry)
+          (placed_at c.args.placement.now.kind c.in-Ok.core mid.reads _ (c.in-Ok.ensures.state told)) (c.open_core.ensures.sent told)
+          (ran.any_moment told) (ran.served told) (ran.done told)
+          (λ done.
+          let at = c.serve_in_groups.ensures.at done told in
+          record { firm = at.0; stands = record { good = at.1.good; world = refl }; quiet = c.serve_in_groups.ensures.closed done told });
+    }
+
+pub returns-in-Ok-clause-device_fault : goal.returns-in-Ok-clause-device_fault
+returns-in-Ok-clause-device_fault g c e = subst (λ (n : ℕ). Rose n (g.P.Device.view c.serve_in_groups.result.0).faults) (c.in-Ok.ensures.faults.1 (λ e. ok_no_err _ _ e)) (c.serve_in_groups.ensures.device_fault e)
+
+pub returns-in-Ok-clause-put_fault : goal.returns-in-Ok-clause-put_fault
+returns-in-Ok-clause-put_fault g c e = subst (λ (n : ℕ). Rose n (g.P.Device.view c.serve_in_groups.result.0).put_faults) c.open_core.ensures.works.put_faults (c.serve_in_groups.ensures.put_fault e)
+
+pub returns-in-Ok-clause-no_device_fault : goal.returns-in-Ok-clause-no_device_fault
+returns-in-Ok-clause-no_device_fault g c other = c.serve_in_groups.ensures.no_device_fault other ∙ c.in-Ok.ensures.faults.1 (λ e. ok_no_err _ _ e)
+
+pub returns-in-Ok-clause-no_put_fault : goal.returns-in-Ok-clause-no_put_fault
+returns-in-Ok-clause-no_put_fault g c other = c.serve_in_groups.ensures.no_put_fault other ∙ c.open_core.ensures.works.put_faults
+
+pub returns-in-Ok-clause-untouched : goal.returns-in-Ok-clause-untouched
+returns-in-Ok-clause-untouched g c told foreign = absurd (not_foreign _ (c.in-Ok.ensures.read told) foreign)
+
+pub returns-in-Ok-clause-spared : goal.returns-in-Ok-clause-spared
+returns-in-Ok-clause-spared g c told h =
+    let ran = c.serve_in_groups.ensures.ran in
+    absurd (asked_groups c.serve_in_groups.result.1 g.R.Protocol.spelling c.args.limit ran.bytes _ ran.asked ran.these h)
+
+pub returns-in-Err-clause-read : goal.returns-in-Err-clause-read
+returns-in-Err-clause-read g c = c.in-Err.ensures.read
+
+pub returns-in-Err-clause-ran : goal.returns-in-Err-clause-ran
+returns-in-Err-clause-ran g c =
+    let old = g.P.Device.view c.args.port in
+    let now = g.P.Device.view c.open_core.new.dev in
+    record {
+      bytes = [];
+      came_in = record { taken = λ tells. sym (append-nil _); left = λ tells. refl };
+      asked = [];
+      these = inl (record { why = c.in-Err.ensures.stops; untouched = refl; none = refl; sent = c.open_core.ensures.sent; alike = c.open_core.ensures.any_moment });
+      ends = λ told. ends_unopened g.R.Replies.voice c.args.placement.now.kind old now [] (c.open_core.ensures.any_moment told) c.in-Err.why refl (c.open_core.ensures.sent told) c.in-Err.ensures.stops;
+    }
+
+pub returns-in-Err-clause-source_fault : goal.returns-in-Err-clause-source_fault
+returns-in-Err-clause-source_fault g c e = absurd (not_of_source c.in-Err.why c.in-Err.ensures.stops e)
+
+pub returns-in-Err-clause-device_fault : goal.returns-in-Err-clause-device_fault
+returns-in-Err-clause-device_fault g c e = c.in-Err.ensures.faults.0 (ap (λ (w : Status). Err w) e)
+
+pub returns-in-Err-clause-put_fault : goal.returns-in-Err-clause-put_fault
+returns-in-Err-clause-put_fault g c e = absurd (not_of_put c.in-Err.why c.in-Err.ensures.stops e)
+
+pub returns-in-Err-clause-no_device_fault : goal.returns-in-Err-clause-no_device_fault
+returns-in-Err-clause-no_device_fault g c other = c.in-Err.ensures.faults.1 (λ e. other (cc))
+
+pub returns-in-Err-clause-no_put_fault : goal.returns-in-Err-clause-no_put_fault
+returns-in-Err-clause-no_put_fault g c other = c.open_core.ensures.works.put_faults
+
+pub returns-in-Err-clause-untouched : goal.returns-in-Err-clause-untouched
+returns-in-Err-clause-untouched g c = c.open_core.ensures.untouched
+
+pub returns-in-Err-clause-spared : goal.returns-in-Err-clause-spared
+returns-in-Err-clause-spared g c told h = c.in-Err.ensures.spared told h

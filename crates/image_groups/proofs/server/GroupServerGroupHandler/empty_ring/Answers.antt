@@ -1,0 +1,6 @@
+use Rattle.std.proofs.Common.{ap}
+use Rattle.image_runs.proofs.Common.{behind}
+use Rattle.image_groups.proofs.server.GroupServerGroupHandler.empty_ring.Goals as goal
+
+pub returns-clause-aside : goal.returns-clause-aside
+returns-clause-aside g c = ap behind c.empty_ring.ensures.size.geometry

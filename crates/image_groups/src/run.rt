@@ -1,0 +1,67 @@
+//! An image opened and served in groups.
+
+ghost use Rattle.std.specs.Prelude.{◌≡◌, ◌≢◌, ◌≤◌, []};
+ghost use Rattle.image_device.specs.Counts.{Rose};
+ghost use Rattle.recovery.specs.Opening.{IsForeign, IsSpared, IsUntouched};
+ghost use Rattle.serving.specs.Ran.{EndsOnce, moments, taking};
+ghost use Rattle.image_runs.specs.Opened.{IsJudged, IsNotImage};
+ghost use Rattle.image_groups.specs.Served.{ImageRanInGroups};
+
+use crate::server::GroupServer;
+use gathering_runs::serve_in_groups;
+use image_device::{Port, Source};
+use image_runs::open_core;
+use place_policy::Placement;
+use serving::{INPUT_MAX, Protocol, Replies};
+use std::alloc::Global;
+use tsd_model::Request;
+use tsd_words::Status;
+
+/// Opens an image and serves the requests of an input until it ends, with no session open at the start: those that lie
+/// there together are committed as one batch, and then their replies are sent. Free blocks are taken by `placement`,
+/// and at most `limit` bytes are served. It gives the port back.
+///
+/// The status is NotImage where the image stands for no world, NoMemory where none was found or a group had no room,
+/// DeviceFault where that count rose, or else how the loop ended: Done, SourceFault or PutFault where that count rose,
+/// TooLong, or Truncated.
+pub fn serve_image_in_groups<S: Source, P: Port, R: Protocol<Request = Request> + Replies>(
+    alloc: Global,
+    placement: &Placement,
+    protocol: &mut R,
+    source: &mut S,
+    port: P,
+    limit: u64,
+) -> (P, Status)
+    requires few { limit ≤ INPUT_MAX }
+    requires fresh { R.was_fed [] protocol.old }
+    ensures read { P.told → IsJudged (P.view port).reads result.1 }
+    // What came in and what was sent, by status; what a crash at any moment may have left; and what the disk is after
+    // Done.
+    ensures ran { ImageRanInGroups result.1 R.voice R.spelling placement.now.kind limit
+        (taking S.told S.taken S.left_bytes S.ended source.old source.new) (moments P.told P.view port result.0) }
+    // Where the image fails one of the tests that need no write, nothing is written, and the disk reads as before;
+    // where it fails another, nothing is lost that a repair could use.
+    ensures untouched { P.told → IsForeign (P.view port).reads → IsUntouched (P.view port) (P.view result.0) }
+    ensures spared { P.told → IsNotImage result.1 → IsSpared (P.view port) (P.view result.0) }
+    ensures once { EndsOnce (S.ends source.old) (S.ends source.new) }
+    // A count of faults rose only where the status is that fault's.
+    ensures source_fault { result.1 ≡ Status.SourceFault → Rose (S.faults source.old) (S.faults source.new) }
+    ensures device_fault { result.1 ≡ Status.DeviceFault → Rose (P.view port).faults (P.view result.0).faults }
+    ensures put_fault { result.1 ≡ Status.PutFault → Rose (P.view port).put_faults (P.view result.0).put_faults }
+    ensures no_source_fault { result.1 ≢ Status.SourceFault → S.faults source.new ≡ S.faults source.old }
+    ensures no_device_fault { result.1 ≢ Status.DeviceFault → (P.view result.0).faults ≡ (P.view port).faults }
+    ensures no_put_fault { result.1 ≢ Status.PutFault → (P.view result.0).put_faults ≡ (P.view port).put_faults }
+{
+    let mut port = port;
+    match open_core(alloc, &mut port) {
+        Ok(mut core) => {
+            let mut server = GroupServer {
+                core: &mut core,
+                placement,
+                owes: false,
+            };
+            serve_in_groups(alloc, &mut server, protocol, source, port, limit)
+        }
+        Err(why) => (port, why),
+    }
+}

@@ -1,0 +1,46 @@
+use Rattle.std.proofs.Common.{◌≡◌, [], ◌<◌, ◌∙◌, sym, ap, subst}
+use Rattle.tsd_core.proofs.Common.{Ok, Err, IfOk, OnOk, either_same, told_by, world_on, Core, IsCoreAt, told_world, LeavesPart, behind, owed}
+use Rattle.std.specs.Prelude.{Result, Bool, true, false}
+use Rattle.tsd_core.proofs.Settling.{ready_still, state_still}
+use Rattle.tsd_core.proofs.BehindLaws.{leaves_behind}
+use Rattle.tsd_core.proofs.disk.Core.settle_one.Goals as goal
+
+also_ok : {T E A B P : Type 0} (r : Result T E) → (A → B → P) → OnOk r A → OnOk r B → OnOk r P
+also_ok (Ok x) f a b = f a b
+also_ok (Err e) f a b = tt
+
+all_ok : {T E A B C P : Type 0} (r : Result T E) → (A → B → C → P) → OnOk r A → OnOk r B → OnOk r C → OnOk r P
+all_ok (Ok x) f a b c = f a b c
+all_ok (Err e) f a b c = tt
+
+pub returns-clause-ready : goal.returns-clause-ready
+returns-clause-ready g c =
+    let e = c.settle_one.ensures in
+    let new : Core = record { volume = c.settle_one.new.self; grants = c.self.inside.grants } in
+    all_ok c.settle_one.result
+    (λ ready unspent (same : told_by new.volume ≡ told_by c.self.inside.volume).
+    ready_still c.args.self.now new ready unspent (same ∙ ap told_world c.self.view_is) (ap (λ (x : Core). x.grants) c.self.view_is) c.requires.ready)
+    e.ready e.operation.unspent e.told
+
+pub returns-clause-state : goal.returns-clause-state
+returns-clause-state g c = λ told.
+    let v = g.D.Device.view c.args.dev.now in
+    let w = g.D.Device.view c.settle_one.new.dev in
+    let new : Core = record { volume = c.settle_one.new.self; grants = c.self.inside.grants } in
+    also_ok c.settle_one.result
+    (λ (same : told_by new.volume ≡ told_by c.self.inside.volume) (world : world_on w ≡ world_on v).
+    state_still c.args.self.now new v.reads w.reads world (same ∙ ap told_world c.self.view_is) (ap (λ (x : Core). x.grants) c.self.view_is))
+    c.settle_one.ensures.told (c.settle_one.ensures.operation.done told)
+
+pub returns-clause-lowered : goal.returns-clause-lowered
+returns-clause-lowered g c = subst (λ (x : Core). IfOk c.settle_one.result (λ some. some ≡ true → owed c.settle_one.new.self.tables < owed x.volume.tables)) c.self.view_is c.settle_one.ensures.lowered
+
+pub returns-clause-any_moment : goal.returns-clause-any_moment
+returns-clause-any_moment g c told = either_same (g.D.Device.view c.args.dev.now) (g.D.Device.view c.settle_one.new.dev) (c.settle_one.ensures.operation.any_moment told)
+
+pub returns-clause-behind : goal.returns-clause-behind
+returns-clause-behind g c told =
+    let v = g.D.Device.view c.args.dev.now in
+    let w = g.D.Device.view c.settle_one.new.dev in
+    let size = c.self.inside.volume.tables.geometry in
+    subst (λ (x : Core). LeavesPart (behind x.volume.tables.geometry) v w) c.self.view_is (leaves_behind c.settle_one.result size [] v w tt (c.settle_one.ensures.operation.data_kept told))
