@@ -24,6 +24,6 @@ test:
 install: hub
 	tools/install install "$(DESTDIR)$(PREFIX)"
 
-# Takes away what `install` put there, and the folders that are empty then.
+# Takes away what `install` wrote there, and the folders that are empty then.
 uninstall:
 	tools/install uninstall "$(DESTDIR)$(PREFIX)"

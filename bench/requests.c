@@ -2,11 +2,13 @@
 //
 //     requests KIND CAP CLIENTS UNDER_WAY SECONDS socket PATH
 //     requests KIND CAP CLIENTS UNDER_WAY SECONDS pipe WORD...
+//     requests set - CLIENTS UNDER_WAY SECONDS socket PATH
 //     requests append - CLIENTS - SECONDS file PATH
 //
 // KIND is `read`, or `write` of a byte; CAP has 32 hexadecimal digits for block 0. Each client keeps so many requests
-// under way. `append` is no client: it appends what so many clients would have sent at once, and syncs, over and over.
-// Prints how many requests a second were answered.
+// under way. `set` has the same clients set a key of a byte each at redis's socket. `append` is no client: it appends
+// what so many clients would have sent at once, and syncs, over and over. Prints how many requests a second were
+// answered.
 #include <errno.h>
 #include <fcntl.h>
 #include <stdbool.h>
@@ -28,8 +30,10 @@ struct shared {
 };
 
 static const unsigned char open_session[] = {5, 0, 1, 1, 0, 0, 0}, close_session[] = {5, 0, 2, 1, 0, 0, 0};
+static const char set_done[] = "+OK\r\n";
 static unsigned char request[LONGEST], replies[ROOM];
 static size_t request_length, begin, end;
+static bool is_set;
 static int in, out;
 
 static void fail(const char *what) {
@@ -62,20 +66,30 @@ static void put_requests(long count) {
     }
 }
 
+static void refused(void) {
+    fprintf(stderr, "refused: %d %d\n", replies[begin + 2], replies[begin + 3]);
+    _exit(1);
+}
+
+// The length of the first reply, or 0 where it isn't there as a whole.
+static size_t reply_length(void) {
+    if (is_set) {
+        if (end - begin < sizeof set_done - 1) return 0;
+        if (memcmp(replies + begin, set_done, sizeof set_done - 1) != 0) refused();
+        return sizeof set_done - 1;
+    }
+    if (end - begin < 2) return 0;
+    size_t length = 2 + (size_t)replies[begin] + 256 * (size_t)replies[begin + 1];
+    if (end - begin < length) return 0;
+    if (replies[begin + 2] >= 7) refused();
+    return length;
+}
+
 // The replies that are there, but at least one.
 static long take_replies(void) {
     for (;;) {
         long count = 0;
-        while (end - begin >= 2) {
-            size_t length = 2 + (size_t)replies[begin] + 256 * (size_t)replies[begin + 1];
-            if (end - begin < length) break;
-            if (replies[begin + 2] >= 7) {
-                fprintf(stderr, "refused: %d %d\n", replies[begin + 2], replies[begin + 3]);
-                _exit(1);
-            }
-            begin += length;
-            count++;
-        }
+        for (size_t length; (length = reply_length()) > 0; count++) begin += length;
         if (count > 0) return count;
         memmove(replies, replies + begin, end - begin);
         end -= begin;
@@ -94,6 +108,12 @@ static void make_request(bool is_write, const char *cap) {
     request_length = 2 + SHOWN - 1 + (is_write ? 1 : 0);
     if (is_write) request[2] = 4;
     request[0] = (unsigned char)(request_length - 2);
+}
+
+static void make_set(long client) {
+    static const char text[] = "*3\r\n$3\r\nSET\r\n$3\r\n%03ld\r\n$1\r\nx\r\n";
+    int length = snprintf((char *)request, sizeof request, text, client % 1000);
+    request_length = (size_t)length;
 }
 
 static void join(bool is_socket, char **words) {
@@ -123,8 +143,10 @@ static void join(bool is_socket, char **words) {
 }
 
 static void be_client(struct shared *shared, long *count, long under_way, double seconds) {
-    put(open_session, sizeof open_session);
-    take_replies();
+    if (!is_set) {
+        put(open_session, sizeof open_session);
+        take_replies();
+    }
     __atomic_add_fetch(&shared->ready, 1, __ATOMIC_SEQ_CST);
     while (__atomic_load_n(&shared->ready, __ATOMIC_SEQ_CST) < BEGIN) usleep(100);
     double until = now() + seconds;
@@ -135,8 +157,10 @@ static void be_client(struct shared *shared, long *count, long under_way, double
         put_requests(come);
     }
     for (long left = under_way; left > 0;) left -= take_replies();
-    put(close_session, sizeof close_session);
-    take_replies();
+    if (!is_set) {
+        put(close_session, sizeof close_session);
+        take_replies();
+    }
     _exit(0);
 }
 
@@ -159,11 +183,13 @@ int main(int words_count, char **words) {
         printf("%.0f\n", append(words[7], clients, seconds));
         return 0;
     }
-    make_request(strcmp(words[1], "write") == 0, words[2]);
+    is_set = strcmp(words[1], "set") == 0;
+    if (!is_set) make_request(strcmp(words[1], "write") == 0, words[2]);
     struct shared *shared = mmap(NULL, sizeof *shared, PROT_READ | PROT_WRITE, MAP_SHARED | MAP_ANONYMOUS, -1, 0);
     if (shared == MAP_FAILED) fail("mmap");
     for (long each = 0; each < clients; each++)
         if (fork() == 0) {
+            if (is_set) make_set(each);
             join(strcmp(words[6], "socket") == 0, words + 7);
             be_client(shared, &shared->counts[each], under_way, seconds);
         }

@@ -28,12 +28,12 @@ def readable(session: tsd.Session, blocks: Dict[str, int]) -> str:
 
 
 def fill(owner: tsd.Session, team: tsd.Pair, guests: tsd.Pair) -> Dict[str, int]:
-    """The team's block leads to plans and from there to drafts; the team's and the guests' both to the programme."""
+    """The team's block leads to plans and from there to drafts; the team's and the guests' both to the agenda."""
     [plans] = owner.alloc(TEAM, 1, team.write)
     [drafts] = owner.alloc(plans)
-    [programme] = owner.alloc(TEAM, 1, team.write)
-    owner.create(GUESTS, programme, guests.write)
-    return {"plans": plans, "drafts": drafts, "programme": programme}
+    [agenda] = owner.alloc(TEAM, 1, team.write)
+    owner.create(GUESTS, agenda, guests.write)
+    return {"plans": plans, "drafts": drafts, "agenda": agenda}
 
 
 def main(image: Path) -> None:

@@ -43,6 +43,9 @@ geometry 1
 nothing to take 4
 busy 4
 taken 0
+held 0
+released 0
+taken 0
 equal 1
 not equal 0
 close session 0
@@ -67,12 +70,13 @@ class Client(NamedTuple):
 
 
 def tried_cases(client: Client, table: Table, name: str) -> Iterator[Result]:
-    """Each case over the program and a hub, one request after another and together."""
+    """Each case over the program and a hub, one request after another, together, and held back until they go out at
+    once."""
     context, image = client.context, client.folder / "disk.img"
     for case in table.cases:
         expected = [reply for _, reply in case.steps] + ["closed"]
-        for together in ([], ["together"]):
-            label = f"{name}{case.name}{', together' if together else ''}"
+        for together in ([], ["together"], ["held"]):
+            label = ", ".join([f"{name}{case.name}", *together])
             caps = make_disk(context.program, image, case.size)
             text = "".join(written_out(request, caps) + "\n" for request, _ in case.steps)
             found = client.run("run_cases", "program", image, *together, text=text)

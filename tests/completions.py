@@ -29,11 +29,13 @@ SAY_END, END = b"echo E''ND\r", b"END\r\n"
 COMMAND = re.compile(r"^  ([a-z]+) {2,}", re.MULTILINE)
 
 IMAGES = frozenset({"disk.img", "other.img"})
+FOLDER = "caps"
+FILES = IMAGES | {FOLDER}
 PLACES = frozenset({"low", "near", "spread", "zone"})
 TOPICS = frozenset({"mirror", "requests", "replies"})
 SECTORS = frozenset({"1", "2", "4", "8"})
 CASES: Dict[str, FrozenSet[str]] = {
-    "tsd ": IMAGES | {"mirror", "help", "--help", "--version", "--overwrite", "-"},
+    "tsd ": FILES | {"mirror", "help", "--help", "--version", "--overwrite", "-"},
     "tsd --overwrite o": frozenset({"other.img"}),
     "tsd --overwrite disk.img sh": frozenset({"shell"}),
     "tsd --overwrite mirror disk.img other.img run ": PLACES,
@@ -43,40 +45,58 @@ CASES: Dict[str, FrozenSet[str]] = {
     "tsd disk.img serve s": frozenset({"spread"}),
     "tsd disk.img group ": PLACES,
     "tsd disk.img shell ": frozenset({"inode", "chain"}),
-    "tsd disk.img shell inode 0 @": IMAGES,
+    "tsd disk.img shell inode 0 @": FILES,
     "tsd disk.img shell inode 0 @disk.img ": PLACES,
     "tsd disk.img copyfs ": frozenset({"inode", "chain"}),
     "tsd disk.img copyfs inode 0 a c": frozenset({"chain"}),
-    "tsd disk.img copyfs inode 0 a chain 1 @": IMAGES,
+    "tsd disk.img copyfs inode 0 a chain 1 @": FILES,
     "tsd disk.img copyfs inode 0 a chain 1 @disk.img ": PLACES,
     "tsd disk.img load 00 5 ": PLACES,
     "tsd disk.img fresh 8 ": SECTORS,
     "tsd disk.img fresh 8 1 a b ": PLACES,
     "tsd disk.img format 8 ": SECTORS,
-    "tsd mirror ": IMAGES,
+    "tsd mirror ": FILES,
     "tsd mirror disk.img o": frozenset({"other.img"}),
     "tsd mirror disk.img other.img run ": PLACES,
     "tsd mirror disk.img other.img fresh 8 ": SECTORS,
 }
 # Of tsd-shell.
 CASES.update({
-    "tsd-shell ": IMAGES,
+    "tsd-shell ": FILES,
     "tsd-shell disk.img ": frozenset({"inode", "chain"}),
     "tsd-shell disk.img c": frozenset({"chain"}),
     "tsd-shell disk.img inode 0 ": PLACES,
-    "tsd-shell disk.img inode 0 --cap-file ": IMAGES,
+    "tsd-shell disk.img inode 0 --cap-file ": FILES,
     "tsd-shell --cap-file disk.img o": frozenset({"other.img"}),
     "tsd-shell disk.img inode 0 near --l": frozenset({"--limit"}),
 })
 # Of tsd-hub.
 CASES.update({
-    "tsd-hub ": IMAGES,
+    "tsd-hub ": FILES,
     "tsd-hub disk.img ": PLACES,
     "tsd-hub disk.img near --so": frozenset({"--socket"}),
-    "tsd-hub disk.img near --socket ": IMAGES,
+    "tsd-hub disk.img near --socket ": FILES,
     "tsd-hub --per-user 4 disk.img s": frozenset({"spread"}),
     "tsd-hub disk.img near --mode ": frozenset({"600", "660", "666"}),
     "tsd-hub --stats o": frozenset({"other.img"}),
+})
+# Of the others.
+CASES.update({
+    "tsd-copy ": FILES,
+    "tsd-copy disk.img o": frozenset({"other.img"}),
+    "tsd-copy disk.img other.img --c": frozenset({"--caps"}),
+    "tsd-copy disk.img other.img --caps ": FILES,
+    "tsd-copy --caps other.img d": frozenset({"disk.img"}),
+    "tsd-keygen ": frozenset({FOLDER}),
+    "tsd-keygen --h": frozenset({"--help"}),
+    "tsd-pointers --im": frozenset({"--image"}),
+    "tsd-pointers --image d": frozenset({"disk.img"}),
+    "tsd-mount ": FILES,
+    "tsd-mount disk.img ": frozenset({"inode", "chain"}),
+    "tsd-mount disk.img inode 0 ": frozenset({FOLDER}),
+    "tsd-mount disk.img inode 0 caps ": PLACES,
+    "tsd-mount disk.img inode 0 --cap-file o": frozenset({"other.img"}),
+    "tsd-mount --limit 5 --re": frozenset({"--read-only"}),
 })
 
 BASH = f"""
@@ -103,7 +123,7 @@ bindkey '^U' kill-whole-line
 
 
 class Shell:
-    """A shell at a terminal, in a folder with two files."""
+    """A shell at a terminal, in a folder with two files and a folder."""
 
     def __init__(self, words: List[str], home: Path, folder: Path) -> None:
         environment = {"PATH": os.environ["PATH"], "HOME": str(home), "ZDOTDIR": str(home), "TERM": "dumb",
@@ -138,7 +158,7 @@ class Shell:
         self.until(END)
         self.until(PROMPT)
         words = (word for row in listed for word in row.partition(" -- ")[0].split())
-        return frozenset(word.lstrip("@") for word in words)
+        return frozenset(word.lstrip("@").rstrip("/") for word in words)
 
     def end(self) -> None:
         """Ends it."""
@@ -164,6 +184,7 @@ def in_shell(name: str, script: str, context: Context) -> Iterator[Result]:
         path.mkdir()
     for image in IMAGES:
         (folder / image).touch()
+    (folder / FOLDER).mkdir()
     (home / ".zshrc").write_text(script % context.top)
     words = {"bash": ["bash", "--noprofile", "--rcfile", str(home / ".zshrc"), "-i"], "zsh": ["zsh", "-i"]}
     shell = Shell(words[name], home, folder)

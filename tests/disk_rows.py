@@ -1,5 +1,5 @@
 """Worked runs of the disk, answer by answer, over files: in both versions, closed or killed, and opened again; how
-often the disk is written; and the sectors that a format leaves.
+often the disk is written and read; and the sectors that a format leaves.
 
 What must be answered is written down here from docs/MODEL.md and docs/FORMAT.md; nothing of it was made by the program.
 In a text a slash stands between two lines, and R, W, C and D for capabilities: those of block 0 to read and to write
@@ -8,15 +8,16 @@ it, and those of block 1, or new ones.
 
 from __future__ import annotations
 
+import os
 import subprocess
 import threading
 from pathlib import Path
-from typing import Dict, Iterator, List, NamedTuple
+from typing import Dict, Iterator, List, NamedTuple, Tuple
 
 from disk_model import SECTOR, seed_caps
 from parts import Context, Result, compared, failed, skipped
 from program import Program
-from recording import PUT, SYNC, WRITE, NoRecorder, Recorder, Recording
+from recording import PUT, READ, SYNC, WRITE, NoRecorder, Recorder, Recording
 
 NAME = "disk_rows"
 SEED = bytes(32)
@@ -266,6 +267,71 @@ def write_results(recorder: Recorder, program: Program, image: Path) -> Iterator
     yield compared("how often a deletion and four steps write", [0, 4, 20], writes_between(recording)[:3])
 
 
+# --- how often the disk is read ---
+
+FAR = Size(64, 8, 256, 1)
+# The sectors of counts, bits and slots follow sector 133; then come those of the blocks.
+FIRST_OF_FAR, FIRST_OF_MANY = 134 + 1 + 1 + 4, 134 + 1 + 1 + 4
+
+
+def reads_between(recording: Recording) -> List[List[Tuple[int, int]]]:
+    """Before each reply, and behind the last one, each read of the image: its first sector, and how many it has."""
+    reads: List[List[Tuple[int, int]]] = [[]]
+    for event in recording.events:
+        if event.kind == READ:
+            reads[-1].append((event.offset // SECTOR, event.length // SECTOR))
+        elif event.kind == PUT:
+            reads.append([])
+    return reads
+
+
+def read_results(recorder: Recorder, program: Program, image: Path) -> Iterator[Result]:
+    """A READ of a block of eight sectors takes one call, once another block was read; of one sector no more is read,
+    where blocks aren't read in a row."""
+    order = [30, 22, 17, 27, 14]
+    for size, first, sectors in ((FAR, FIRST_OF_FAR, 8), (MANY, FIRST_OF_MANY, 1)):
+        image.unlink(missing_ok=True)
+        program.run([image, *size.words()])
+        written = "/".join(["open 1", "alloc 1 0 W - 32", *(f"write 1 {block} - {block:02x}" for block in order)])
+        program.run([image, "run", "low"], lines_of(written, size))
+        asked = "/".join(["open 1", "read 1 0 R", "read 1 12 -", *(f"read 1 {block} -" for block in order)])
+        recording = recorder.run(image, ["run", "low"], lines_of(asked, size))
+        told = replies_of("/".join(["ok", "data -", "data -", *(f"data {block:02x}" for block in order)]))
+        yield compared(f"what is read of blocks of {sectors}", told, recording.out)
+        wanted = [[(first + sectors * block, sectors)] for block in order]
+        yield compared(f"how often blocks of {sectors} are read", wanted, reads_between(recording)[3:-1])
+
+
+def ahead_results(program: Program, image: Path) -> Iterator[Result]:
+    """Blocks that were read together with those before them, and then written, are read as they were written; also once
+    all that was written is in its place, which nine writes of other blocks see to. And of a file that ends inside the
+    last sector that was read ahead, that part is read."""
+    image.unlink(missing_ok=True)
+    program.run([image, *MANY.words()])
+    row, others = range(1, 10), range(20, 29)
+    asked = ["open 1", "alloc 1 0 W - 32", "read 1 0 R", *(f"read 1 {block} -" for block in row)]
+    told = ["ok", "blocks " + " ".join(map(str, range(1, 33))), "data -"] + ["data -"] * 9
+    for block in (10, 13):
+        asked += [f"write 1 {block} - {block:02x}", f"read 1 {block} -"]
+        asked += [*(f"write 1 {other} - ee" for other in others), f"read 1 {block} -", f"read 1 {block + 1} -"]
+        told += ["ok", f"data {block:02x}", *["ok"] * len(others), f"data {block:02x}", "data -"]
+    wanted = replies_of("/".join(told))
+    yield compared("blocks that were read ahead and then written", wanted,
+                   program.run([image, "run", "low"], lines_of("/".join(asked), MANY)).out)
+    blocks = "/".join(["open 1", "alloc 1 0 W - 32", *(f"write 1 {block} - {block:02x}07" for block in range(1, 33))])
+    for last in (4, 7, 8):
+        image.unlink()
+        program.run([image, *MANY.words()])
+        program.run([image, "run", "low"], lines_of(blocks, MANY))
+        os.truncate(image, SECTOR * (FIRST_OF_MANY + last) + 1)
+        asked = ["open 1", "read 1 0 R", *(f"read 1 {block} -" for block in range(1, 11))]
+        told = ["ok", "data -", *(f"data {block:02x}07" for block in range(1, last)), f"data {last:02x}",
+                *["data -"] * (10 - last)]
+        yield compared(f"a file that ends inside block {last}, of ten that are read in a row",
+                       replies_of("/".join(told)),
+                       program.run([image, "run", "low"], lines_of("/".join(asked), MANY)).out)
+
+
 # --- what a format leaves ---
 
 def format_results(recorder: Recorder, image: Path) -> Iterator[Result]:
@@ -318,6 +384,7 @@ def run(context: Context) -> Iterator[Result]:
         for upgraded in (False, True):
             for killed in (False, True):
                 yield row_result(program, image, row, upgraded, killed)
+    yield from ahead_results(program, image)
     if context.compiler is None:
         yield skipped("how often the disk is written", "no C compiler was found")
         return
@@ -328,4 +395,5 @@ def run(context: Context) -> Iterator[Result]:
         yield skipped("how often the disk is written", str(no_recorder))
         return
     yield from write_results(recorder, program, image)
+    yield from read_results(recorder, program, image)
     yield from format_results(recorder, image)

@@ -19,7 +19,7 @@ from files import told
 from image_reader import Fault, read_image
 from parts import Context, Result, compared, failed, passed, shortened, skipped
 from program import Program
-from recording import NoRecorder, Recorder
+from recording import SYNC, NoRecorder, Recorder
 
 NAME = "file_rows"
 USAGE = 2
@@ -336,6 +336,63 @@ def stopped_results(context: Context, program: Program) -> Iterator[Result]:
     yield passed(f"a put that is stopped: {stops} images")
 
 
+# --- what asks cost ---
+
+class Cost(NamedTuple):
+    """Ten asks of one form, by their number, over a tree that these lines made, on blocks of so many sectors; and how
+    often each commits: once for each request of the disk, and for each step of reclamation."""
+
+    name: str
+    kind: str
+    sectors: int
+    lines: Sequence[str]
+    ask: str
+    commits: int
+
+
+# By the documents ("How a change is made"): blocks are taken, written and named by a request each, a pointer goes by
+# one. What an ask left to be reclaimed goes in steps of a block with 16 pairs, before the next one takes blocks.
+COSTS = (
+    Cost("a put of 100 bytes", INODE, 1, ["mkfs"], f"put /f{{number}} {letters(100)}", 5),
+    Cost("a put of 100 bytes", CHAIN, 1, ["mkfs"], f"put /f{{number}} {letters(100)}", 3),
+    Cost("a put of 4 KB over an old file", INODE, 8, ["mkfs", f"put /a {letters(4096)}"],
+         f"put /a {letters(4095)}{{number:02}}", 8),
+    Cost("a put of 4 KB over an old file", CHAIN, 8, ["mkfs", f"put /a {letters(4096)}"],
+         f"put /a {letters(4095)}{{number:02}}", 8),
+    Cost("an append of a byte to 128 KB", INODE, 8, ["mkfs", "put /a -", *[f"append /a {letters(4096)}"] * 32],
+         "append /a 61", 42),
+)
+ASKS = 10
+
+
+def cost_results(context: Context, program: Program) -> Iterator[Result]:
+    """How often asks sync."""
+    try:
+        recorder = Recorder(context.program, context.compiler or "cc", context.folder)
+    except NoRecorder as no_recorder:
+        yield skipped("what asks cost", str(no_recorder))
+        return
+    for cost in COSTS:
+        yield cost_result(recorder, program, context.folder / "costs.img", cost)
+
+
+def cost_result(recorder: Recorder, program: Program, image: Path, cost: Cost) -> Result:
+    """A commit takes two syncs, and the checkpoint before each eighth three more; so at most these, beside those of a
+    run that does nothing and what is reclaimed in the end."""
+    image.unlink(missing_ok=True)
+    program.run([image, "fresh", "1024", str(cost.sectors), R, W, "near"], b"")
+    shell = ["shell", cost.kind, "0", W, "near"]
+    program.run([image, *shell], text_of(cost.lines))
+    idle = sum(event.kind == SYNC for event in recorder.run(image, shell, b"").events)
+    asks = [cost.ask.format(number=number) for number in range(ASKS)]
+    recording = recorder.run(image, shell, text_of(asks))
+    syncs = sum(event.kind == SYNC for event in recording.events) - idle
+    commits = (ASKS + 1) * cost.commits
+    most = 2 * commits + 3 * (commits // 8 + 1)
+    name = f"{cost.name} ({cost.kind}): {syncs / ASKS:g} syncs"
+    return compared(name, (text_of(OK * ASKS), True), (recording.out, syncs <= most))
+
+
 def last_write(medium: Medium, sector: int) -> Choice:
     """What a loose sector was last given."""
     return written(medium, sector, len(medium.loose[sector]) - 1)
@@ -371,3 +428,4 @@ def run(context: Context) -> Iterator[Result]:
         yield skipped("a put that is stopped", "no C compiler was found")
     else:
         yield from stopped_results(context, program)
+        yield from cost_results(context, program)

@@ -9,6 +9,8 @@ and fit a batch are on the disk together or not at all.
 from __future__ import annotations
 
 import resource
+import signal
+import subprocess
 from itertools import accumulate
 from pathlib import Path
 from typing import Iterator, List, NamedTuple, Optional, Sequence, Tuple
@@ -20,9 +22,10 @@ from disk_model import Disk, Request, frame, reply_body
 from endings import is_checked
 from image_reader import has_closed_gates, is_settled, read_image
 from judging import Course, Different, Standing, difference, matching
+from mirror import Sides, of_tries, without_end
 from parts import Context, Result, compared, failed, passed, skipped
-from program import Program
-from recording import INPUT, PUT, SYNC, WRITE, NoRecorder, Recorder, Recording
+from program import Program, write_image
+from recording import INPUT, MOST_SECONDS, PUT, SYNC, WRITE, NoRecorder, Recorder, Recording
 from rows import (
     CAPS, OPEN, READ_ONE, SEED, SWEEP, WRITE_CAP, alloc, chain, course_of_groups, create, delete, each, write,
 )
@@ -205,13 +208,125 @@ def cost_results(recorder: Recorder, path: Path) -> Iterator[Result]:
                    count_of(recorder.run(path, (COMMAND, "low"), b""), SYNC), count_of(alone, SYNC))
 
 
-def refused_results(context: Context) -> Iterator[Result]:
-    """It takes no disk in memory and no mirror."""
-    program, paths = Program(context.program), (context.folder / "one.img", context.folder / "two.img")
-    for words in (["-", COMMAND, "low"], ["mirror", *paths, COMMAND, "low"]):
-        run = program.run(words, b"")
-        found = run.status, run.out, bool(run.error), [path.exists() for path in paths]
-        yield compared(f"{COMMAND} over {words[0]} is refused", (2, b"", True, [False, False]), found)
+def memory_results(context: Context) -> Iterator[Result]:
+    """A disk in memory is blank, so it stands for no world, as `serve` says of it."""
+    program = Program(context.program)
+    served, grouped = (tuple(program.run(["-", word, "low"], b"")) for word in ("serve", COMMAND))
+    yield compared(f"{COMMAND} over a disk in memory", (3, b"", b"tsd: not an image: not-formatted\n"), grouped)
+    yield compared(f"{COMMAND} over a disk in memory, as serve", served, grouped)
+
+
+# --- over a mirror ---
+
+MIRRORED = [OPEN, alloc(0, 2), *writes(3, 300), delete(0, 1), alloc(0), write(1, b"again" * 20), READ_ONE]
+
+
+class GroupSides(Sides):
+    """Two images as one disk that is served in groups: the first has these bytes, the second one is missing. The calls
+    of one of them are recorded, and each take brings so many whole requests as the row says."""
+
+    def __init__(self, recorder: Recorder, folder: Path, content: bytes, row: Row) -> None:
+        super().__init__(recorder, folder, content)
+        self.row = row
+
+    def run(self, side: int, text: bytes, *faults: str) -> Recording:
+        """A run over both; of the calls of this side these fail."""
+        for path, content in zip(self.paths, (self.content, b"")):
+            path.unlink(missing_ok=True)
+            for mark in path.parent.glob(f"{path.name}.*"):
+                mark.unlink()
+            write_image(path, content)
+        command = [str(word) for word in (self.recorder.program, "mirror", *self.paths, COMMAND, "low")]
+        environment = self.recorder.environment(self.paths[side], [*self.row.faults(), *faults])
+        done = subprocess.run(command, input=text, env=environment, timeout=MOST_SECONDS, capture_output=True)
+        return Recording(done.returncode, done.stdout, done.stderr, self.recorder.events())
+
+
+def mirror_row(together: int) -> Row:
+    """A run over a mirror."""
+    return Row(f"over a mirror, groups of {together}", 8, 1, 32, [], MIRRORED, together)
+
+
+def standing_in(path: Path, course: Course, answered: int) -> bool:
+    """Whether an image stands for the world after a prefix that holds this many requests."""
+    return matching(read_image(path.read_bytes()), course.prefixes[answered:]) is not None
+
+
+def both_result(sides: GroupSides, course: Course) -> Result:
+    """Nothing fails: the answers, both files, and their worlds."""
+    recording = sides.run(0, sides.row.text())
+    if (recording.status, recording.out) != (0, course.out()):
+        return failed(sides.row.name, f"{recording.status} {recording.out!r} {recording.error!r}")
+    judge_turns(recording, course)
+    for path in sides.paths:
+        judge_file(path.read_bytes(), course)
+    return compared(f"{sides.row.name}: both are alike", *map(without_end, sides.paths))
+
+
+def stops_result(sides: GroupSides, course: Course, side: int) -> Result:
+    """The run is killed before calls of one image. The first one stands for the world after a prefix that holds each
+    request whose answer was sent; so does the second one where a byte was sent, since the copying is done then."""
+    wrong, text = [], sides.row.text()
+    stops = sides.stops(side, text)
+    for number in stops:
+        recording = sides.run(side, text, f"image:{number}:KILL")
+        if recording.status != -signal.SIGKILL or not course.out().startswith(recording.out):
+            wrong.append(f"before call {number}: {recording.status} {recording.out!r}")
+        answered = course.whole_answers(len(recording.out))
+        for path in sides.paths[:2 if recording.out else 1]:
+            if not standing_in(path, course, answered):
+                wrong.append(f"before call {number}, with {answered} answers sent: {path.name}")
+    return of_tries(f"{sides.row.name}: killed before each call of side {side}", len(stops), wrong)
+
+
+def torn_result(sides: GroupSides, course: Course, side: int) -> Result:
+    """What a stop leaves of one image with all that is loose old, new or torn: of the second one from the first byte
+    on that was sent."""
+    recording = sides.run(side, sides.row.text())
+    medium, count = Medium((sides.content, b"")[side]), 0
+    for number, progress in moments(medium, recording.events):
+        for choices in all_choices(medium) if side == 0 or progress.sent else ():
+            judged(medium, choices, progress, course, number, recording)
+            count += 1
+    return passed(f"{sides.row.name}: {count} crashes of side {side}")
+
+
+def faults_result(sides: GroupSides, course: Course, side: int) -> Result:
+    """Each call of one image fails in turn, once or from there on: it is lost, all is answered, and the other image
+    stands for the last world. Until the second image is a copy the run ends with nothing sent where the first fails."""
+    wrong, tries, losses, text = [], 0, 0, sides.row.text()
+    for word, is_again in sides.calls(side, text):
+        for fault in (f"{word}:EIO", f"{word}+:EIO"):
+            tries += 1
+            recording = sides.run(side, text, fault)
+            found = recording.status, recording.out
+            if side == 0 and found == (4, b"") and losses == 0:
+                is_right = standing_in(sides.paths[0], course, 0)
+            else:
+                is_done = found == (11, course.out()) or is_again and "+" not in fault and found == (0, course.out())
+                is_right = is_done and standing_in(sides.paths[1 - side], course, len(course.prefixes) - 1)
+                losses += found[0] == 11
+            if not is_right:
+                wrong.append(f"with {fault}: {found} {recording.error!r}")
+    if not losses:
+        wrong.append("the image was never lost")
+    return of_tries(f"{sides.row.name}: each call of side {side} fails", tries, wrong)
+
+
+def mirror_results(recorder: Recorder, context: Context, path: Path) -> Iterator[Result]:
+    """Groups of one, of two, and as many requests as lie there, over two images as one disk."""
+    for together in (1, 2, 0):
+        row = mirror_row(together)
+        sides, course = GroupSides(recorder, context.folder, made(recorder, path, row), row), row.course()
+        try:
+            yield both_result(sides, course)
+            for side in (0, 1):
+                yield torn_result(sides, course, side)
+                if together != 1:
+                    yield stops_result(sides, course, side)
+                    yield faults_result(sides, course, side)
+        except (Different, Unrecorded) as different:
+            yield failed(row.name, str(different))
 
 
 # --- want of memory ---
@@ -292,5 +407,6 @@ def run(context: Context) -> Iterator[Result]:
     for row in rows(context):
         yield row_result(recorder, path, row)
     yield from cost_results(recorder, path)
-    yield from refused_results(context)
+    yield from memory_results(context)
+    yield from mirror_results(recorder, context, path)
     yield memory_result(context)

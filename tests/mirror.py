@@ -136,14 +136,25 @@ CHANGES: Sequence[Tuple[str, int, int, bytes]] = (
     ("a primary block that isn't live", BITMAP * SECTOR, 0, b"damaged primary 0\n"),
 )
 OPENING: Sequence[Sequence[str]] = (
-    ["run", "near"], ["serve", "near"], ["check"], ["upgrade"], ["audit"], ["verify"], ["load", "00" * 32, "5", "near"],
+    ["run", "near"], ["serve", "near"], ["check"], ["info"], ["upgrade"], ["audit"], ["verify"], ["load", "00" * 32, "5", "near"],
     ["shell", "inode", "0", W, "near"], ["copyfs", "inode", "0", W, "chain", "0", W, "near"],
 )
 
 
+def with_record(disk: bytes, home: int, body: bytes) -> bytes:
+    """A disk with an open record of the journal, which holds what one sector is to be."""
+    changed = bytearray(disk.ljust((home + 1) * SECTOR, b"\0"))
+    changed[2 * SECTOR:4 * SECTOR] = bytes(2 * SECTOR)
+    changed[2 * SECTOR] = 1
+    changed[3 * SECTOR:3 * SECTOR + 8] = (1).to_bytes(4, "little") + home.to_bytes(4, "little")
+    changed[4 * SECTOR:5 * SECTOR] = body
+    return bytes(changed)
+
+
 def tested_results(folder: Path, program: Program) -> Iterator[Result]:
     """A first image that stands for no world is refused before the copying: the second one, a good disk, is as it was
-    to the byte, and so is the first. `check` says what is wrong with the first one, the others nothing."""
+    to the byte, and so is the first. `check` and `info` say what is wrong with the first one, the others nothing. An
+    open record of the journal is no fault of its own: what it holds is tested in its place."""
     one, two = folder / "bad.img", folder / "good.img"
     program.run([two, *FRESH], WRITE_ONE)
     good = two.read_bytes()
@@ -155,12 +166,20 @@ def tested_results(folder: Path, program: Program) -> Iterator[Result]:
         changed = bytearray(good.ljust(max(len(good), at + 1), b"\0"))
         changed[at] = value
         bad.append((name, bytes(changed), line))
+    bitmap = good[BITMAP * SECTOR:(BITMAP + 1) * SECTOR].ljust(SECTOR, b"\0")
+    bad += [
+        ("an open record that frees the primary block", with_record(good, BITMAP, bytes(SECTOR)),
+         b"damaged primary 0\n"),
+        ("an open record over the header", with_record(good, 0, bytes(SECTOR)), b"header magic\n"),
+        ("an open record whose home is the journal's own", with_record(good, 3, bytes(SECTOR)),
+         b"damaged descriptor\n"),
+    ]
     for name, content, line in bad:
         for words in OPENING:
             write_image(one, content)
             write_image(two, good)
             run = program.run(["mirror", one, two, *words], b"")
-            said = line if words == ["check"] else b""
+            said = line if words in (["check"], ["info"]) else b""
             told_last = b"tsd: not an image: " + line.rstrip()
             yield compared(f"{words[0]}, the first image {name}", (3, said, [told_last]),
                            (run.status, run.out, run.error.splitlines()[-1:]))
@@ -171,6 +190,13 @@ def tested_results(folder: Path, program: Program) -> Iterator[Result]:
     write_image(two, b"")
     run = program.run(["mirror", one, two, "check"], b"")
     yield compared("a good first image is copied as ever", (0, CHECKED, True),
+                   (run.status, run.out, without_end(two) == without_end(one)))
+    changed = bytearray(good.ljust((BITMAP + 1) * SECTOR, b"\0"))
+    changed[BITMAP * SECTOR:(BITMAP + 1) * SECTOR] = bytes(SECTOR)
+    write_image(one, with_record(bytes(changed), BITMAP, bitmap))
+    write_image(two, b"")
+    run = program.run(["mirror", one, two, "check"], b"")
+    yield compared("a first image that an open record makes good is copied", (0, CHECKED, True),
                    (run.status, run.out, without_end(two) == without_end(one)))
 
 
@@ -226,9 +252,9 @@ class Sides:
         return Recording(done.returncode, done.stdout, done.stderr, self.recorder.events())
 
     def calls(self, side: int, text: bytes) -> List[Tuple[str, bool]]:
-        """The words of its calls that are tried, each with whether it reads ahead, as a read of several sectors does,
-        and the first one of the copying: such a read is made again for the sector that was asked for. So goes a read
-        of the tests of the first image, which come before its first sync: it is made again by the copying."""
+        """The words of its calls that are tried, each with whether it is made again where it fails: so goes a read of
+        several sectors, for the one that was asked for, and a read of the tests of the first image, which come before
+        its first sync, by the copying. A read of one sector alone is not."""
         events = [event for event in self.run(side, text).events if event.kind in KIND_WORDS]
         begun = next((at for at, event in enumerate(events) if event.kind == SYNC), 0) if side == 0 else 0
         copying = next((at for at, event in enumerate(events) if event.kind == READ and at >= begun), 0)
@@ -236,8 +262,8 @@ class Sides:
         for at, event in enumerate(events):
             number = sum(other.kind == event.kind for other in events[:at + 1])
             if len(events) - at <= LAST or at % EVERY < 2:
-                is_ahead = event.kind == READ and (event.length > SECTOR or at <= copying)
-                words.append((f"{KIND_WORDS[event.kind]}:{number}", is_ahead))
+                is_again = event.kind == READ and (event.length > SECTOR or at < copying)
+                words.append((f"{KIND_WORDS[event.kind]}:{number}", is_again))
         return words
 
     def stops(self, side: int, text: bytes) -> List[int]:
@@ -252,13 +278,13 @@ def each_fault_result(sides: Sides, program: Program, side: int, name: str) -> R
     wrong, tries, losses = [], 0, 0
     one, two = sides.paths
     copied = f"tsd: {two}: {differing(sides.content, b'')} sectors were copied to it from {one}".encode()
-    for word, is_ahead in sides.calls(side, WRITE_ONE):
+    for word, is_again in sides.calls(side, WRITE_ONE):
         for fault in (f"{word}:EIO", f"{word}+:EIO"):
             tries += 1
             recording = sides.run(side, WRITE_ONE, fault)
             found = (recording.status, recording.out, recording.error.splitlines()[-1:])
             ends = [(11, b"ok\nok\n", [b"tsd: side lost, " + (b"first", b"second")[side]])]
-            if is_ahead and "+" not in fault:
+            if is_again and "+" not in fault:
                 ends = [(0, b"ok\nok\n", [copied])]
             if side == 0 and found == (4, b"", [b"tsd: device fault"]):
                 read = program.run([sides.paths[0], "check"]).out

@@ -1,10 +1,12 @@
 """What `./dev release` makes: the sums of its files; a Debian package that is unpacked by dpkg-deb, whose program and
 commands run from there, with its control file, its units and each file's sum; and a wheel with the commands. Where
-dpkg-deb or a Python that builds a wheel isn't there, that is skipped."""
+dpkg-deb or a Python that builds a wheel isn't there, that is skipped. Where TSD_DEBIAN names a folder that debootstrap
+has made, the package is also installed into a copy of it and taken away again, by root."""
 
 from __future__ import annotations
 
 import os
+import shutil
 import subprocess
 import sys
 import zipfile
@@ -16,12 +18,18 @@ from parts import Context, Result, compared, failed, passed, skipped
 NAME = "packages"
 MOST_SECONDS = 300
 FILES = (
-    "usr/bin/tsd", "usr/bin/tsd-hub", "usr/bin/tsd-shell", "usr/bin/tsd-copy", "usr/bin/tsd-keygen",
-    "usr/share/man/man1/tsd.1.gz", "usr/share/bash-completion/completions/tsd", "usr/share/tsd/c/tsd.h",
-    "usr/share/tsd/c/tsd.c", "usr/share/tsd/nbdkit/tsd_disk.py", "usr/lib/systemd/system/tsd-hub@.service",
+    "usr/bin/tsd", "usr/share/bash-completion/completions/tsd", "usr/share/tsd/c/tsd.h",
+    "usr/share/tsd/c/tsd.c", "usr/share/tsd/nbdkit/tsd_disk.py", "usr/share/tsd/nbdkit/tsd_disk.c",
+    "usr/share/tsd/nbdkit/virtual_disk.c", "usr/share/tsd/nbdkit/virtual_disk.h",
+    "usr/lib/systemd/system/tsd-hub@.service",
     "usr/lib/systemd/system/tsd-hub@.socket", "usr/share/doc/tsd/README.md", "usr/share/doc/tsd/FORMAT.md",
-    "usr/share/doc/tsd/LICENSE", "usr/lib/tsd/python/tsd/__init__.py",
+    "usr/share/doc/tsd/LICENSE", "usr/lib/tsd/python/tsd/__init__.py", "usr/lib/tsd/python/tsd/mount/operations.py",
 )
+COMMANDS = ("tsd-hub", "tsd-shell", "tsd-copy", "tsd-keygen", "tsd-pointers", "tsd-mount")
+# Of each command: where it is, its page, and its completion in both shells.
+OF_COMMAND = ("usr/bin/{}", "usr/share/man/man1/{}.1.gz", "usr/share/bash-completion/completions/{}",
+              "usr/share/zsh/site-functions/_{}")
+VARIABLE = "TSD_DEBIAN"
 
 
 def printed(*words: object, folder: Path) -> str:
@@ -36,7 +44,8 @@ def tried_debian(context: Context, path: Path) -> Iterator[Result]:
     """The Debian package, unpacked."""
     root = context.folder / "root"
     printed("dpkg-deb", "-x", path, root, folder=context.folder)
-    missing = [name for name in FILES if not (root / name).is_file()]
+    wanted = [*FILES, *(place.format(name) for name in COMMANDS for place in OF_COMMAND)]
+    missing = [name for name in wanted if not (root / name).is_file()]
     yield compared("the Debian package has its files", [], missing)
     version = path.name.split("_")[1]
     for field, value in (("Package", "tsd"), ("Version", version), ("Architecture", "amd64")):
@@ -58,15 +67,41 @@ def tried_debian(context: Context, path: Path) -> Iterator[Result]:
     yield compared("the unit starts what is installed", True, "ExecStart=/usr/bin/tsd-hub " in unit)
 
 
+def tried_installing(context: Context, path: Path) -> Iterator[Result]:
+    """The Debian package in a system that debootstrap has made."""
+    made = os.environ.get(VARIABLE)
+    if not made or not context.is_root or shutil.which("chroot") is None:
+        yield skipped("the package installed", f"{VARIABLE} names no folder of debootstrap, or this isn't root")
+        return
+    root = context.folder / "debian"
+    printed("cp", "-a", made, root, folder=context.folder)
+    shutil.copy(path, root / "tsd.deb")
+
+    def inside(script: str) -> str:
+        return printed("chroot", root, "sh", "-c", f"cd /root && {script}", folder=context.folder)
+
+    before = inside("find / -xdev -path /proc -prune -o -print | sort | grep -v '^/var'")
+    told = inside("dpkg -i /tsd.deb >/dev/null && dpkg -s tsd | grep ^Status")
+    yield compared("the package installs", "Status: install ok installed\n", told)
+    yield compared("its files have their sums", "", inside("dpkg -V tsd"))
+    told = inside(f"umask 077; echo {'a' * 32} > r; echo {'b' * 32} > w; tsd d.img fresh 8 1 @r @w near </dev/null;"
+                  "printf '%s\\n' mkfs 'put /a 6869' 'cat /a' | tsd d.img shell inode 0 @w near; tsd d.img check;"
+                  "rm d.img r w")
+    yield compared("the program runs there", "ok\nok\ndata 6869\nclean 3 5 2\n", told)
+    yield compared("it is taken away", "", inside("dpkg -P tsd >/dev/null"))
+    after = inside("find / -xdev -path /proc -prune -o -print | sort | grep -v '^/var'")
+    yield compared("and nothing is left of it", before, after)
+
+
 def tried_wheel(path: Path) -> Iterator[Result]:
     """The wheel's files and commands."""
     with zipfile.ZipFile(path) as wheel:
         names = wheel.namelist()
         [entry] = [name for name in names if name.endswith("entry_points.txt")]
         commands = wheel.read(entry).decode()
-    needed = {"tsd/__init__.py", "tsd/copying.py", "tsd/py.typed"}
+    needed = {"tsd/__init__.py", "tsd/copying.py", "tsd/mount/main.py", "tsd/py.typed"}
     yield compared("the wheel has the package", set(), needed - set(names))
-    wanted = ("tsd-hub", "tsd-shell", "tsd-copy", "tsd-keygen")
+    wanted = [name for name in COMMANDS if name != "tsd-pointers"]
     yield compared("and its commands", [], [name for name in wanted if f"{name} = " not in commands])
 
 
@@ -93,3 +128,5 @@ def run(context: Context) -> Iterator[Result]:
             yield skipped(pattern, next((line for line in told.splitlines() if name in line), told))
         else:
             yield from tried_debian(context, paths[0]) if pattern.endswith("deb") else tried_wheel(paths[0])
+        if paths and pattern.endswith("deb"):
+            yield from tried_installing(context, paths[0])

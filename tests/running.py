@@ -18,10 +18,10 @@ from typing import Iterator, List, Optional
 from parts import FAILED, PASSED, SKIPPED, Context, Result, failed, skipped
 
 PARTS = (
-    "tour", "examples", "disk_rows", "random_runs", "choices", "large", "hubs", "files", "file_rows", "file_crashes",
-    "file_faults", "clients", "rust_client", "c_client", "virtual_disks", "moving", "packages", "judge_faults",
-    "crashes", "crash_rows", "failing_calls", "kills", "mirror", "audit", "copies", "behind", "groups", "edge", "slips",
-    "completions",
+    "layout", "tour", "examples", "disk_rows", "random_runs", "choices", "large", "hubs", "files", "file_rows",
+    "file_crashes", "file_faults", "clients", "rust_client", "c_client", "virtual_disks", "mounts", "moving",
+    "packages", "judge_faults", "crashes", "crash_rows", "failing_calls", "kills", "mirror", "audit", "copies",
+    "behind", "groups", "edge", "slips", "completions", "pages",
 )
 TOP = Path(__file__).resolve().parent.parent
 PROGRAMS = (TOP / "dist/x86_64-linux/tsd", TOP / "crates/tsd_cli/out/tsd_cli")
@@ -32,11 +32,11 @@ REDRAW_SECONDS = 0.1
 def options(words: Optional[List[str]] = None) -> argparse.Namespace:
     """The options of the command line."""
     found = next((program for program in PROGRAMS if program.exists()), PROGRAMS[-1])
-    text = "Tries the built program; the last line is 'N passed, N failed', and the status 1 where something failed."
-    more = f"The parts: {', '.join(PARTS)}. Each is a module of tests/ that says at its head what it tries."
+    text = "Tests the built program; the last line is 'N passed, N failed', and the status 1 where something failed."
+    more = f"The parts: {', '.join(PARTS)}. Each is a module of tests/ that says at its head what it tests."
     parser = argparse.ArgumentParser(prog="./test", description=text, epilog=more)
     parser.add_argument("--program", type=Path, default=found, help="the program (as things are: %(default)s)")
-    parser.add_argument("--crashes", type=int, default=3000, help="how many crashes are tried (%(default)s)")
+    parser.add_argument("--crashes", type=int, default=3000, help="how many crashes are tested (%(default)s)")
     parser.add_argument("--seed", type=int, help="what the random parts are drawn from; printed at the start")
     parser.add_argument("--only", choices=PARTS, action="append", help="this part alone; may be given again")
     return parser.parse_args(words)

@@ -8,21 +8,26 @@ import shutil
 import subprocess
 from typing import Iterable, Iterator, List, NamedTuple
 
+from mounts import why_no_fuse
 from parts import Context, Result, compared, failed, skipped
 
 NAME = "tour"
 MOST_SECONDS = 120
 # Pages, and the section of each that has such blocks.
 SECTIONS = (
+    ("docs/STORAGE.md", "By storage"),
     ("README.md", "A tour"), ("docs/FILES.md", "Try it"), ("docs/AUDIT.md", "Try it"), ("clients/README.md", "Try it"),
-    ("docs/VIRTUAL_DISKS.md", "Try it"),
+    ("docs/VIRTUAL_DISKS.md", "Try it"), ("docs/MOUNT.md", "Try it"),
 )
 # What the blocks use beside the program, and what those of some pages use besides.
 TOOLS = ("bash", "timeout", "yes", "tail", "od", "awk")
 MORE_TOOLS = {
     "clients/README.md": ("cc", "cut"),
     "docs/VIRTUAL_DISKS.md": ("nbdkit", "nbdcopy", "python3", "cmp"),
+    "docs/MOUNT.md": ("python3", "mountpoint", "tar", "sed"),
 }
+# The page that has its folder by FUSE, with Debian's Python.
+MOUNT = "docs/MOUNT.md"
 # What of the clone such pages name.
 FOLDERS = ("clients", "contrib", "python")
 # A block and the one below it, which has what it prints.
@@ -61,7 +66,7 @@ def tried(context: Context, page: str, section: str) -> Iterator[Result]:
     if not blocks:
         yield failed(page, f"no block of *{section}* was found")
         return
-    missing = absent(MORE_TOOLS.get(page, ()))
+    missing = absent(MORE_TOOLS.get(page, ())) or (page == MOUNT and why_no_fuse("/usr/bin/python3"))
     if missing:
         yield skipped(page, missing)
         return

@@ -1,6 +1,8 @@
-"""Virtual disks: the tree of python/tsd/virtual_disk.py beside a plain row of bytes, opened again and again; and, where nbdkit with its Python plugin and nbdcopy are installed, the plugin in contrib/nbdkit: copies there and back,
-two owners at one hub, of whom a hostile one asks for every block, kills in mid-write, a full disk, and each fault told
-in a line. With mke2fs and e2fsck an ext4 goes there and back; with fio, writes that are read back and compared."""
+"""Virtual disks: the tree of python/tsd/virtual_disk.py beside a plain row of bytes, opened again and again; and, where
+nbdkit and nbdcopy are installed, both plugins in contrib/nbdkit, in Python and in C: copies there and back, also by the
+one what the other has written, two owners at one hub, of whom a hostile one asks for every block, kills in mid-write, a
+hub that ends, a full disk, and each fault told in a line. With mke2fs and e2fsck an ext4 goes there and back; with fio,
+writes that are read back and compared; of what is in C, eight threads at once."""
 
 from __future__ import annotations
 
@@ -11,9 +13,10 @@ import signal
 import subprocess
 import sys
 import time
+from dataclasses import replace
 from pathlib import Path
 from random import Random
-from typing import Iterator, List, Optional, Tuple
+from typing import Callable, Iterator, List, Optional, Tuple
 
 from case_table import running_hub
 from parts import Context, Result, compared, failed, passed, skipped
@@ -21,6 +24,8 @@ from parts import Context, Result, compared, failed, passed, skipped
 NAME = "virtual_disks"
 MOST_SECONDS = 120
 NBD_TOOLS = ("nbdkit", "nbdcopy", "nbdinfo")
+HEADERS = ("/usr/include/nbdkit-plugin.h", "/usr/local/include/nbdkit-plugin.h")
+Part = Callable[[Context], Iterator[Result]]
 # Sectors of a block, blocks of the disk, bytes of the virtual disk: roots that name leaves, tables, tables of tables.
 SHAPES = ((8, 300, 100 * 4096), (1, 2000, 600 * 512), (1, 20000, 15000 * 512))
 TURNS, STEPS = 3, 60
@@ -59,7 +64,7 @@ def tried_trees(context: Context) -> Iterator[Result]:
     for sectors, blocks, size in SHAPES:
         image, model = context.folder / "tree.img", bytearray(size)
         rng = context.random(f"virtual {sectors} {size}")
-        pairs = tsd.format_disk(image, blocks=blocks, sectors=sectors, primaries=2, slots=2 * blocks)
+        pairs = tsd.format_disk(image, blocks=blocks, sectors=sectors, primaries=2, slots=2 * blocks, overwrite=True)
         for turn in range(TURNS):
             with tsd.open(image) as disk, disk.session() as session:
                 virtual = VirtualDisk(session, 1, pairs[1].write, None if turn else size)
@@ -103,21 +108,23 @@ def tried_leftovers(context: Context) -> Iterator[Result]:
             except (tsd.Denied, Unusable) as error:
                 told.append(type(error).__name__)
         yield compared("it writes nothing, and a size stays", ["Denied", "Denied", "Unusable"], told)
+        yield compared("and reads on what is there", b"x" * 4096, reader.read(0, 4096))
         found = VirtualDisk(session, 0, pair.write).read(0, 4096)
         yield compared("what was denied changed nothing", b"x" * 4096, found)
 
 
 class Server:
-    """An nbdkit that serves a virtual disk."""
+    """An nbdkit that serves a virtual disk, by the plugin that these words name."""
+
+    plugin: List[str] = []
 
     def __init__(self, context: Context, *words: object, name: str = "nbd") -> None:
         self.path, self.log = context.folder / f"{name}.sock", context.folder / f"{name}.log"
         self.path.unlink(missing_ok=True)
         pid = context.folder / f"{name}.pid"
         pid.unlink(missing_ok=True)
-        plugin = str(context.top / "contrib/nbdkit/tsd_disk.py")
         with open(self.log, "wb") as log:
-            command = ["nbdkit", "-f", "-U", str(self.path), "--pidfile", str(pid), "python", plugin, *map(str, words)]
+            command = ["nbdkit", "-f", "-U", str(self.path), "--pidfile", str(pid), *self.plugin, *map(str, words)]
             self.process = subprocess.Popen(command, stdin=subprocess.DEVNULL, stdout=log, stderr=log)
         end = time.monotonic() + MOST_SECONDS
         while not pid.exists() and self.process.poll() is None and time.monotonic() < end:
@@ -152,12 +159,15 @@ def call(*words: object) -> Tuple[int, str]:
     return done.returncode, done.stdout + done.stderr
 
 
-def made(context: Context, name: str, blocks: int, primaries: int = 1) -> Tuple[Path, List[Path]]:
-    """A disk with blocks of 4,096 bytes, and a file with the capability to write each primary block."""
+def made(
+    context: Context, name: str, blocks: int, primaries: int = 1, sectors: int = 8
+) -> Tuple[Path, List[Path]]:
+    """A disk with blocks of 4,096 bytes, or of so many sectors, and a file with each primary block's capability to
+    write it."""
     import tsd
 
     image, caps = context.folder / f"{name}.img", []
-    for root, pair in enumerate(tsd.format_disk(image, blocks=blocks, sectors=8, primaries=primaries)):
+    for root, pair in enumerate(tsd.format_disk(image, blocks=blocks, sectors=sectors, primaries=primaries)):
         caps.append(context.folder / f"{name}.{root}.cap")
         caps[-1].touch(mode=0o600)
         caps[-1].write_text(pair.write.reveal().hex())
@@ -274,6 +284,28 @@ def tried_kills(context: Context) -> Iterator[Result]:
         yield compared(f"each block is whole after kill {turn}", [], wrong)
 
 
+def tried_ends(context: Context) -> Iterator[Result]:
+    """The hub ends while a virtual disk is served: each request fails, and a line says what to do; what was answered is
+    there for the next hub."""
+    image, [cap] = made(context, "ends", 1000)
+    content, back = context.folder / "content", context.folder / "back"
+    content.write_bytes(context.random("ends").randbytes(MIB))
+    hub = contextlib.ExitStack()
+    path = hub.enter_context(running_hub(context.top, context.program, image))
+    try:
+        with served(context, f"hub={path}", f"cap={cap}", "size=1M", "cache=0") as server:
+            yield compared("over a hub", (0, ""), call("nbdcopy", content, server.uri))
+            hub.close()
+            yield compared("the hub ended: a request fails", 1, call("nbdcopy", server.uri, back)[0])
+            yield compared("and it is told what to do", True, "start the hub and this server again" in server.words())
+    finally:
+        hub.close()
+    with running_hub(context.top, context.program, image) as path:
+        with served(context, f"hub={path}", f"cap={cap}") as server:
+            yield compared("by the next hub", (0, ""), call("nbdcopy", server.uri, back))
+        yield compared("all that was answered is there", True, back.read_bytes() == content.read_bytes())
+
+
 def tried_faults(context: Context) -> Iterator[Result]:
     """What is wrong is told in a line, and nothing is changed."""
     image, [cap] = made(context, "faults", 100)
@@ -303,18 +335,98 @@ def tried_faults(context: Context) -> Iterator[Result]:
         status, told = call("nbdcopy", content, server.uri)
         yield compared("a full disk is no space left", (1, True), (status, "No space left" in told))
         yield compared("and is told with what to do", True, "trim what isn't used" in server.words())
-        yield compared("and reads on", (0, ""), call("nbdcopy", server.uri, context.folder / "back"))
+        found = call("nbdcopy", server.uri, context.folder / "back")
+        told = f"{found}\nthe server's status: {server.process.poll()}\n{server.words()}"
+        yield passed("and reads on") if found == (0, "") else failed("and reads on", told)
+
+
+def compiled(context: Context) -> str:
+    """Compiles the plugin in C, without a warning; what the compiler says."""
+    folder = context.top / "contrib/nbdkit"
+    command = [context.compiler, "-std=c11", "-D_GNU_SOURCE", "-O2", "-Wall", "-Wextra", "-Werror", "-shared", "-fPIC",
+               "-I", context.top / "clients/c", "-o", context.folder / "tsd_disk.so", folder / "tsd_disk.c",
+               folder / "virtual_disk.c", context.top / "clients/c/tsd.c", "-lpthread"]
+    return call(*command)[1]
+
+
+def tried_threads(context: Context) -> Iterator[Result]:
+    """Eight threads at once, each beside a model of its bytes; where the compiler has them, under its checks."""
+    checks = ["-fsanitize=address,undefined"]
+    program, folder = context.folder / "threads", context.top / "contrib/nbdkit"
+    command = [context.compiler, "-std=c11", "-D_GNU_SOURCE", "-g", "-O1", "-I", context.top / "clients/c", "-I",
+               folder, "-o", program, context.top / "tests/virtual_threads.c", folder / "virtual_disk.c",
+               context.top / "clients/c/tsd.c", "-lpthread"]
+    if call(*command, *checks)[0] != 0:
+        call(*command)
+    for sectors, blocks, leaves in ((8, 3000, 2003), (1, 20000, 7813)):
+        image, [cap] = made(context, f"threads{sectors}", blocks, sectors=sectors)
+        words = (image, cap, 512 * sectors * leaves, 40, context.random("threads").randrange(1 << 30))
+        yield compared(f"eight threads, {leaves} blocks of {512 * sectors}", (0, "right\n"), call(program, *words))
+        yield compared(f"{leaves} blocks of {512 * sectors}: the image", 0, call(context.program, image, "check")[0])
+
+
+def tried_both(context: Context) -> Iterator[Result]:
+    """What the plugin in C writes the tree in Python reads, and the other way round."""
+    import tsd
+    from tsd.virtual_disk import VirtualDisk
+
+    for sectors, blocks, size in SHAPES:
+        image, cap, back = (context.folder / name for name in ("both.img", "both.cap", "back"))
+        [pair] = tsd.format_disk(image, blocks=blocks, sectors=sectors, slots=2 * blocks, overwrite=True)
+        cap.write_text(pair.write.reveal().hex())
+        rng = context.random(f"both {sectors} {size}")
+        content = bytearray(size)
+        for _ in range(20):
+            at, data = rng.randrange(size - 3000), rng.randbytes(rng.randrange(1, 3000))
+            content[at:at + len(data)] = data
+        (context.folder / "content").write_bytes(content)
+        with served(context, f"image={image}", f"cap={cap}", f"size={size}") as server:
+            call("nbdcopy", context.folder / "content", server.uri)
+        with tsd.open(image) as disk, disk.session() as session:
+            virtual = VirtualDisk(session, 0, pair.write)
+            yield compared(f"{size} bytes of C's, read in Python", True, virtual.read(0, size) == content)
+            for _ in range(STEPS):
+                step(rng, virtual, content)
+        with served(context, f"image={image}", f"cap={cap}") as server:
+            call("nbdcopy", server.uri, back)
+            yield compared(f"{size} bytes of Python's, read in C", True, back.read_bytes() == content)
+            os.truncate(back, 0)
+            os.truncate(back, size)
+            yield compared(f"{size} bytes: zeros over all of it", (0, ""), call("nbdcopy", back, server.uri))
+        with tsd.open(image) as disk:
+            yield compared(f"{size} bytes: leave the tables alone", True, blocks - disk.free() < blocks // 20)
 
 
 def run(context: Context) -> Iterator[Result]:
-    """The tree, and the plugin where nbdkit is installed."""
+    """The tree, and the plugins where nbdkit is installed."""
     os.environ["TSD_PROGRAM"] = str(context.program)
     sys.path.insert(0, str(context.top / "python"))
     yield from tried_trees(context)
     yield from tried_leftovers(context)
     missing: Optional[str] = next((tool for tool in NBD_TOOLS if shutil.which(tool) is None), None)
-    if missing is not None or call("nbdkit", "python", "--version")[0] != 0:
-        yield skipped("the plugin", f"there is no {missing or 'Python plugin of nbdkit'}")
+    if missing is not None:
+        yield skipped("the plugins", f"there is no {missing}")
         return
-    for part in (tried_copies, tried_owners, tried_kills, tried_faults):
-        yield from part(context)
+    parts = (tried_copies, tried_owners, tried_kills, tried_ends, tried_faults)
+    if call("nbdkit", "python", "--version")[0] == 0:
+        Server.plugin = ["python", str(context.top / "contrib/nbdkit/tsd_disk.py")]
+        yield from with_each(context, "Python", parts)
+    else:
+        yield skipped("the plugin in Python", "there is no Python plugin of nbdkit")
+    if context.compiler is None or not any(Path(one).exists() for one in HEADERS):
+        yield skipped("the plugin in C", "there is no C compiler, or no nbdkit-plugin.h")
+        return
+    told = compiled(context)
+    yield compared("the plugin in C is compiled without a warning", "", told)
+    if not told:
+        Server.plugin = [str(context.folder / "tsd_disk.so")]
+        yield from with_each(context, "C", (*parts, tried_both, tried_threads))
+
+
+def with_each(context: Context, name: str, parts: Tuple[Part, ...]) -> Iterator[Result]:
+    """Parts, in a folder of their own."""
+    folder = context.folder / name
+    folder.mkdir()
+    for part in parts:
+        for result in part(replace(context, folder=folder)):
+            yield result._replace(name=f"{name}: {result.name}")

@@ -47,6 +47,8 @@ struct tsd_disk {
     unsigned first, under_way;
     tsd_refusal refusal;
     tsd_end end;
+    uint8_t *held;                      /* room for frames that are held back, or NULL where none are */
+    size_t held_length;
     size_t start, filled;               /* where what came and isn't taken begins and ends */
     uint8_t came[MOST_CAME];
 };
@@ -436,6 +438,15 @@ static void put(tsd_disk *disk, const uint8_t *bytes, size_t length) {
     }
 }
 
+/* Sends what is held back. */
+static void put_held(tsd_disk *disk) {
+    if (disk->held_length > 0) {
+        put(disk, disk->held, disk->held_length);
+        wipe(disk->held, disk->held_length);
+        disk->held_length = 0;
+    }
+}
+
 /* --- requests --- */
 
 static uint8_t *put_number(uint8_t *at, uint32_t number) {
@@ -519,8 +530,27 @@ tsd_outcome tsd_send(tsd_disk *disk, const tsd_request *request) {
     disk->asked[(disk->first + disk->under_way) % TSD_MOST_UNDER_WAY] = request->code;
     disk->under_way++;
     disk->since = now_ms();
-    put(disk, text, LENGTH_BYTES + length);
+    if (disk->held != NULL) {
+        memcpy(disk->held + disk->held_length, text, LENGTH_BYTES + length);
+        disk->held_length += LENGTH_BYTES + length;
+    } else {
+        put(disk, text, LENGTH_BYTES + length);
+    }
     wipe(text, sizeof text);
+    return disk->end.why == TSD_NOT_ENDED ? TSD_OK : TSD_ENDED;
+}
+
+bool tsd_hold(tsd_disk *disk) {
+    if (disk->held == NULL) {
+        disk->held = malloc((size_t)TSD_MOST_UNDER_WAY * MOST_REQUEST);
+    }
+    return disk->held != NULL;
+}
+
+tsd_outcome tsd_release(tsd_disk *disk) {
+    put_held(disk);
+    free(disk->held);
+    disk->held = NULL;
     return disk->end.why == TSD_NOT_ENDED ? TSD_OK : TSD_ENDED;
 }
 
@@ -674,6 +704,7 @@ tsd_outcome tsd_take(tsd_disk *disk, tsd_answer *answer) {
     if (disk->under_way == 0) {
         return disk->end.why == TSD_NOT_ENDED ? TSD_BUSY : TSD_ENDED;
     }
+    put_held(disk);
     answer->code = disk->asked[disk->first];
     answer->count = answer->length = 0;
     disk->since = now_ms();
@@ -736,6 +767,7 @@ bool tsd_close(tsd_disk *disk, tsd_end *end) {
     if (disk == NULL) {
         return true;
     }
+    tsd_release(disk);
     bool was_ended = disk->end.why != TSD_NOT_ENDED;
     shutdown(disk->stream, SHUT_WR);
     unsigned lost = was_ended ? 0 : take_end_of_stream(disk);

@@ -172,6 +172,11 @@ bool tsd_close(tsd_disk *disk, tsd_end *end);
 /* Sends a request, and doesn't wait: TSD_OK, TSD_ENDED, or TSD_BUSY where TSD_MOST_UNDER_WAY are under way. What it
    points to isn't needed afterwards. */
 tsd_outcome tsd_send(tsd_disk *disk, const tsd_request *request);
+/* Holds back what tsd_send is given from now on, so that it goes out together, with the next tsd_take: requests that
+   come together are committed together by "group". False where there is no memory; then it goes out as ever. */
+bool tsd_hold(tsd_disk *disk);
+/* Sends what is held back, and holds back no more: TSD_OK or TSD_ENDED. */
+tsd_outcome tsd_release(tsd_disk *disk);
 /* The answer to the oldest request under way: not TSD_BUSY. Without one it is TSD_ENDED where the link has ended, and
    else TSD_BUSY. */
 tsd_outcome tsd_take(tsd_disk *disk, tsd_answer *answer);

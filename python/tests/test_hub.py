@@ -6,6 +6,7 @@ import os
 import random
 import re
 import shutil
+import signal
 import socket
 import stat
 import subprocess
@@ -29,7 +30,7 @@ CLIENTS = 64
 REQUESTS = 40
 BLOCKS = 200
 MOST_UNDER_WAY = 20
-BAD_REQUEST = b"\x08\x00"
+BAD_REQUEST, DENIED = b"\x08\x00", b"\x08\x0a"
 ALL_OF_ONE = ("--per-user", "64")
 END, FREE = 2, 7
 
@@ -274,6 +275,77 @@ class BadClients(WithHub):
                 client.close()
 
 
+class Hostile(WithHub):
+    """One client that tries all that it can, beside one that keeps something."""
+
+    def test_what_it_tries_changes_nothing(self) -> None:
+        begun = time.monotonic()
+        [pair] = self.make(blocks=64)
+        with self.running_hub(ALL_OF_ONE) as hub, tsd.connect(hub.path, limit=LIMIT) as disk, disk.session() as owner:
+            [block] = owner.alloc(0, 1, pair.write)
+            owner.write(0, b"root", pair.write)
+            owner.write(block, b"mine")
+            self.steal(hub, block)
+            self.send_bodies(hub, block)
+            self.be_killed(hub, block)
+            self.assertEqual((b"root", b"mine", [block], 62),
+                             (owner.read(0, pair.read)[:4], owner.read(block)[:4],
+                              list(owner.list(0, pair.read)), disk.free()))
+            self.assertNotIn(pair.write.reveal().hex(), hub.log)
+        self.assertLess(time.monotonic() - begun, MOST_SECONDS)
+
+    def steal(self, hub: RunningHub, block: int) -> None:
+        """It claims 70 numbers of sessions, the owner's among them."""
+        client = RawClient(hub.path)
+        self.assertEqual(b"\1", client.ask(requests.Begin().encode(1)))
+        for claimed in (*range(69), 2**32 - 1):
+            for request in (requests.Read(block), requests.Write(block, b"x"), requests.Delete(0, block)):
+                self.assertEqual(DENIED, (client.ask(request.encode(claimed)) or b"")[:2])
+        client.close()
+
+    def send_bodies(self, hub: RunningHub, block: int) -> None:
+        """It sends 6,000 bodies: any bytes, and requests of which some bytes are others, cut short or with more."""
+        rng = random.Random(7)
+        client = RawClient(hub.path)
+        asked = [request.encode(1) for request in (
+            requests.Read(block), requests.Write(block, b"x"), requests.Delete(0, block), requests.Alloc(block, 1),
+            requests.Create(block, 0), requests.List64(block), requests.Sweep(), requests.GetFree())]
+        for _ in range(400):
+            bodies = [bad_body(rng, asked) for _ in range(15)]
+            client.send(b"".join(map(frame, bodies)))
+            self.assertNotIn(None, [client.body() for _ in bodies])
+        client.close()
+
+    def be_killed(self, hub: RunningHub, block: int) -> None:
+        """40 processes of it are killed with a request half sent, and others under way."""
+        write = frame(requests.Write(block, bytes(300)).encode(1))
+        children = []
+        for _ in range(40):
+            client = RawClient(hub.path)
+            client.send(10 * write + write[:100])
+            child = os.fork()
+            if child == 0:
+                signal.pause()
+                os._exit(0)
+            client.close()
+            children.append(child)
+        for child in children:
+            os.kill(child, signal.SIGKILL)
+            os.waitpid(child, 0)
+        until(lambda: hub.log.count(": ended after") == 2 + 40, "all sessions but the owner's end")
+
+
+def bad_body(rng: random.Random, asked: List[bytes]) -> bytes:
+    """Any bytes, or a request that somebody has been at."""
+    if rng.random() < 0.3:
+        return bytes(rng.randrange(256) for _ in range(rng.randrange(60)))
+    body = bytearray(rng.choice(asked))
+    for _ in range(rng.randrange(4)):
+        body[rng.randrange(len(body))] = rng.randrange(256)
+    body += bytes(rng.randrange(256) for _ in range(rng.choice((0, 0, 1, 16))))
+    return bytes(body[:rng.randint(1, len(body))] if rng.random() < 0.3 else body)
+
+
 def memory(process: int) -> int:
     """The bytes of memory that a process uses."""
     found = re.search(r"VmRSS:\s+(\d+) kB", Path(f"/proc/{process}/status").read_text())
@@ -423,4 +495,4 @@ class Outside(WithHub):
         self.assertIn(b"no --socket", done.stderr)
 
 
-globals().update(compiled(AtRandom, Sessions, BadClients, Ends, Outside))
+globals().update(compiled(AtRandom, Sessions, BadClients, Hostile, Ends, Outside))

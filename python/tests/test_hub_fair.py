@@ -12,9 +12,9 @@ import sys
 import threading
 import time
 from pathlib import Path
-from typing import List
+from typing import Dict, List
 
-from support import MOST_SECONDS, PROGRAM, RawClient, WithHub, compiled, until
+from support import MOST_SECONDS, PROGRAM, RawClient, RunningHub, WithHub, compiled, until
 
 from disk_model import frame
 from tsd import requests
@@ -39,6 +39,25 @@ while piece := os.read(0, 65536):
             time.sleep({SLOW_WRITE})
         reply = {{b"\\x07": b"\\x04\\x3f\\0\\0\\0", b"\\x03": b"\\x02" + bytes(512)}}.get(body[:1], b"\\x01")
         os.write(1, len(reply).to_bytes(2, "little") + reply)
+"""
+# A stand-in that shares syncs: what comes together takes its time together.
+SHARING_DISK = f"""#!{sys.executable}
+import os, sys, time
+if sys.argv[1] == "help":
+    sys.exit(0)
+left = b""
+while piece := os.read(0, 65536):
+    left += piece
+    replies, is_writing = b"", False
+    while len(left) >= 2 and len(left) >= 2 + int.from_bytes(left[:2], "little"):
+        length = int.from_bytes(left[:2], "little")
+        body, left = left[2:2 + length], left[2 + length:]
+        is_writing |= body[:1] == b"\\x04"
+        reply = {{b"\\x07": b"\\x04\\x3f\\0\\0\\0"}}.get(body[:1], b"\\x01")
+        replies += len(reply).to_bytes(2, "little") + reply
+    if is_writing:
+        time.sleep({SLOW_WRITE})
+    os.write(1, replies)
 """
 FLOOD = """
 import socket, sys, time
@@ -159,10 +178,10 @@ class Sharing(WithHub):
 class Taking(WithHub):
     """Turns: one request of each client that has one."""
 
-    def slow_disk(self) -> List[str]:
+    def slow_disk(self, code: str = SLOW_DISK) -> List[str]:
         """The options for a hub over the stand-in."""
         program = self.folder / "slow"
-        program.write_text(SLOW_DISK)
+        program.write_text(code)
         program.chmod(0o755)
         return ["--program", str(program)]
 
@@ -253,12 +272,35 @@ class Taking(WithHub):
                 self.assertEqual([b"\1"] * 17, [client.body() for _ in range(17)])
                 self.assertEqual((2, 513), ((body := client.body() or b"")[0], len(body)))
                 self.assertEqual([b"\1"] * 16, [client.body() for _ in range(16)])
-            words = [*self.hub_words, "--stats", str(hub.path)]
-            told = subprocess.run(words, capture_output=True, text=True, timeout=MOST_SECONDS).stdout
-            found = dict(line.rsplit(" ", 1) for line in told.splitlines())
+            found = self.numbers(hub)
             self.assertEqual("256", found["changes_total"])
             self.assertLess(int(found["change_rounds_total"]), 128)
             self.assertLessEqual(int(found["syncs_at_least_total"]), 256)
+            for client in clients:
+                client.close()
+
+    def numbers(self, hub: RunningHub) -> Dict[str, str]:
+        """What the hub tells of itself."""
+        words = [*self.hub_words, "--stats", str(hub.path)]
+        told = subprocess.run(words, capture_output=True, text=True, timeout=MOST_SECONDS).stdout
+        return dict(line.rsplit(" ", 1) for line in told.splitlines())
+
+    def test_those_that_change_one_thing_after_another_come_together(self) -> None:
+        """Of eight clients each asks again once it is answered: a round has all of them, and not by turns one and
+        seven."""
+        turns = 20
+        with self.running_hub(self.slow_disk(SHARING_DISK)) as hub:
+            clients = [RawClient(hub.path) for _ in range(8)]
+            write = frame(requests.Write(0, b"x").encode(1))
+            for turn in range(turns + 1):
+                for client in clients:
+                    if turn > 0:
+                        self.assertEqual(b"\1", client.body())
+                    if turn < turns:
+                        client.send(write)
+            found = self.numbers(hub)
+            self.assertEqual(str(8 * turns), found["changes_total"])
+            self.assertLess(int(found["change_rounds_total"]), 3 * turns // 2)
             for client in clients:
                 client.close()
 

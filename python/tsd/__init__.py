@@ -8,10 +8,15 @@
         print(session.read(0, pair.read).rstrip(b"\\0"), disk.free())
 
 Blocks are numbers, contents are bytes, and capabilities are a type that never prints itself. Each refusal is an
-exception of its own, and no call waits for ever. This package stands outside the disk's proofs, and weakens none.
+exception of its own, and no call waits forever. This package stands outside the disk's proofs, and weakens none.
 """
 
-from tsd import aio
+from __future__ import annotations
+
+import importlib
+from types import ModuleType
+from typing import TYPE_CHECKING
+
 from tsd.capability import Capability, Pair
 from tsd.disk import Disk, connect
 from tsd.disk import open_disk as open
@@ -25,6 +30,9 @@ from tsd.locks import Lock
 from tsd.programs import format_disk
 from tsd.session import Session
 
+if TYPE_CHECKING:
+    from tsd import aio
+
 __version__ = "0.2.0"
 
 __all__ = [
@@ -34,3 +42,10 @@ __all__ = [
     "NotPrimary", "Pair", "PointerExists", "PointersFull", "ProgramEnded", "Refused", "Session", "Silent", "TsdError",
     "Unknown", "WrongProcess", "aio", "connect", "format_disk", "open",
 ]
+
+
+def __getattr__(name: str) -> ModuleType:
+    """`aio` is loaded where it is first named: asyncio takes longer than all else of the package."""
+    if name != "aio":
+        raise AttributeError(f"module {__name__!r} has no attribute {name!r}")
+    return importlib.import_module("tsd.aio")

@@ -1,6 +1,6 @@
 """A link to a disk: requests go out as they are asked, and replies are given, in their order, to those who wait.
 
-A thread reads the replies. It also sees that nobody waits for ever: where requests are under way and no reply comes for
+A thread reads the replies. It also sees that nobody waits forever: where requests are under way and no reply comes for
 as long as the limit, the link has failed, and every request under way with it. A link is for the process that opened
 it: a child of `fork` gives its copies of the descriptors back, and is refused.
 """

@@ -16,6 +16,7 @@ the next time.
 
 from __future__ import annotations
 
+import itertools
 import struct
 import sys
 import threading
@@ -56,40 +57,66 @@ class Gate:
     """Many may pass at once, or one alone."""
 
     def __init__(self) -> None:
-        self._state = threading.Condition()
+        self._lock = threading.Lock()
+        self._left = threading.Condition(self._lock)
         self._inside = 0
+        self._wanting = 0
         self._is_alone = False
+        self._many = Many(self)
 
-    @contextmanager
-    def many(self) -> Iterator[None]:
+    def many(self) -> Many:
         """With others."""
-        with self._state:
+        return self._many
+
+    def enter(self) -> None:
+        """Goes in with others, once nobody is alone."""
+        with self._lock:
             while self._is_alone:
-                self._state.wait()
+                self._wait()
             self._inside += 1
-        try:
-            yield
-        finally:
-            with self._state:
-                self._inside -= 1
-                if self._inside == 0:
-                    self._state.notify_all()
+
+    def leave(self) -> None:
+        """Goes out again."""
+        with self._lock:
+            self._inside -= 1
+            if self._wanting:
+                self._left.notify_all()
 
     @contextmanager
     def alone(self) -> Iterator[None]:
         """Once all others have gone."""
-        with self._state:
+        with self._lock:
             while self._is_alone:
-                self._state.wait()
+                self._wait()
             self._is_alone = True
             while self._inside:
-                self._state.wait()
+                self._wait()
         try:
             yield
         finally:
-            with self._state:
+            with self._lock:
                 self._is_alone = False
-                self._state.notify_all()
+                self._left.notify_all()
+
+    def _wait(self) -> None:
+        self._wanting += 1
+        self._left.wait()
+        self._wanting -= 1
+
+
+class Many:
+    """The time of one of many in a gate."""
+
+    __slots__ = ("_gate",)
+
+    def __init__(self, gate: Gate) -> None:
+        self._gate = gate
+
+    def __enter__(self) -> None:
+        self._gate.enter()
+
+    def __exit__(self, *_: object) -> None:
+        self._gate.leave()
 
 
 class Cache:
@@ -118,27 +145,28 @@ class Cache:
             if moment == self._written and not self._writers:
                 self._keep(leaf, data)
 
-    @contextmanager
-    def writing(self, leaves: range, data: Optional[bytes] = None) -> Iterator[None]:
+    def writing(self, leaves: range, data: Optional[bytes] = None) -> Writing:
         """While these are written, with these bytes, or given back. Where that fails nothing is kept of them."""
+        return Writing(self, leaves, data)
+
+    def begin(self, leaves: range) -> None:
+        """These are written from now on."""
         with self._lock:
             for leaf in leaves:
                 self._kept.pop(leaf, None)
                 self._writers[leaf] = self._writers.get(leaf, 0) + 1
                 if self._writers[leaf] > 1:
                     self._contested.add(leaf)
-        is_done = False
-        try:
-            yield
-            is_done = data is not None
-        finally:
-            with self._lock:
-                self._written += 1
-                for at, leaf in enumerate(leaves):
-                    if is_done and leaf not in self._contested and data is not None:
-                        length = len(data) // len(leaves)
-                        self._keep(leaf, data[at * length:(at + 1) * length])
-                    self._end(leaf)
+
+    def end(self, leaves: range, data: Optional[bytes]) -> None:
+        """These were written, with these bytes; with None it isn't known what they have."""
+        with self._lock:
+            self._written += 1
+            for at, leaf in enumerate(leaves):
+                if data is not None and leaf not in self._contested:
+                    length = len(data) // len(leaves)
+                    self._keep(leaf, data[at * length:(at + 1) * length])
+                self._end(leaf)
 
     def _keep(self, leaf: int, data: bytes) -> None:
         if self._most:
@@ -151,6 +179,21 @@ class Cache:
         if not self._writers[leaf]:
             del self._writers[leaf]
             self._contested.discard(leaf)
+
+
+class Writing:
+    """The time in which leaves are written, to a cache."""
+
+    __slots__ = ("_cache", "_leaves", "_data")
+
+    def __init__(self, cache: Cache, leaves: range, data: Optional[bytes]) -> None:
+        self._cache, self._leaves, self._data = cache, leaves, data
+
+    def __enter__(self) -> None:
+        self._cache.begin(self._leaves)
+
+    def __exit__(self, kind: object, error: object, trace: object) -> None:
+        self._cache.end(self._leaves, self._data if error is None else None)
 
 
 class VirtualDisk:
@@ -167,7 +210,10 @@ class VirtualDisk:
         self._root_cap = cap
         self._gate = Gate()
         self._taking = threading.Lock()
-        self._writes: "Set[Future[None]]" = set()
+        self._numbers = itertools.count()
+        self._under_way: Set[int] = set()
+        self._ended = threading.Condition()
+        self._flushes = 0
         self._tables: Dict[Tuple[int, int], Table] = {}
         data = session.read(root, cap)
         self.block_length = len(data)
@@ -275,16 +321,18 @@ class VirtualDisk:
     def read(self, offset: int, length: int) -> bytes:
         """Bytes of the virtual disk."""
         first, last = offset // self.block_length, (offset + length - 1) // self.block_length
+        if first == last:
+            # What is kept of a leaf is what it was before each write that is under way: nothing has to be waited for.
+            kept = self._cache.get(first)
+            if kept is not None:
+                start = offset - first * self.block_length
+                return kept if length == self.block_length else kept[start:start + length]
         with self._gate.many():
             whole = self._read_leaves(range(first, last + 1)) if length else b""
         start = offset - first * self.block_length
         return whole if len(whole) == length else whole[start:start + length]
 
     def _read_leaves(self, leaves: range) -> bytes:
-        if len(leaves) == 1:
-            kept = self._cache.get(leaves[0])
-            if kept is not None:
-                return kept
         moment = self._cache.moment()
         asked = [self._asked(leaf) for leaf in leaves]
         found = []
@@ -307,18 +355,24 @@ class VirtualDisk:
 
     def write(self, offset: int, data: bytes) -> None:
         """Sets bytes. When it is done they are on the disk."""
-        done: "Future[None]" = Future()
-        self._writes.add(done)
+        number = next(self._numbers)
+        self._under_way.add(number)
         try:
             if data:
                 self._write(offset, data)
         finally:
-            self._writes.discard(done)
-            done.set_result(None)
+            self._under_way.discard(number)
+            if self._flushes:
+                with self._ended:
+                    self._ended.notify_all()
 
     def _write(self, offset: int, data: bytes) -> None:
         first, last = offset // self.block_length, (offset + len(data) - 1) // self.block_length
         leaves, start = range(first, last + 1), offset - first * self.block_length
+        if start == 0 and len(data) == self.block_length:
+            with self._gate.many(), self._cache.writing(leaves, data):
+                self._write_leaf(first, data)
+            return
         if start == 0 and len(data) % self.block_length == 0:
             with self._gate.many():
                 self._write_leaves(leaves, data)
@@ -327,6 +381,13 @@ class VirtualDisk:
             whole = bytearray(self._read_leaves(leaves))
             whole[start:start + len(data)] = data
             self._write_leaves(leaves, bytes(whole))
+
+    def _write_leaf(self, leaf: int, data: bytes) -> None:
+        block = self._block(leaf)
+        if block:
+            self._session.write(block, data)
+        else:
+            self._write_new([(leaf, data)])
 
     def _write_leaves(self, leaves: range, data: bytes) -> None:
         length = self.block_length
@@ -411,10 +472,14 @@ class VirtualDisk:
         blocks = [table.numbers[at] for at in places if table.numbers[at]]
         if not blocks:
             return
+        later = Table(table.block, array(NUMBERS, table.numbers))
         for at in places:
-            table.numbers[at] = 0
-        under_way: List[Future] = [self._write_table(table)]
-        wait_for(under_way + [self._delete(table, block) for block in blocks])
+            later.numbers[at] = 0
+        written = self._write_table(later)
+        deleted = [self._delete(table, block) for block in blocks]
+        wait_for([written])
+        table.numbers = later.numbers
+        wait_for(deleted)
 
     def zero(self, offset: int, length: int) -> None:
         """Sets bytes to zero; blocks that lie whole in them are given back."""
@@ -428,7 +493,16 @@ class VirtualDisk:
 
     def flush(self) -> None:
         """Waits for the writes that are under way now. Those that were answered are on the disk already."""
-        wait_for(list(self._writes.copy()))
+        before = set(self._under_way)
+        if not before:
+            return
+        with self._ended:
+            self._flushes += 1
+            try:
+                while not before.isdisjoint(self._under_way):
+                    self._ended.wait()
+            finally:
+                self._flushes -= 1
 
     def extents(self, offset: int, length: int) -> Iterator[Tuple[int, int, bool]]:
         """Pieces of these bytes in order: where each begins, how long it is, and whether it has blocks."""

@@ -1,4 +1,4 @@
-"""File systems that are made for a try, on a device, and mounted."""
+"""File systems that are made for a test, on a device, and mounted."""
 
 from __future__ import annotations
 

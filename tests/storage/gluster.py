@@ -20,7 +20,7 @@ BRICKS = (1, 2, 3)
 PAUSE = 15
 START_SECONDS = 180
 HEAL_SECONDS = 300
-# What the daemons write outside of their bricks; hidden in the try's own mounts.
+# What the daemons write outside of their bricks; hidden in the test's own mounts.
 STATES = ("/run", "/var/lib/glusterd", "/var/log/glusterfs")
 
 
@@ -35,7 +35,7 @@ def gluster(*words: object) -> str:
 
 
 class Volume:
-    """The volume, started. Its processes end with the try's namespaces."""
+    """The volume, started. Its processes end with the test's namespaces."""
 
     def __init__(self, place: Place) -> None:
         self.place = place

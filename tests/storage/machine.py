@@ -1,4 +1,4 @@
-"""What the tries need of the machine: commands, what is missing of them, waiting, and loop devices."""
+"""What the tests need of the machine: commands, what is missing of them, waiting, and loop devices."""
 
 from __future__ import annotations
 
@@ -19,11 +19,11 @@ TURN_SECONDS = 0.1
 
 
 class Broken(Exception):
-    """What a try stands on couldn't be set up, or a call of the machine failed; the text says which."""
+    """What a test stands on couldn't be set up, or a call of the machine failed; the text says which."""
 
 
 class Place(NamedTuple):
-    """What a try may use: the program, an empty folder of its own, and the seed of its random numbers."""
+    """What a test may use: the program, an empty folder of its own, and the seed of its random numbers."""
 
     program: Path
     folder: Path
@@ -118,7 +118,7 @@ def missing(commands: Sequence[str] = (), paths: Sequence[str] = (), systems: Se
 @contextmanager
 def loop(file: Path) -> Iterator[Path]:
     """A loop device over a file. It is detached while it is held open, which has the kernel take it away with its last
-    user, also where the try is killed."""
+    user, also where the test is killed."""
     device = call("losetup", "--find", "--show", file).strip()
     held = os.open(device, os.O_RDONLY)
     try:

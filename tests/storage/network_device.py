@@ -1,4 +1,4 @@
-"""An NBD server that is killed in mid-run and started again: with a client that gives up, and with one that tries
+"""An NBD server that is killed in mid-run and started again: with a client that gives up, and with one that sends
 again."""
 
 from __future__ import annotations
@@ -65,7 +65,7 @@ def ends_by_a_fault(
 
 
 def killed_and_started(site: Site, server: Server) -> None:
-    """A server that is killed in mid-run and started again at once, under a client that tries again."""
+    """A server that is killed in mid-run and started again at once, under a client that sends again."""
     running = site.begin()
     with beside(running.ask):
         running.wait_for(site.numbers.randrange(*SOON))
@@ -77,7 +77,7 @@ def killed_and_started(site: Site, server: Server) -> None:
 def tries_again(place: Place) -> Iterator[Result]:
     """A client that tries again what failed, as nbdkit's filter `retry` does: the run waits and goes on. The file keeps
     what a server wrote that was killed, so that a sync which is made again is worth what the first one was."""
-    name = "a client that tries again"
+    name = "a client that sends again"
     folder = place.inner("again")
     file = sized(folder / "served.raw", MEBIBYTE)
     with served(folder / "inner", *file_words(file)) as server, retrying(folder) as path:
@@ -103,6 +103,6 @@ def run(place: Place) -> Iterator[Result]:
     yield from ends_by_a_fault(place, "nbdfuse", lambda socket: Fuse(mount, socket), lack)
     yield from ends_by_a_fault(place, "the kernel's nbd client", Kernel, lack_of_kernel())
     if lack:
-        yield skipped("a client that tries again", lack)
+        yield skipped("a client that sends again", lack)
     else:
         yield from tries_again(place)

@@ -1,7 +1,7 @@
 /* Carries out the lines of clients/cases.txt by the client, for tests/c_client.py, which reads the table and compares.
 
-     run_cases program IMAGE [together]   request lines of standard input; their replies, and how the link ended
-     run_cases hub SOCKET [together]
+     run_cases program IMAGE [together | held]   request lines of standard input; their replies, and how the link ended
+     run_cases hub SOCKET [together | held]
      run_cases link program PROGRAM       opens session 1 and closes; how the link ended
      run_cases link hub SOCKET
      run_cases replies                    bodies as hexadecimal digits; what each says
@@ -183,7 +183,11 @@ static void take_one(tsd_disk *disk) {
     print_answer(disk, outcome, &answer);
 }
 
-static int run_lines(tsd_disk *disk, bool together) {
+static int run_lines(tsd_disk *disk, const char *way) {
+    bool together = way != NULL, held = together && strcmp(way, "held") == 0;
+    if (held && !tsd_hold(disk)) {
+        return 1;
+    }
     char *line = NULL;
     size_t room = 0;
     tsd_end end;
@@ -317,6 +321,10 @@ static int run_calls(const char *image, const char *file) {
     tsd_send(disk, &(tsd_request){.code = TSD_GET_FREE});
     said("busy", tsd_close_session(disk, 1), NULL, 0);
     said("taken", tsd_take(disk, &answer), NULL, 0);
+    said("held", tsd_hold(disk) && tsd_hold(disk) ? TSD_OK : TSD_NO_MEMORY, NULL, 0);
+    tsd_send(disk, &(tsd_request){.code = TSD_GET_FREE});
+    said("released", tsd_release(disk), NULL, 0);
+    said("taken", tsd_take(disk, &answer), NULL, 0);
     said("equal", tsd_capability_equal(&cap, &cap), NULL, 0);
     said("not equal", tsd_capability_equal(&cap, &other), NULL, 0);
     tsd_capability_wipe(&cap);
@@ -346,5 +354,5 @@ int main(int count, char **words) {
         printf("not opened: %s\n", strerror(errno));
         return 1;
     }
-    return is_link ? run_link(disk) : run_lines(disk, count > 3);
+    return is_link ? run_link(disk) : run_lines(disk, count > 3 ? words[3] : NULL);
 }

@@ -25,15 +25,18 @@ use tsd_words::Status;
 /// NoMemory where none was found to open the image or to search it.
 pub fn audit_image<P: Port>(alloc: Global, port: &mut P) -> Status
     ensures ending { IsEnding result }
+    /// promise: The certificate of the world for which the image stands is sent: whole after Done, a proper front of it
+    /// after a put that failed, and else nothing.
     ensures said { P.told → HasAudited result (P.view port.old).reads (P.view port.old).sent (P.view port.new).sent }
-    // Where the image fails one of the tests that need no write, nothing is written, and the disk reads as before;
-    // where it fails another, nothing is lost that a repair could use.
+    /// promise (with spared, behind): Where the image fails one of the first three tests, nothing is written, and it
+    /// reads as before; where it fails another, nothing is lost that a repair could use; what lies after the image is
+    /// as it was.
     ensures untouched { P.told → IsForeign (P.view port.old).reads
         → IsUntouched (P.view port.old) (P.view port.new) }
     ensures spared { P.told → IsNotImage result → IsSpared (P.view port.old) (P.view port.new) }
     // However it ends, a crash at any moment leaves what lies behind the image as it was.
     ensures behind { P.told → IsFirm (P.view port.old) → LeavesBehind (P.view port.old) (P.view port.new) }
-    // A crash at any moment leaves an image of the same world, or of none where the image stood for none.
+    /// promise: Each image left stands for the same world as the one at the start, or for none as that one.
     ensures any_moment { P.told → IsFirm (P.view port.old) → LeavesOnly (P.view port.old) (P.view port.new)
         (λ x f. StandAlike (P.view port.old).reads x × IsAuditing (P.view port.old).reads (P.view port.old).sent f) }
     // A count of faults rose only where the status is that fault's.

@@ -30,10 +30,14 @@ use volume::Volume;
 /// count rose, TooLong where a byte after the first 2^40 came, or NoMemory where none was found to open the image or
 /// for the certificate, before anything is taken.
 pub fn verify_image<S: Source, P: Port>(alloc: Global, source: &mut S, port: &mut P) -> Status
+    /// promise: The lines of the input are answered, however it was cut, up to its end: with the number of the first
+    /// line that is refused, or by the case that applies. All memory is taken before the first line is. Each image left
+    /// stands for the same world as the one at the start, or for none as that one.
     ensures ran { VerifyRan result (taking S.told S.taken S.left_bytes S.ended source.old source.new)
         (moments P.told P.view port.old port.new) }
-    // Where the image fails one of the tests that need no write, nothing is written, and the disk reads as before;
-    // where it fails another, nothing is lost that a repair could use.
+    /// promise (with spared, behind): Where the image fails one of the first three tests, nothing is written, and it
+    /// reads as before; where it fails another, nothing is lost that a repair could use; what lies after the image is
+    /// as it was.
     ensures untouched { P.told → IsForeign (P.view port.old).reads
         → IsUntouched (P.view port.old) (P.view port.new) }
     ensures spared { P.told → IsNotImage result → IsSpared (P.view port.old) (P.view port.new) }

@@ -82,8 +82,12 @@ impl LiveMap {
     /// free.
     pub fn choose(&self, placement: &Placement, hint: u32, count: u32) -> Result<BlockList, Short>
         requires { (1 ≤ count) × (count ≤ 32) }
+        /// promise (with counted): Exactly the free blocks of least rank, as many as are wanted, in the order of their
+        /// ranks.
         ensures chosen { IfOk result (λ blocks. blocks ≡ chosen placement.now.kind self.now.unhidden hint count) }
         ensures counted { IfOk result (λ blocks. length blocks ≡ count) }
+        /// promise (with refused): `Short` comes exactly where fewer blocks are free than are wanted, with both
+        /// numbers.
         ensures enough { OnOk result (count ≤ free_count self.now.unhidden) }
         ensures refused { IfErr result (λ s. IsShort self.now.unhidden count s.free s.wanted) }
         ensures table { IsTable self.now }
@@ -108,8 +112,11 @@ impl LiveMap {
         count: u32,
     ) -> Result<u32, RunRefusal>
         requires { (1 ≤ count) × (count ≤ 32) }
+        /// promise: The run whose first block has the least rank.
         ensures chosen { IfOk result (λ first. chosen_run placement.now.kind self.now.unhidden hint count
             ≡ Some first) }
+        /// promise (with refused): `Short` comes exactly where fewer blocks are free than are wanted, `NoRun` exactly
+        /// where enough are and no run is that long, each with both numbers.
         ensures enough { OnOk result (count ≤ free_count self.now.unhidden) }
         ensures refused { IfErr result (IsRunRefusal self.now.unhidden count) }
         ensures table { IsTable self.now }

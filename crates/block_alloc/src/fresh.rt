@@ -42,6 +42,7 @@ fn first_bits(count: u32) -> [u8; SECTOR_BYTES]
 /// A sector of the bitmap of a fresh disk, counted from the first such sector.
 pub fn fresh_sector(geometry: &Geometry, part: u32) -> [u8; SECTOR_BYTES]
     requires { IsLawful geometry.now }
+    /// promise: The sector of a fresh disk.
     ensures { result ≡ bitmap_sector_bytes (fresh_live geometry.now) part }
 {
     first_bits(if part == 0 { geometry.primaries } else { 0 })
@@ -50,6 +51,7 @@ pub fn fresh_sector(geometry: &Geometry, part: u32) -> [u8; SECTOR_BYTES]
 /// An image whose bitmap is written as that of a map has the bits of that map. The blocks of a fresh disk are a map, in
 /// which the primary blocks are live and all others are free.
 pub fn written_sectors_have_the_bits()
+    /// promise: An image whose sectors stand as a map writes them has that map.
     ensures stored { (live : List Bool) (g : Geometry) (x : Image) → AreWritten live g x → IsStored live g x }
     ensures fresh { (g : Geometry) → IsLawful g
         → IsTable (record { geometry = g; live = fresh_live g; unhidden = fresh_live g }) }

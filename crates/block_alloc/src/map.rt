@@ -70,6 +70,7 @@ impl LiveMap {
         requires { IsLawful geometry.now }
         ensures geometry { IfOk result (λ m. m.geometry ≡ geometry.now) }
         ensures table { IfOk result IsTable }
+        /// promise: After Ok the map is what the device's bitmap says, with no block hidden.
         ensures stored { D.told → IfOk result (λ m. IsStored m.live geometry.now (D.view dev.old).reads) }
         ensures none_hidden { IfOk result (λ m. m.unhidden ≡ m.live) }
         ensures rests { D.told → Rests (D.view dev.old) (D.view dev.new) }
@@ -128,6 +129,7 @@ impl LiveMap {
     /// Whether a block is live in the bitmap, hidden or not.
     pub fn raw_live(&self, block: u32) -> bool
         requires { block < self.now.geometry.blocks }
+        /// promise: Whether the block is live in the bitmap, hidden or not.
         ensures { result ≡ is_live self.now.live block }
     {
         bit_in(&self.bytes, block)
@@ -136,6 +138,7 @@ impl LiveMap {
     /// Makes a block live and not hidden, whatever it was.
     pub fn set_live(&mut self, block: u32)
         requires { block < self.old.geometry.blocks }
+        /// promise: The block is live and not hidden, and no other changes.
         ensures { self.new ≡ record self.old {
           live = slice_set self.old.live block true;
           unhidden = slice_set self.old.unhidden block true;
@@ -147,6 +150,7 @@ impl LiveMap {
     /// Makes a block free and not hidden, whatever it was.
     pub fn set_free(&mut self, block: u32)
         requires { block < self.old.geometry.blocks }
+        /// promise: The block is free and not hidden, and no other changes.
         ensures { self.new ≡ record self.old {
           live = slice_set self.old.live block false;
           unhidden = slice_set self.old.unhidden block false;
@@ -158,6 +162,7 @@ impl LiveMap {
     /// Hides a live block: it is free from now on for each question and each choice, and its bit stays in the bitmap.
     pub fn hide(&mut self, block: u32)
         requires { IsTrue (is_live self.old.unhidden block) }
+        /// promise: The block is free from now on for each question and each choice, and its bit in the bitmap stays.
         ensures { self.new ≡ record self.old { unhidden = slice_set self.old.unhidden block false } }
     {
         let blocks = self.geometry.blocks;
@@ -192,6 +197,7 @@ impl LiveMap {
         ensures here { StoresSector self.now.live self.now.geometry result }
 
         // So where those of all other blocks were right, all are.
+        /// promise (with here): Where an image had all bits but those of this sector, it has the map with the patch.
         ensures stored { Completes self.now.live self.now.geometry result }
 
         ensures table { IsTable self.now }

@@ -14,6 +14,8 @@ ghost use Rattle.block_alloc.specs.Worlds.{IsMapOf};
 
 /// A map that has the live blocks of a world has its free blocks and its runs, and chooses as the world does.
 pub fn choices_are_the_worlds()
+    /// promise (with free, blocks, runs, run): What a map chooses are the choices, the runs and the free count of any
+    /// world with the same live blocks.
     ensures count { (live : List Bool) (w : World) → IsMapOf live w → free_count live ≡ free_count_of w }
     ensures free { (live : List Bool) (w : World) → IsMapOf live w → free_blocks live ≡ free_blocks_of w }
     ensures blocks { (live : List Bool) (w : World) → IsMapOf live w

@@ -28,6 +28,7 @@ fn fresh_records(caps: &CapList) -> [Record; CAPS_MAX]
 /// The 512 bytes of one of the two sectors of records, by its number from 0, of a fresh disk whose primary blocks have
 /// these capabilities.
 pub fn fresh_sector(caps: &CapList, part: u32) -> [u8; SECTOR_BYTES]
+    /// promise: A sector of records of a fresh disk with these capabilities.
     ensures value { result ≡ caps_sector_bytes 1 (fresh_records caps.now) part }
     ensures each { AreRecords 1 (fresh_records caps.now) }
     ensures few { length (fresh_records caps.now) ≤ 16 }

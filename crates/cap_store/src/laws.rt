@@ -13,6 +13,8 @@ ghost use Rattle.cap_store.specs.Stored.{stored_record, AreWritten, IsStored, Is
 
 /// An image has the records of one store alone, and the two sectors of records decide which.
 pub fn sectors_have_one_store()
+    /// promise (with same_sectors): An image has the records of one store alone, and the two sectors of records alone
+    /// decide which.
     ensures one_store { (version : ℕ) (records : List Record) (x : Image) → IsStored version records x
         → records ≡ map (stored_record version x) (range_with_len 0 (length records)) }
     ensures same_sectors { (version : ℕ) (records : List Record) (x y : Image) → IsVersion version
@@ -25,6 +27,7 @@ pub fn sectors_have_one_store()
 
 /// An image has the records of a store where the sectors of records stand as they are written.
 pub fn written_sectors_have_the_store()
+    /// promise: An image whose sectors stand as a store writes them has that store.
     ensures written { (version : ℕ) (records : List Record) (x : Image) → IsVersion version
         → length records ≤ 16 → AreRecords version records
         → AreWritten version records x → IsStored version records x }

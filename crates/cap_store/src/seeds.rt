@@ -26,6 +26,7 @@ fn next_cap(words: &mut ChaCha20Rng) -> Cap
 /// The pairs of sixteen primary blocks that a seed gives. The words of its stream by ChaCha20, from the first on, serve
 /// block after block: four words for the capability to read and the next four for that to write.
 pub fn seed_caps(seed: &[u8; 32]) -> CapList
+    /// promise: The pairs that a seed gives: the words of its ChaCha20 stream, from the first on.
     ensures { result ≡ seed_pairs seed.now }
 {
     let mut words = ChaCha20Rng::from_seed(*seed);

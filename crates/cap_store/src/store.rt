@@ -62,6 +62,7 @@ impl CapStore {
         ensures version { IfOk result (λ s. s.version ≡ header.now.version) }
         ensures geometry { IfOk result (λ s. s.geometry ≡ header.now.geometry) }
         ensures table { IfOk result (λ s. IsTable s) }
+        /// promise: After Ok the store is what the device's sectors say.
         ensures stored { D.told → IfOk result (λ s. IsStored s.version s.records (D.view dev.old).reads) }
         ensures rests { D.told → Rests (D.view dev.old) (D.view dev.new) }
         ensures uses { Uses 0 (D.view dev.old) (D.view dev.new) }
@@ -82,6 +83,7 @@ impl CapStore {
         ensures table { IsTable self.now }
 
         // What a world asks of its records.
+        /// promise (with each): There is a record for each primary block, all of the store's version, as a world asks.
         ensures of_version { IsTrue (list_all (is_record_of self.now.version) self.now.records) }
         ensures each { length self.now.records ≡ self.now.geometry.primaries }
     {
@@ -91,6 +93,8 @@ impl CapStore {
     /// The level that a shown capability attains at a primary block.
     pub fn level_shown(&self, block: u32, shown: &Shown) -> Level
         requires { block < self.now.geometry.primaries }
+        /// promise (with rule): The level for which a shown capability is right is that of the abstract disk in any
+        /// world with these records, in version 1 and in version 2.
         ensures value { result ≡ level_shown self.now block shown.now }
 
         // That is the level by the abstract disk's rule, in any world with these records.
@@ -108,6 +112,7 @@ impl CapStore {
     /// A primary block has these capabilities from now on.
     pub fn set(&mut self, block: u32, caps: &CapPair)
         requires { block < self.old.geometry.primaries }
+        /// promise: Of the new pair is kept what the version keeps, and no other record changes.
         ensures set { self.new ≡ record self.old {
           records = slice_set self.old.records block
               (kept self.old.version caps.now);
@@ -117,6 +122,7 @@ impl CapStore {
         ensures elsewhere { KeepsElsewhere block self.old self.new }
 
         // With the patch of this record, an image that had the store before has the new one.
+        /// promise: With the patch of this record, an image that had the store before has the new one.
         ensures stored { KeepsStored self.old self.new (patch_of self.new block) }
     {
         self.records[block as usize] = record_of(self.version, caps);
@@ -125,12 +131,15 @@ impl CapStore {
     /// Of each capability only its digest is kept from now on: the store becomes one of version 2. One of version 2
     /// stays as it is.
     pub fn upgrade(&mut self)
+        /// promise (with same): Of each capability only the digest is kept; a store of version 2 stays.
         ensures upgraded { self.new ≡ upgraded self.old }
         ensures same { self.old.version ≡ 2 → self.new ≡ self.old }
 
         // An image has all the records where the two sectors stand there, and with 8 primary blocks or fewer the first.
         ensures one { self.new.geometry.primaries ≤ 8 → (y : Image)
             → y caps_start ≡ caps_sector_bytes 2 self.new.records 0 → IsStored 2 self.new.records y }
+        /// promise (with one, empty): An image with the two new sectors, or with the first where there are 8 primary
+        /// blocks or fewer, has all records, whatever it had before; the second is then zeros.
         ensures both { (y : Image) → y caps_start ≡ caps_sector_bytes 2 self.new.records 0
             → y (caps_start + 1) ≡ caps_sector_bytes 2 self.new.records 1 → IsStored 2 self.new.records y }
 
@@ -152,6 +161,8 @@ impl CapStore {
             (part_of self.now.version block) }
 
         // An image that has the records of the other sector has all of them, once the patch stands there.
+        /// promise (with more): Where an image had all records but those of this sector, it has the store with the
+        /// patch; so too where more sectors are still to be patched.
         ensures stored { Completes self.now result }
 
         // The same where more sectors are still to be patched.

@@ -170,6 +170,7 @@ pub fn append<K: Blocks>(
     bytes: &Data,
 ) -> Result<(), FsRefusal>
     requires may { MayAsk K.told client.now (K.view disk.old) }
+    /// promise (with changes): The answer is the tree's step, and every stop leaves the tree before or after.
     ensures answer { K.told → Answers (mounted_by client.now) (K.view disk.old) (K.view disk.new)
         (ask.Append path.now bytes.now) result (λ _ answer. answer ≡ done) }
     ensures changes { Changes K.told (mounted_by client.now) (K.view disk.old) (K.view disk.new)

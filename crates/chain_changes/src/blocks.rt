@@ -103,6 +103,8 @@ pub fn new_chain<K: Blocks>(
     requires may { K.told → MayWrite client.now (K.view disk.old) source }
     requires stage { K.told → Stage client.now.root (K.view disk.old).world source }
     requires few { K.told → count ≤ 64 }
+    /// promise (with room, full, same): A new chain that nothing names yet; where there is no room the world is as it
+    /// was.
     ensures made { K.told → IfOk result (λ blocks. NewChain client.now (K.view disk.old) (K.view disk.new) source
         count blocks) }
     ensures many { IfOk result (λ blocks. length blocks ≡ count) }

@@ -62,6 +62,7 @@ pub fn write_chain<K: Blocks>(
     requires few { len ≤ 4096 }
     requires many { length blocks.now ≤ 64 }
     requires enough { K.told → length bytes.now ≤ bytes_room len * length blocks.now }
+    /// promise (with only): The chain has these bytes; only a fault refuses it.
     ensures wrote { K.told → OnOk result (Wrote client.now (K.view disk.old) (K.view disk.new) blocks.now bytes.now) }
     ensures only { K.told → IfErr result (λ e. e ≡ no.Device) }
     ensures runs { Runs K.told (K.view disk.old) (K.view disk.new) (AsideWith client.now.root blocks.now

@@ -60,6 +60,8 @@ pub fn new_file<K: Blocks>(
     requires head { 16 ≤ len }
     requires few { len ≤ 4096 }
     requires ahead { ahead ≤ 1 }
+    /// promise (with room, full, same): A new file that nothing names yet; where there is no room the world is as it
+    /// was.
     ensures made { K.told → IfOk result (λ blocks. NewFile client.now (K.view disk.old) (K.view disk.new) source
         ahead bytes.now blocks) }
     ensures some { IfOk result (λ blocks. ahead < length blocks) }

@@ -18,6 +18,7 @@ use fs_trees::FsRefusal;
 pub fn make<K: Blocks>(client: &Client, disk: &mut K) -> Result<(), FsRefusal>
     requires ready { IsClientReady (mounted_by client.now) (K.view disk.old) }
     requires valid { K.told → IsValidNow (K.view disk.old) }
+    /// promise (with runs): An empty tree.
     ensures made { K.told → OnOk result (IsMade (mounted_by client.now) (K.view disk.old) (K.view disk.new)) }
     ensures only { K.told → IfErr result (λ e. e ≡ no.Device) }
     ensures runs { Runs K.told (K.view disk.old) (K.view disk.new) (IsEitherTree (mounted_by client.now)

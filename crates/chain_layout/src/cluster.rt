@@ -50,6 +50,7 @@ impl Cluster {
 
     /// The cluster in a block's bytes.
     pub fn parse(bytes: Data) -> Option<Cluster>
+        /// promise (with short): What cluster a block is, if it is one.
         ensures value { 16 ≤ length bytes → option_map cluster_of result ≡ cluster_in bytes }
         ensures short { length bytes < 16 → result ≡ None }
         ensures kept { IfSome result (λ cluster. bytes_of cluster ≡ bytes) }

@@ -84,6 +84,7 @@ impl DirectoryCluster {
 
     /// The cluster as one of the directory, where it is one.
     pub fn of(cluster: Cluster) -> Option<DirectoryCluster>
+        /// promise: The cluster as one of a directory, if it is one.
         ensures value { option_map entries_in result ≡ entries_of (block_len_of cluster) (cluster_of cluster) }
         ensures kept { IfSome result (λ d. dir_cluster d ≡ cluster) }
     {

@@ -22,6 +22,7 @@ impl FileCluster {
 
     /// The cluster as one of a file, where there is room for its bytes.
     pub fn of(cluster: Cluster) -> Option<FileCluster>
+        /// promise: The cluster as one of a file, if it is one.
         ensures value { IsSome result ↔ ((cluster_of cluster).used ≤ bytes_room (block_len_of cluster)) }
         ensures kept { IfSome result (λ f. part_cluster f ≡ cluster) }
     {

@@ -92,6 +92,7 @@ pub fn directory_with(old: &DirectoryCluster, position: usize, name: &[u8], bloc
     requires named { length name.now ≤ 28 }
     requires within { position ≤ length (entries_in old.now) }
     requires fits { position < entries_room (block_len_of (dir_cluster old.now)) }
+    /// promise: The bytes of a directory's cluster with the entry at its place, instead of the one there or after all.
     ensures { result ≡ directory_bytes (cluster_of (dir_cluster old.now)).next
         (listed_at position (record { name = name.now; block = block }) (entries_in old.now)) }
 {
@@ -110,6 +111,7 @@ pub fn directory_with(old: &DirectoryCluster, position: usize, name: &[u8], bloc
 /// The cluster of the directory without the entry at a position.
 pub fn directory_without(old: &DirectoryCluster, position: usize) -> Data
     requires { position < length (entries_in old.now) }
+    /// promise: The bytes of a directory's cluster without an entry.
     ensures { result ≡ directory_bytes (cluster_of (dir_cluster old.now)).next
         (unlisted_at position (entries_in old.now)) }
 {
@@ -137,6 +139,7 @@ pub fn directory_linked(old: &DirectoryCluster, next: u32) -> Data
 pub fn file_part(next: Option<u32>, front: &[u8], more: &[u8]) -> Data
     requires linked { link_field next < 2 ^ 32 }
     requires fits { 16 + length front.now + length more.now ≤ 4096 }
+    /// promise: The bytes of a file's cluster: those that it has, and more.
     ensures { result ≡ part_bytes next (front.now ++ more.now) }
 {
     let mut bytes = head(next, (front.len() + more.len()) as u32);

@@ -49,6 +49,7 @@ pub fn search<K: Blocks>(client: &Client, disk: &mut K, name: &Name) -> Result<L
     requires unspent { (K.view disk.old).spent ≡ false }
     requires valid { K.told → IsValidNow (K.view disk.old) }
     requires directory { K.told → HasDirectory client.now (K.view disk.old) }
+    /// promise (with within): Where a name stands, or where there is room for it.
     ensures found { K.told → (ls : List Link) (ps : List PlacedEntry) → IsDirectoryAhead client.now (K.view disk.old) ls
         ps → IfOk result (IsNameFound client.now (K.view disk.new) name.now ls ps) }
     ensures within { IfOk result IsLookupWithin }

@@ -233,6 +233,7 @@ pub fn is_tree<K: Blocks>(
 ) -> Result<bool, FsRefusal>
     requires ready { IsClientReady (mounted_by client.now) (K.view disk.old) }
     requires valid { K.told → IsValidNow (K.view disk.old) }
+    /// promise (with looks): Whether a tree of chains is there, exactly; no world is changed.
     ensures tells { K.told
         → IfOk result (λ right. right ≡ is_there (chain_tree (K.view disk.old).world client.now.root)) }
     ensures only { K.told → IfErr result (λ e. e ≡ no.Device) }

@@ -51,6 +51,7 @@ fn chain_size<K: Blocks>(client: &Client, disk: &mut K, first: u32) -> Result<u6
 /// How many bytes a file has.
 pub fn size<K: Blocks>(client: &Client, disk: &mut K, path: &Path) -> Result<u64, FsRefusal>
     requires { MayAsk K.told client.now (K.view disk.old) }
+    /// promise (with looks): A file's size, by the tree; no world is changed.
     ensures answer { K.told → Answers (mounted_by client.now) (K.view disk.old) (K.view disk.new) (ask.Cat path.now)
         result TellsSize }
     ensures looks { OnlyLooks K.told (K.view disk.old) (K.view disk.new) result }
@@ -122,6 +123,7 @@ pub fn read_file<K: Blocks>(
     into: &mut Data,
 ) -> Result<(), FsRefusal>
     requires { MayAsk K.told client.now (K.view disk.old) }
+    /// promise (with looks): A file's bytes, by the tree; no world is changed.
     ensures answer { K.told → Answers (mounted_by client.now) (K.view disk.old) (K.view disk.new) (ask.Cat path.now)
         result (λ _. TellsPart start into.new) }
     ensures nothing { IfErr result (λ _. into.new ≡ []) }
@@ -172,6 +174,7 @@ pub fn name_after<K: Blocks>(
     after: &Name,
 ) -> Result<Option<Name>, FsRefusal>
     requires { MayAsk K.told client.now (K.view disk.old) }
+    /// promise (with looks): The directory's next name, by the tree; no world is changed.
     ensures answer { K.told → Answers (mounted_by client.now) (K.view disk.old) (K.view disk.new) (ask.Ls path.now)
         result (TellsNext after.now) }
     ensures looks { OnlyLooks K.told (K.view disk.old) (K.view disk.new) result }

@@ -26,6 +26,8 @@ impl<'a, D: Device, L: Placing> CoreBlocks<'a, D, L> {
     pub fn new(core: &'a mut Core, placement: &'a L, dev: &'a mut D) -> CoreBlocks<'a, D, L>
         requires ready { IsCoreReady core.old }
         requires at { D.told → IsCoreAt core.old (D.view dev.old) }
+        /// promise (with dev, core_now, dev_now): The core over its device, as the disk that file systems ask
+        /// (`Blocks`).
         ensures core { result.core.ghost_name ≡ core.entry.ghost_name }
         ensures dev { result.dev.ghost_name ≡ dev.entry.ghost_name }
         ensures core_now { result.core.now ≡ core.old }

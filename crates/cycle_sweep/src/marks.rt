@@ -73,6 +73,7 @@ pub fn mark(pointers: &PointerTable, live: &LiveMap, primaries: u32, marks: &mut
     requires primaries { primaries ≡ pointers.now.geometry.primaries }
     requires size { length marks.old ≡ pointers.now.geometry.blocks }
     ensures size { length marks.new ≡ length marks.old }
+    /// promise: Exactly the blocks are marked that the primary blocks lead to.
     ensures reached { (b : ℕ) → is_marked marks.new b ≡ has_number (reach (graph_of pointers.now live.now)) b }
 {
     mark_reached(

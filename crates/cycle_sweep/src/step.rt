@@ -33,14 +33,17 @@ pub fn next_sweep_step(
     requires tables { AreTables pointers.now live.now }
     requires counts { HaveCounts pointers.now live.now counts.now }
     requires marks { (b : ℕ) → is_marked marks.old b ≡ has_number (reach (graph_of pointers.now live.now)) b }
+    /// promise (with wide): A live unmarked block, with 16 of its pairs or all that are left.
     ensures step { IfSome result (λ s. MaySweep (graph_of pointers.now live.now) s) }
+    /// promise: The block is freed exactly where no pair leads from it or to it then.
     ensures freed { IfSome result (λ s. IsTrue s.freed ↔ IsAloneAfter (graph_of pointers.now live.now) s) }
 
     // It takes 16 targets, or all that are left.
     ensures wide { IfSome result (λ s. TakesAll (graph_of pointers.now live.now) s ⊎ (length s.targets ≡ 16)) }
 
-    // What a disk with this graph sweeps to is the same after the step, and there is less of it.
+    /// promise: What a disk with this graph sweeps to is the same after the step, and there is less of it.
     ensures kept { IfSome result (λ s. AreSweptBy (graph_of pointers.now live.now) s) }
+    /// promise (with swept): None exactly where each live block is marked; then the world is swept.
     ensures none { IsNone result ↔ ((b : ℕ) → IsTrue (is_live (graph_of pointers.now live.now) b)
         → IsTrue (is_marked marks.old b)) }
 

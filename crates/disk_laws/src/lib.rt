@@ -4,7 +4,7 @@
 //!
 //! What it promises: each law is a clause of a function that takes nothing and does nothing. It holds for every kind of
 //! placement, every state that it names, every request and every list of requests, at whichever opens no memory was
-//! found. `docs/PROOFS.md` says each in plain words, and what it does not say.
+//! found. `docs/CLAUSES.md` says each in plain words, and `docs/PROOFS.md` what it does not say.
 #![tactic(auto)]
 
 pub mod access;

@@ -3,11 +3,8 @@
 ghost use Rattle.std.specs.Prelude.{◌≡◌, ◌≢◌, ◌≤◌, ◌^◌, None, Some, IfOk, OnErr, OnOk};
 ghost use Rattle.image_device.specs.Counts.{raised, CountsFault};
 
-use crate::ahead::ReadAhead;
-use crate::image_file::{ImageFile, Kind, SECTOR};
-use crate::names::{Quoted, Shown};
-use crate::trouble::Trouble;
 use image_device::Failed;
+use image_files::{Followed, ImageFile, Kind, Quoted, SECTOR, Shown, Trouble};
 use std::alloc::Global;
 use std::io::{self, Write};
 
@@ -15,10 +12,57 @@ use std::io::{self, Write};
 #[derive(Drop)]
 enum Image {
     /// It is open.
-    Open(ImageFile),
+    Open(Followed<ImageFile>),
 
     /// It couldn't be opened.
     Lost(Trouble),
+}
+
+impl Image {
+    /// Reads a sector.
+    fn read(&mut self, sector: u32, into: &mut [u8; SECTOR]) -> Result<(), Trouble>
+        ensures { OnErr result (into.new ≡ into.old) }
+    {
+        match self {
+            Image::Open(file) => file.read(sector, into),
+            Image::Lost(trouble) => Err(*trouble),
+        }
+    }
+
+    /// Writes a sector.
+    fn write(&mut self, sector: u32, from: &[u8; SECTOR]) -> Result<(), Trouble> {
+        match self {
+            Image::Open(file) => file.write(sector, from),
+            Image::Lost(trouble) => Err(*trouble),
+        }
+    }
+
+    /// Has all that was written on the medium.
+    fn sync(&mut self) -> Result<(), Trouble> {
+        match self {
+            Image::Open(file) => file.sync(),
+            Image::Lost(trouble) => Err(*trouble),
+        }
+    }
+
+    /// The number of sectors.
+    fn end(&self) -> Result<u64, Trouble>
+        ensures { IfOk result (λ end. end ≤ 2 ^ 32) }
+    {
+        match self {
+            Image::Open(file) => file.file().end(),
+            Image::Lost(trouble) => Err(*trouble),
+        }
+    }
+
+    /// What it is kept in, where the system may show of it what the medium doesn't hold: where it could be written, to
+    /// a file or a device.
+    fn doubt(&self) -> Option<Kind> {
+        match self {
+            Image::Open(file) if file.file().is_written() => Some(file.file().kind()),
+            _ => None,
+        }
+    }
 }
 
 /// An image in a file, read and written by offset, and read ahead where reads follow one another. It counts the calls
@@ -26,7 +70,6 @@ enum Image {
 #[derive(Drop)]
 pub struct FileSide {
     image: Image,
-    ahead: ReadAhead,
     trouble: Option<Trouble>,
     unsure: Option<Kind>,
     pub(crate) faults: u64,
@@ -41,10 +84,9 @@ impl FileSide {
     {
         FileSide {
             image: match image {
-                Ok(file) => Image::Open(file),
+                Ok(file) => Image::Open(Followed::new(alloc, file)),
                 Err(trouble) => Image::Lost(trouble),
             },
-            ahead: ReadAhead::none(alloc),
             trouble: None,
             unsure: None,
             faults: 0,
@@ -68,7 +110,6 @@ impl FileSide {
         ensures faults { self.new.faults ≡ self.old.faults }
         ensures syncs { self.new.syncs ≡ self.old.syncs }
     {
-        self.ahead.forget();
         self.image = Image::Lost(trouble);
     }
 
@@ -79,12 +120,8 @@ impl FileSide {
         ensures later { self.old.faults ≤ self.new.faults }
         ensures syncs { self.new.syncs ≡ self.old.syncs }
     {
-        let mut room = [0u8; SECTOR];
-        match read_sector(&self.image, &mut self.ahead, sector, &mut room) {
-            Ok(()) => {
-                *into = room;
-                Ok(())
-            }
+        match self.image.read(sector, into) {
+            Ok(()) => Ok(()),
             Err(trouble) => {
                 note(&mut self.trouble, trouble);
                 self.faults = self.faults.saturating_add(1);
@@ -99,15 +136,11 @@ impl FileSide {
         ensures later { self.old.faults ≤ self.new.faults }
         ensures syncs { self.new.syncs ≡ self.old.syncs }
     {
-        match write_sector(&self.image, sector, from) {
-            Ok(()) => {
-                self.ahead.renew(sector, from);
-                Ok(())
-            }
+        match self.image.write(sector, from) {
+            Ok(()) => Ok(()),
             Err(trouble) => {
-                self.ahead.forget();
                 note(&mut self.trouble, trouble);
-                self.unsure = doubt_of(&self.image);
+                self.unsure = self.image.doubt();
                 self.faults = self.faults.saturating_add(1);
                 Err(Failed)
             }
@@ -122,15 +155,14 @@ impl FileSide {
         ensures later_syncs { self.old.syncs ≤ self.new.syncs }
         ensures not_synced { OnErr result (self.new.syncs ≡ self.old.syncs) }
     {
-        match sync_image(&self.image) {
+        match self.image.sync() {
             Ok(()) => {
                 self.syncs = self.syncs.saturating_add(1);
                 Ok(())
             }
             Err(trouble) => {
-                self.ahead.forget();
                 note(&mut self.trouble, trouble);
-                self.unsure = doubt_of(&self.image);
+                self.unsure = self.image.doubt();
                 self.faults = self.faults.saturating_add(1);
                 Err(Failed)
             }
@@ -144,7 +176,7 @@ impl FileSide {
         ensures later { self.old.faults ≤ self.new.faults }
         ensures syncs { self.new.syncs ≡ self.old.syncs }
     {
-        match end_of(&self.image) {
+        match self.image.end() {
             Ok(end) => Ok(end),
             Err(trouble) => {
                 note(&mut self.trouble, trouble);
@@ -155,51 +187,6 @@ impl FileSide {
     }
 }
 
-/// Reads a sector into a room of zeros, with those behind it where reads follow one another.
-fn read_sector(
-    image: &Image,
-    ahead: &mut ReadAhead,
-    sector: u32,
-    room: &mut [u8; SECTOR],
-) -> Result<(), Trouble> {
-    match image {
-        Image::Open(file) => {
-            ahead.follow(file, sector);
-            if ahead.copy(sector, room) {
-                return Ok(());
-            }
-            file.read(sector, room)
-        }
-        Image::Lost(trouble) => Err(*trouble),
-    }
-}
-
-/// Writes a sector.
-fn write_sector(image: &Image, sector: u32, from: &[u8; SECTOR]) -> Result<(), Trouble> {
-    match image {
-        Image::Open(file) => file.write(sector, from),
-        Image::Lost(trouble) => Err(*trouble),
-    }
-}
-
-/// Has all that was written on the medium.
-fn sync_image(image: &Image) -> Result<(), Trouble> {
-    match image {
-        Image::Open(file) => file.sync(),
-        Image::Lost(trouble) => Err(*trouble),
-    }
-}
-
-/// The number of sectors.
-fn end_of(image: &Image) -> Result<u64, Trouble>
-    ensures { IfOk result (λ end. end ≤ 2 ^ 32) }
-{
-    match image {
-        Image::Open(file) => file.end(),
-        Image::Lost(trouble) => Err(*trouble),
-    }
-}
-
 /// Keeps the first trouble.
 pub fn note(first: &mut Option<Trouble>, trouble: Trouble)
     ensures noted { first.old ≡ None → first.new ≡ Some trouble }
@@ -207,15 +194,6 @@ pub fn note(first: &mut Option<Trouble>, trouble: Trouble)
 {
     if first.is_none() {
         *first = Some(trouble);
-    }
-}
-
-/// What an image is kept in, where the system may show of it what the medium doesn't hold: where it could be written, to
-/// a file or a device.
-fn doubt_of(image: &Image) -> Option<Kind> {
-    match image {
-        Image::Open(file) if file.is_written() => Some(file.kind()),
-        _ => None,
     }
 }
 

@@ -3,12 +3,11 @@
 ghost use Rattle.std.specs.Prelude.{◌≡◌};
 
 use crate::file_side::FileSide;
-use crate::image_file::ImageFile;
 use crate::notes::{Named, Notes};
 use crate::outlet::Outlet;
 use crate::progress::Progress;
-use crate::trouble::Trouble;
 use image_device::{Failed, WorkDone};
+use image_files::{ImageFile, Mark, Trouble};
 use mirror_device::{Side, SideCounts, Sides};
 use std::alloc::Global;
 use std::io::Write;
@@ -27,8 +26,8 @@ pub struct NamedImage {
 /// Two images in files and an output. They tell nothing of their contents: what a system keeps, no clause can say.
 /// Where there is a terminal `E` with a clock `C`, long work is told there, the copying with how much is left of it.
 /// The first call that fails on an image is told in lines of errors `F` as it comes, since the run goes on without it.
-/// The image that goes on is marked then, before anything else is done; where that fails it isn't served any longer, and
-/// nothing more is sent.
+/// The image that goes on is marked then, before anything else is done; where that fails it isn't served any longer,
+/// and nothing more is sent.
 #[derive(Drop)]
 pub struct FileSides<'a, O, C, E, F> {
     first: FileSide,

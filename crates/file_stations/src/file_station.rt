@@ -1,11 +1,10 @@
 //! An image in a file, with an output beside it.
 
 use crate::file_side::FileSide;
-use crate::image_file::{ImageFile, Kind};
 use crate::outlet::Outlet;
 use crate::progress::Progress;
-use crate::trouble::Trouble;
 use image_device::{Device, Failed, Port, WorkDone};
+use image_files::{ImageFile, Kind, Trouble};
 use std::alloc::Global;
 use std::io::Write;
 use std::time::Clock;

@@ -3,8 +3,8 @@
 ghost use Rattle.std.specs.Prelude.{ℕ, List, []};
 ghost use Rattle.std.specs.Io.{ReadsAtMost};
 
-use crate::trouble::Trouble;
 use image_device::{Failed, Source};
+use image_files::Trouble;
 use std::io::{self, ErrorKind, Read};
 
 /// The most bytes that one take asks for.

@@ -1,8 +1,7 @@
 //! What is told of two images as it comes, and marked beside them.
 
 use crate::file_side::{FileSide, tell_image};
-use crate::mark::Mark;
-use crate::names::Shown;
+use image_files::{Mark, Shown};
 use std::io::{self, Write};
 
 /// An image's path and its mark.

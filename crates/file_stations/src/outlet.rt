@@ -5,8 +5,8 @@ ghost use Rattle.std.specs.Io.{WritesAtMost};
 ghost use Rattle.image_device.specs.Counts.{CountsFault};
 
 use crate::file_side::note;
-use crate::trouble::Trouble;
 use image_device::Failed;
+use image_files::Trouble;
 use std::io::{self, ErrorKind, Write};
 
 /// An output that keeps nothing back: what a write to it took was sent. It counts the puts that failed, up to the

@@ -1,9 +1,9 @@
 //! An image that is only read, with an output in memory beside it.
 
 use crate::file_side::FileSide;
-use crate::image_file::ImageFile;
 use crate::progress::Progress;
 use image_device::{Device, Failed, Port, WorkDone};
+use image_files::ImageFile;
 use std::alloc::Global;
 use std::collections::BTreeMap;
 use std::io::Write;

@@ -106,6 +106,9 @@ impl Client {
     /// The bytes of a block.
     pub fn read<K: Blocks>(&self, disk: &mut K, block: u32) -> Result<Data, FsRefusal>
         requires unspent { (K.view disk.old).spent ≡ false }
+        /// promise (with once): What the reply holds by the rules of the disk, or the disk's refusal with nothing
+        /// changed; a crash leaves the world before or after it. So too of `write`, `alloc`, `link`, `unlink` and
+        /// `list`.
         ensures step { K.told → IfOk result (λ bytes. IsAskCarriedOut (K.view disk.old) (K.view disk.new)
             (read_by self.now block) (reply.Bytes bytes)) }
         ensures once { AsksOnce K.told (K.view disk.old) (K.view disk.new) (read_by self.now block) result }

@@ -25,6 +25,8 @@ pub fn is_held<K: Blocks, N: Names>(
     requires valid { K.told → IsValidNow (K.view disk.old) }
     requires may { K.told → MayWrite client.now (K.view disk.old) source }
     requires counted { count ≡ length (N.blocks namer.now) }
+    /// promise (with only, looks): Whether a block points to all that its contents name; no world is changed, and only
+    /// a fault refuses it.
     ensures held { K.told → IfOk result (λ held. held ≡ are_held (K.view disk.old).world source
         (N.blocks namer.now)) }
     ensures only { K.told → IfErr result (λ e. e ≡ no.Device) }

@@ -102,6 +102,8 @@ pub fn count_pairs<K: Blocks, N: Names>(
     requires unspent { (K.view disk.old).spent ≡ false }
     requires valid { K.told → IsValidNow (K.view disk.old) }
     requires may { K.told → MayWrite client.now (K.view disk.old) source }
+    /// promise (with others, only, looks): How many of the pairs out of a block its contents name, and how many others
+    /// there are; no world is changed, and only a fault refuses it.
     ensures named { K.told
         → IfOk result (λ count. count.named ≡ length (named_targets (K.view disk.old).world source
         (N.blocks namer.now))) }

@@ -22,6 +22,8 @@ impl Client {
         requires unspent { (K.view disk.old).spent ≡ false }
         requires valid { K.told → IsValidNow (K.view disk.old) }
         requires may { K.told → MayWrite self.now (K.view disk.old) block }
+        /// promise (with held, only, looks): The bytes of a block; no world is changed, what a session may write stays
+        /// so, and where the client may write the block no rule refuses it.
         ensures bytes { K.told → IfOk result (λ bytes. contents (K.view disk.old).world block ≡ Some bytes) }
         ensures held { K.told → OnOk result (HoldsWrite (state_of (K.view disk.new)) self.now.session block) }
         ensures only { K.told → IfErr result (λ e. e ≡ no.Device) }
@@ -44,6 +46,8 @@ impl Client {
         requires unspent { (K.view disk.old).spent ≡ false }
         requires valid { K.told → IsValidNow (K.view disk.old) }
         requires may { K.told → MayWrite self.now (K.view disk.old) source }
+        /// promise (with held, only, looks): The targets of a block; no world is changed, and where the client may
+        /// write the block no rule refuses it.
         ensures targets { K.told → IfOk result (λ targets. targets ≡ targets_from (K.view disk.old).world.pairs
             source start) }
         ensures held { K.told → OnOk result (HoldsWrite (state_of (K.view disk.new)) self.now.session source) }

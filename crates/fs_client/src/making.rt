@@ -22,6 +22,8 @@ use tsd_model::Data;
 pub fn make_empty<K: Blocks>(client: &Client, disk: &mut K, bytes: Data) -> Result<(), FsRefusal>
     ghost kind: { ShellKind }
     requires { MayMake K.told kind client.now (K.view disk.old) bytes }
+    /// promise (with only, runs): An empty tree, tidy; a stop leaves the tree before or the empty one, and only a fault
+    /// refuses it.
     ensures made { K.told → OnOk result (IsMade (files_by kind client.now) (K.view disk.old) (K.view disk.new)) }
     ensures only { K.told → IfErr result (λ e. e ≡ no.Device) }
     ensures runs { Runs K.told (K.view disk.old) (K.view disk.new) (IsEitherTree (files_by kind client.now)

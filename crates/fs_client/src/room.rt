@@ -14,6 +14,7 @@ use fs_trees::FsRefusal;
 pub fn check_free<K: Blocks>(disk: &mut K, wanted: u32) -> Result<(), FsRefusal>
     requires unspent { (K.view disk.old).spent ≡ false }
     requires valid { K.told → IsValidNow (K.view disk.old) }
+    /// promise (with full): Too few free blocks are refused before any is taken, with both numbers.
     ensures enough { K.told → OnOk result (wanted ≤ free_count (K.view disk.old).world) }
     ensures full { K.told → IfErr result (λ e. e ≢ no.Device → (pairs : ℕ)
         → no_room_in (K.view disk.old).world wanted pairs ≡ Some e) }

@@ -34,6 +34,8 @@ pub fn write_block<K: Blocks>(
     requires valid { K.told → IsValidNow (K.view disk.old) }
     requires may { K.told → MayWrite client.now (K.view disk.old) block }
     requires fits { K.told → length bytes ≤ block_len (K.view disk.old).world.geometry }
+    /// promise (with only): The world with these bytes, told exactly; a stop leaves it or the one before, and no rule
+    /// refuses it.
     ensures steps { Steps K.told client.now (K.view disk.old) (K.view disk.new) (write_by client.now block bytes) block
         (written (K.view disk.old).world block bytes) result }
     ensures only { K.told → IfErr result (λ e. e ≡ no.Device) }
@@ -58,6 +60,8 @@ pub fn add_pointer<K: Blocks>(
     requires apart { K.told → (K.view disk.old).world.geometry.primaries ≤ target }
     requires way { K.told → IsTrue (attains_write (state_of (K.view disk.old)) client.now.session target Nothing) }
     requires new { K.told → holds (K.view disk.old).world.pairs source target ≡ false }
+    /// promise (with room, full): The world with the pointer, told exactly; a stop leaves it or the one before, and no
+    /// rule but want of room refuses it.
     ensures steps { Steps K.told client.now (K.view disk.old) (K.view disk.new) (link_by client.now source target)
         source (pointed (K.view disk.old).world source target) result }
     ensures room { K.told → OnOk result (no_room_in (K.view disk.old).world 0 1 ≡ None) }
@@ -80,6 +84,8 @@ pub fn drop_pointer<K: Blocks>(
     requires valid { K.told → IsValidNow (K.view disk.old) }
     requires may { K.told → MayWrite client.now (K.view disk.old) source }
     requires held { K.told → IsTrue (holds (K.view disk.old).world.pairs source target) }
+    /// promise (with only): The world without the pointer and what hung on it, told exactly; a stop leaves it or the
+    /// one before, and no rule refuses it.
     ensures steps { Steps K.told client.now (K.view disk.old) (K.view disk.new) (unlink_by client.now source target)
         source (dropped (K.view disk.old).world source target) result }
     ensures only { K.told → IfErr result (λ e. e ≡ no.Device) }
@@ -102,6 +108,8 @@ pub fn take_blocks<K: Blocks>(
     requires may { K.told → MayWrite client.now (K.view disk.old) source }
     requires some { 1 ≤ count }
     requires few { count ≤ 32 }
+    /// promise (with blocks, room, full): The world with new blocks, told exactly; a stop leaves it or the one before,
+    /// and no rule but want of room refuses it.
     ensures steps { Steps K.told client.now (K.view disk.old) (K.view disk.new) (alloc_by client.now source count)
         source (taken (K.view disk.old) source count) result }
     ensures blocks { K.told → IfOk result (λ blocks. blocks ≡ chosen (K.view disk.old).kind (K.view disk.old).world

@@ -75,6 +75,8 @@ pub fn delete_others<K: Blocks, N: Names>(
 ) -> Result<(), FsRefusal>
     ghost kept: { Named }
     requires { MayDelete K.told client.now kept (K.view disk.old) source (N.blocks namer.now) }
+    /// promise: The pairs out of a block that its contents don't name are deleted; what a tree names stays meanwhile,
+    /// in either layout.
     ensures trims { Trims K.told client.now kept (K.view disk.old) (K.view disk.new) result }
     ensures named { K.told → OnOk result (OnlyNamed (K.view disk.new).world source (N.blocks namer.now)) }
 {

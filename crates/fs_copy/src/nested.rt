@@ -53,6 +53,7 @@ fn is_dir_at<K: Blocks, A: Files>(
 /// may go on without end: NotThisFs after 4,096 names.
 pub fn first_dir<K: Blocks, A: Files>(disk: &mut K, from: &mut A) -> Result<Option<Path>, FsRefusal>
     requires set { IsSource K.told (A.view from.old) (K.view disk.old) }
+    /// promise: The first directory of the tree but `/`.
     ensures told { K.told → IfOk result (λ path. path ≡ first_dir (tree_under (A.view from.old) (K.view disk.old))) }
     ensures only { K.told → IfErr result (λ e. e ≢ no.Device → ⊥) }
     ensures looks { Looks K.told (K.view disk.old) (K.view disk.new) result }

@@ -103,6 +103,7 @@ fn name_of(bytes: &[u8]) -> Name
 /// The first name above another among so many entries.
 pub fn next_name(list: &[u8], amount: usize, after: &[u8]) -> Option<Name>
     requires { 32 * amount ≤ length list.now }
+    /// promise: The first name above another among a directory's entries.
     ensures { result ≡ find (name_lt after.now) (entry_names (entries amount list.now)) }
 {
     for i in 0..amount {
@@ -118,6 +119,7 @@ pub fn next_name(list: &[u8], amount: usize, after: &[u8]) -> Option<Name>
 /// Whether each of so many entries has a name, and each name stands above the one before it.
 pub fn are_in_order(list: &[u8], amount: usize) -> bool
     requires { 32 * amount ≤ length list.now }
+    /// promise: Whether each entry of a directory has a name, and each name stands above the one before it.
     ensures { result ≡ (all_named (entries amount list.now) && are_ascending (entry_names (entries amount list.now))) }
 {
     let mut last: &[u8] = &[];

@@ -49,6 +49,7 @@ fn is_reserved(bytes: &[u8]) -> bool
 
 /// Whether these bytes are a name: 1 to 28 letters, digits, dots, underscores and dashes, and not `.`, `..` or `-`.
 pub fn is_name(bytes: &[u8]) -> bool
+    /// promise: Whether bytes are a name.
     ensures { result ≡ is_name bytes.now }
 {
     1 <= bytes.len() && bytes.len() <= NAME_MAX && are_name_bytes(bytes) && !is_reserved(bytes)

@@ -17,6 +17,7 @@ const _: () = prove!(NUMBER_BYTES == 4);
 /// The number that stands at a position of a block.
 pub fn number_at(block: &[u8], position: usize) -> u32
     requires { position + 4 ≤ length block.now }
+    /// promise: The number at a place of a block's bytes.
     ensures { result ≡ little_number 4 (drop position block.now) }
 {
     LittleEndian::read_u32(&block[position..])
@@ -52,6 +53,8 @@ pub fn are_apart(list: &[u8], count: usize) -> bool
 /// Adds a number's bytes at the end. A list without room for them stays as it is.
 pub fn write_number(into: &mut Data, number: u32) -> Result<(), ListFull>
     ensures variant { IsOk result ↔ (length into.old + 4 ≤ 4096) }
+    /// promise (with err, variant): The number's bytes at the end, exactly as the definitions say; refused, with
+    /// nothing changed, exactly where there is no room.
     ensures ok { OnOk result (into.new ≡ into.old ++ little_bytes 4 number) }
     ensures err { OnErr result (into.new ≡ into.old) }
 {

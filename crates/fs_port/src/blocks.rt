@@ -27,11 +27,14 @@ pub trait Blocks {
     /// `faults` rose, and then the disk is spent.
     fn ask(&mut self, request: &Request) -> Result<Reply, Failed>
         requires { (view self.old).spent ≡ false }
+        /// promise: An answered ask is the step of the abstract disk, or no memory at an open.
         ensures step { told → IfOk result (λ reply. IsAskCarriedOut (view self.old) (view self.new) request.now reply) }
+        /// promise: A crash leaves the world before or after it.
         ensures crash { told → LeavesWorldsOnly (view self.old) (view self.new)
             (IsEitherSide (view self.old) request.now) }
         ensures stays { is_steady request.now ≡ true → OnOk result (Stays (view self.old) (view self.new)) }
         ensures counts { Counts (view self.old) (view self.new) }
+        /// promise: `Failed` comes only where the count of faults rose, and an answer leaves it.
         ensures faults { CountsFault result (view self.old).faults (view self.new).faults }
         ensures unspent { OnOk result ((view self.new).spent ≡ false) }
         ensures spent { OnErr result ((view self.new).spent ≡ true) };

@@ -28,6 +28,7 @@ pub trait Files {
     fn make<K: Blocks>(&mut self, disk: &mut K) -> Result<(), FsRefusal>
         requires ready { IsClientReady (view self.old) (K.view disk.old) }
         requires valid { K.told → IsValidNow (K.view disk.old) }
+        /// promise: An empty tree, tidy, which takes no room; only `Device` refuses it.
         ensures made { K.told → MatchResult result (λ _. IsMade (view self.old) (K.view disk.old) (K.view disk.new))
             (λ e. e ≡ no.Device) }
         ensures runs { Runs K.told (K.view disk.old) (K.view disk.new) (IsEitherTree (view self.old) (K.view disk.old)
@@ -39,7 +40,12 @@ pub trait Files {
     fn mount<K: Blocks>(&mut self, disk: &mut K) -> Result<(), FsRefusal>
         requires ready { IsClientReady (view self.old) (K.view disk.old) }
         requires valid { K.told → IsValidNow (K.view disk.old) }
+        /// promise: `NotThisFs` comes only where the world under the root is no tree, with nothing changed; else that
+        /// tree is there, tidy. Only pairs are deleted, with what they held: what is live was live with the same bytes,
+        /// and what the tree names is at the same blocks.
         ensures finds { K.told → FindsTree (view self.old) (K.view disk.old) (K.view disk.new) result }
+        /// promise: A stop at any moment leaves the tree as it was, deleting no more than that; where no tree is there,
+        /// the world as it was.
         ensures runs { Runs K.told (K.view disk.old) (K.view disk.new) (IsTreeAlone (view self.old) (K.view disk.old))
             result }
         ensures mounted { MatchResult result (λ _. view self.new ≡ mounted_now (view self.old))
@@ -51,8 +57,20 @@ pub trait Files {
         requires valid { K.told → IsValidNow (K.view disk.old) }
         requires named { IsTrue (is_path path.now) }
         requires tree { K.told → HasTree (view self.old) (K.view disk.old) }
+        /// promise: **The answer is that of the ask's step on the tree, and the tree afterwards is the step's; a
+        /// refusal leaves the world as it was.** So too of `make_dir`, `append`, `copy` and `remove`.
         ensures answer { K.told → Answers (view self.old) (K.view disk.old) (K.view disk.new)
             (ask.Put path.now bytes.now) result (λ _ answer. answer ≡ done) }
+        /// promise: **A stop at any moment leaves, in a valid world of the same size, the tree before or the tree
+        /// after, and what the root doesn't reach as it was.** So too of `make_dir`, `append`, `copy` and `remove`.
+        /// promise: The world is tidy afterwards if it was before; what the root doesn't reach keeps its bytes and
+        /// pointers; what was free and is live now is named by the tree.
+        /// promise: What is answered has taken no more blocks, and added no more pointers, than its ask needs.
+        /// promise: Capabilities stay, and which sessions are open; requests lead from the state before to the one
+        /// after that neither open nor close a session nor set a capability.
+        /// promise: `Device` comes only where the disk's count of faults rose, and then the disk is spent; after every
+        /// other answer the count is what it was, and the disk isn't spent.
+        /// promise: Where nothing is mounted, a stop leaves the world as it was.
         ensures changes { Changes K.told (view self.old) (K.view disk.old) (K.view disk.new)
             (ask.Put path.now bytes.now) result }
         ensures same { view self.new ≡ view self.old };
@@ -85,6 +103,7 @@ pub trait Files {
             (ask.Append path.now bytes.now) result (λ _ answer. answer ≡ done) }
         ensures changes { Changes K.told (view self.old) (K.view disk.old) (K.view disk.new)
             (ask.Append path.now bytes.now) result }
+        /// promise: An append of no bytes only looks.
         ensures idle { bytes.now ≡ [] → Looks K.told (K.view disk.old) (K.view disk.new) result }
         ensures same { view self.new ≡ view self.old };
 
@@ -119,8 +138,10 @@ pub trait Files {
         requires valid { K.told → IsValidNow (K.view disk.old) }
         requires named { IsTrue (is_path path.now) }
         requires tree { K.told → HasTree (view self.old) (K.view disk.old) }
+        /// promise: The size of the file at the path, by the tree.
         ensures answer { K.told → Answers (view self.old) (K.view disk.old) (K.view disk.new) (ask.Cat path.now)
             result TellsSize }
+        /// promise: No world is changed.
         ensures looks { Looks K.told (K.view disk.old) (K.view disk.new) result }
         ensures same { view self.new ≡ view self.old };
 
@@ -136,8 +157,10 @@ pub trait Files {
         requires valid { K.told → IsValidNow (K.view disk.old) }
         requires named { IsTrue (is_path path.now) }
         requires tree { K.told → HasTree (view self.old) (K.view disk.old) }
+        /// promise (with looks): The part of the file from an offset, by the tree; no world is changed.
         ensures answer { K.told → Answers (view self.old) (K.view disk.old) (K.view disk.new) (ask.Cat path.now)
             result (λ _. TellsPart start into.new) }
+        /// promise: A part that isn't read is empty.
         ensures nothing { IfErr result (λ _. into.new ≡ []) }
         ensures looks { Looks K.told (K.view disk.old) (K.view disk.new) result }
         ensures same { view self.new ≡ view self.old };
@@ -153,6 +176,7 @@ pub trait Files {
         requires valid { K.told → IsValidNow (K.view disk.old) }
         requires named { IsTrue (is_path path.now) }
         requires tree { K.told → HasTree (view self.old) (K.view disk.old) }
+        /// promise (with looks): The next name of the directory, by the tree; no world is changed.
         ensures answer { K.told → Answers (view self.old) (K.view disk.old) (K.view disk.new) (ask.Ls path.now) result
             (TellsNext after.now) }
         ensures looks { Looks K.told (K.view disk.old) (K.view disk.new) result }

@@ -19,6 +19,7 @@ pub fn free_blocks<K: Blocks>(disk: &mut K) -> Result<u32, FsRefusal>
     requires { (K.view disk.old).spent ≡ false }
     ensures step { K.told → IfOk result (λ n. IsAskCarriedOut (K.view disk.old) (K.view disk.new) ask.GetFree
         (reply.Free n)) }
+    /// promise (with looks): How many blocks are free; the world stays.
     ensures value { K.told → IfOk result (λ n. n ≡ free_count (K.view disk.old).world) }
     ensures only { K.told → IfErr result (λ e. e ≡ no.Device) }
     ensures looks { K.told → OnAnswer result ((K.view disk.new).world ≡ (K.view disk.old).world) }

@@ -27,6 +27,8 @@ impl PlainBlocks {
 
     /// A disk that begins as this world with these sessions.
     pub fn new(alloc: Global, kind: PlaceKind, world: World, sessions: Sessions) -> PlainBlocks
+        /// promise (with sessions): A plain disk of this world and these sessions, as the disk that file systems ask
+        /// (`Blocks`).
         ensures world { (plain_view result).world ≡ world }
         ensures sessions { (plain_view result).sessions ≡ sessions }
         ensures kind { (plain_view result).kind ≡ kind }

@@ -64,6 +64,8 @@ impl<P: Port, K: Began> Gather<P, K> {
         requires counts { Uses 0 K.start (P.view inner) }
         requires faults { (P.view inner).faults ≡ K.start.faults }
         requires at { P.told → IsRingAt ring K.start }
+        /// promise (with firm, at, sent): The disk in memory begins as what the real disk stands for outside the
+        /// journal, with zeros inside it and nothing sent.
         ensures reads { (⟦<Gather<P, K> as Device>⟧.view result).reads ≡ cleared K.start.reads }
         ensures firm { IsFirm (⟦<Gather<P, K> as Device>⟧.view result) }
         ensures at { IsRingAt [] (⟦<Gather<P, K> as Device>⟧.view result) }
@@ -87,6 +89,8 @@ impl<P: Port, K: Began> Gather<P, K> {
 
     /// How many sectors outside the journal were written, each counted once. There is room for 113.
     pub fn homes(&self) -> usize
+        /// promise (with net, most): How many homes the batch of the group has, which does to the disk what the group's
+        /// writes do; at most 113.
         ensures value { result ≡ length self.now.group.batch }
         ensures net { AgreeBut is_journal (overlaid self.now.group.batch (cleared K.start.reads))
             (⟦<Gather<P, K> as Device>⟧.view self.now).reads }
@@ -105,6 +109,8 @@ impl<P: Port, K: Began> Gather<P, K> {
     /// Ends the group: its net change is committed as one batch, and then the bytes that wait are sent. Where nothing
     /// was written there is no commit, and a group in which a call failed is given up.
     pub fn flush(self) -> Flushed<P>
+        /// promise (with at, firm, sent): After Ok the real disk stands for what the disk in memory held, the ring is
+        /// at it, nothing is loose, and all that waited is sent.
         ensures done { P.told → OnOk result.result (AgreeBut is_journal (⟦<Gather<P, K> as Device>⟧.view self).reads
             (home (P.view result.inner).reads)) }
         ensures at { P.told → OnOk result.result (IsRingAt result.ring (P.view result.inner)) }
@@ -113,6 +119,8 @@ impl<P: Port, K: Began> Gather<P, K> {
             ≡ (⟦<Gather<P, K> as Device>⟧.view self).sent) }
 
         // The group counts too where the port failed, and a front of its bytes may be sent.
+        /// promise (with put_at, put_firm, put_sent): After the fault `Put` the real disk stands for what the disk in
+        /// memory held, the ring is at it, nothing is loose, and a front of the waiting bytes is sent.
         ensures put_done { P.told → result.result ≡ Err FlushFault.Put → AgreeBut is_journal
             (⟦<Gather<P, K> as Device>⟧.view self).reads (home (P.view result.inner).reads) }
         ensures put_at { P.told → result.result ≡ Err FlushFault.Put → IsRingAt result.ring (P.view result.inner) }
@@ -124,6 +132,10 @@ impl<P: Port, K: Began> Gather<P, K> {
 
         // A crash at any moment of the group leaves what the device stood for at its start, with nothing more sent, or
         // what the disk in memory holds at its end, with a front of the waiting bytes sent.
+        /// promise: **All that a group changes is one batch.** A crash at any moment of the group leaves an image with
+        /// valid open records that stands for what the real disk stood for at the start, with nothing more sent, or for
+        /// what the disk in memory holds at the end, with a front of the waiting bytes sent, the journal aside. (There
+        /// is such a record of what is left; none is picked.)
         ensures any_moment { P.told → ∥ LeavesOnly K.start (P.view result.inner)
             (IsLeftByGroup (moment_of K.start) (moment_of (⟦<Gather<P, K> as Device>⟧.view self))) ∥₁ }
 
@@ -133,8 +145,13 @@ impl<P: Port, K: Began> Gather<P, K> {
             → ∥ LeavesOnly K.start (P.view result.inner) (IsLeftAtStart (moment_of K.start)) ∥₁ }
 
         // A count of the device rose only where the fault is that one's.
+        /// promise (with given_up, unsent): Ok comes only where no call of the group failed. Where one failed, a crash
+        /// at any moment leaves the start alone; after the faults `Device` and `Room` nothing was sent.
         ensures whole { OnOk result.result (((⟦<Gather<P, K> as Device>⟧.view self).faults ≡ 0)
             × ((⟦<Gather<P, K> as Device>⟧.view self).put_faults ≡ 0)) }
+        /// promise (with put, room, no_device, no_put): `Device` comes only where the real disk's count of faults rose,
+        /// `Put` only where the port's did, and each count is as it was where the fault isn't that one; `Room` comes
+        /// only where a call of the disk in memory failed.
         ensures device { result.result ≡ Err FlushFault.Device → Rose K.start.faults (P.view result.inner).faults }
         ensures put { result.result ≡ Err FlushFault.Put → Rose K.start.put_faults (P.view result.inner).put_faults }
         ensures room { result.result ≡ Err FlushFault.Room → (0 < (⟦<Gather<P, K> as Device>⟧.view self).faults)
@@ -144,6 +161,8 @@ impl<P: Port, K: Began> Gather<P, K> {
         ensures no_put { (result.result ≡ Err FlushFault.Put → ⊥)
             → (P.view result.inner).put_faults ≡ K.start.put_faults }
         ensures later { K.start.clock ≤ (P.view result.inner).clock }
+        /// promise (with bounded): The real disk isn't written where the group has no home, and else at most 123 times
+        /// more than it has homes: at most 236 times.
         ensures most { (P.view result.inner).writes ≤ K.start.writes + most_writes (length self.group.batch) }
         ensures bounded { (P.view result.inner).writes ≤ K.start.writes + 236 }
     {

@@ -58,8 +58,7 @@ impl Group {
     pub(crate) fn new(alloc: Global, batch: Batch) -> Group
         ensures { result.log.items ≡ [] }
     {
-        let mut batch = batch;
-        batch.clear();
+        let batch = emptied(batch);
         Group {
             alloc,
             log: Vec::new(alloc),
@@ -114,6 +113,15 @@ impl Group {
         self.log.push_reserved(Event::Put { piece: kept });
         Ok(())
     }
+}
+
+/// The room of a batch for the next one: what the last group put into it is gone.
+fn emptied(batch: Batch) -> Batch
+    ensures { result ≡ [] }
+{
+    let mut batch = batch;
+    batch.clear();
+    batch
 }
 
 /// Whether a sector is one of the journal's.

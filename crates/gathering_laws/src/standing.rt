@@ -9,7 +9,9 @@ ghost use Rattle.gathering_laws.specs.Standing.{HomesStandAlike, NextGoesOn};
 pub fn groups_keep_a_world()
     ensures alike { HomesStandAlike }
     ensures begins { BeginsAsItStood }
+    /// promise (with alike): What a crash of a group leaves stands for the world of its start or for that of its end.
     ensures keeps { GroupsKeepAWorld }
+    /// promise (with begins, goes_on): What is held in memory over one group's disk fits that of the next.
     ensures carries { ClosedDisksCarryOver }
     ensures goes_on { NextGoesOn }
 {}

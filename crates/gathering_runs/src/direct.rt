@@ -1,6 +1,11 @@
 // A request that no batch holds.
 ghost use Rattle.std.specs.Prelude.{◌≡◌, ◌∷◌, [], OnOk, IfErr};
-ghost use Rattle.image_device.specs.Counts.{CountsFaultOf};
+ghost use Rattle.image_device.specs.Calls.{Uses};
+ghost use Rattle.image_device.specs.Counts.{CountsFault, CountsFaultOf};
+ghost use Rattle.image_device.specs.Runs.{IsFirm, LeavesOnly};
+ghost use Rattle.intent_journal.specs.Crash.{IsBefore};
+ghost use Rattle.intent_journal.specs.Home.{home, is_journal, AgreeBut};
+ghost use Rattle.intent_journal.specs.Ring.{IsRingAt};
 ghost use Rattle.gathering.specs.Gathered.{cleared, AreClosed};
 ghost use Rattle.serving.specs.Handling.{FitsDevice};
 ghost use Rattle.serving.specs.Voice.{spoken};
@@ -8,7 +13,8 @@ ghost use Rattle.gathering_runs.specs.Turns.{StandsBetween, StopsBy, Turned};
 
 use crate::group::Disk;
 use crate::handler::GroupHandler;
-use image_device::Port;
+use image_device::{Failed, Port};
+use intent_journal::Ring;
 use serving::{Protocol, Replies};
 use tsd_model::Request;
 use tsd_words::Status;
@@ -34,10 +40,27 @@ pub(crate) fn serve_direct<P: Port, R: Protocol<Request = Request> + Replies, H:
     ensures put_fault { CountsFaultOf Status.PutFault result (P.view disk.old.port).put_faults
         (P.view disk.new.port).put_faults }
 {
-    if disk.ring.checkpoint(&mut disk.port).is_err() {
+    if empty_journal(&mut disk.ring, &mut disk.port).is_err() {
         return Err(Status::DeviceFault);
     }
     answer::<P, R, H>(server, request, &mut disk.port)
+}
+
+/// Puts the records of the journal in place and closes its gates, on the device itself. `Failed` comes only where the
+/// device's count of faults rose.
+fn empty_journal<P: Port>(ring: &mut Ring, port: &mut P) -> Result<(), Failed>
+    requires { P.told → IsRingAt ring.old (P.view port.old) }
+    ensures at { P.told → OnOk result (IsRingAt [] (P.view port.new)) }
+    ensures empty { OnOk result (ring.new ≡ []) }
+    ensures done { P.told → OnOk result (AgreeBut is_journal (home (P.view port.old).reads) (P.view port.new).reads) }
+    ensures firm { P.told → OnOk result (IsFirm (P.view port.new)) }
+    ensures sent { P.told → (P.view port.new).sent ≡ (P.view port.old).sent }
+    ensures any_moment { P.told → LeavesOnly (P.view port.old) (P.view port.new)
+        (λ x f. IsBefore (P.view port.old) x × (f ≡ (P.view port.old).sent)) }
+    ensures uses { Uses 121 (P.view port.old) (P.view port.new) }
+    ensures faults { CountsFault result (P.view port.old).faults (P.view port.new).faults }
+{
+    ring.checkpoint(port)
 }
 
 /// Carries out a request on a device whose journal is closed, sends its reply, does some of what is left to be done,

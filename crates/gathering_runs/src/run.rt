@@ -46,14 +46,24 @@ pub fn serve_in_groups<
     requires ready { H.is_ready server.old }
     requires at { P.told → FitsDevice (H.holds server.old) (P.view port) }
     // What came in and what was sent, by status; and where the device tells, what a crash at any moment may have left.
+    /// promise: **Each image that a crash at any moment leaves, with the bytes sent by then, is of a prefix**: it
+    /// stands for the state after the first requests of the input, and no more was sent than the replies that the rules
+    /// give to those, in order. So it holds each request of whose reply something was sent. What no request touches is
+    /// as it was. Unless a call on the device or a put failed, or there was no memory, all were answered. (There is
+    /// such a record of what is left; none is picked.)
     ensures ran { RanInGroups result.1 (spoken H.rules R.voice) R.spelling (H.aside server.old)
         (H.state server.old (P.view port).reads) (H.state server.new (P.view result.0).reads) limit
         (taking S.told S.taken S.left_bytes S.ended source.old source.new) (moments P.told P.view port result.0) }
+    /// promise (with closed): After Done nothing is loose, what is held in memory fits the device, all that was left to
+    /// be done is done, and the gates of the journal are closed.
     ensures at { result.1 ≡ Status.Done → P.told → FitsDevice (H.holds server.new) (P.view result.0) }
     ensures closed { result.1 ≡ Status.Done → P.told → H.is_closed (P.view result.0).reads }
     // Nothing more is taken once the end was found.
+    /// promise: Nothing is taken after the end of the input was found.
     ensures once { EndsOnce (S.ends source.old) (S.ends source.new) }
     // A count of faults rose only where the status is that fault's.
+    /// promise (with device_fault, put_fault, no_source_fault, no_device_fault, no_put_fault): A count of faults rose
+    /// exactly where the status is that fault's.
     ensures source_fault { result.1 ≡ Status.SourceFault → Rose (S.faults source.old) (S.faults source.new) }
     ensures device_fault { result.1 ≡ Status.DeviceFault → Rose (P.view port).faults (P.view result.0).faults }
     ensures put_fault { result.1 ≡ Status.PutFault → Rose (P.view port).put_faults (P.view result.0).put_faults }

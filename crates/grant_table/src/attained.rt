@@ -41,6 +41,8 @@ impl Grants {
     ) -> Origins
         requires made { IsMadeFor (F.world facts.now) self.now }
         requires within { block < (F.world facts.now).geometry.blocks }
+        /// promise: The access that a session has at a block, from each primary block, for any disk that tells its
+        /// facts.
         ensures { result ≡ attained_at (F.world facts.now) self.now.sessions session block shown.now }
     {
         if block < facts.geometry().primaries {

@@ -99,6 +99,8 @@ impl Grants {
 
     /// Opens a session, which holds nothing. This alone takes memory.
     pub fn begin(&mut self, session: u32) -> Result<(), BeginRefusal>
+        /// promise (with granted, refused, unchanged): Refused exactly by the rules on sessions, want of memory aside,
+        /// with nothing changed.
         ensures ok { OnOk result (self.new ≡ begun_in self.old session) }
         ensures granted { OnOk result (begin_verdict self.old.sessions session ≡ None) }
         ensures refused { IfErr result (λ r. begin_verdict self.old.sessions session ≡ begin_rule r) }
@@ -121,6 +123,7 @@ impl Grants {
 
     /// Closes a session, and frees what it took.
     pub fn end(&mut self, session: u32) -> Result<(), EndRefusal>
+        /// promise (with granted, refused, unchanged): Refused exactly by the rules on sessions, with nothing changed.
         ensures ok { OnOk result (self.new ≡ with_sessions self.old (session_ended self.old.sessions session)) }
         ensures granted { OnOk result (end_verdict self.old.sessions session ≡ None) }
         ensures refused { IfErr result (λ r. end_verdict self.old.sessions session ≡ end_rule r) }
@@ -198,6 +201,7 @@ impl Grants {
 
     /// Nothing is held at a block any more, in any session.
     pub fn drop_in_all(&mut self, block: u32)
+        /// promise: No session holds anything at the block.
         ensures { self.new ≡ with_sessions self.old (dropped_at block self.old.sessions) }
     {
         drop_at_each(self.held.as_mut_slice(), block);
@@ -205,6 +209,7 @@ impl Grants {
 
     /// Nothing is held from a primary block any more, in any session and at any block.
     pub fn drop_from(&mut self, primary: u32)
+        /// promise: No session holds anything from the primary block.
         ensures { self.new ≡ with_sessions self.old (dropped_from self.old.blocks primary self.old.sessions) }
     {
         drop_from_each(self.held.as_mut_slice(), primary);

@@ -39,6 +39,8 @@ impl Grants {
     /// The first rule that refuses a request; else the levels that it attains where it needs one.
     pub fn verdict<F: DiskFacts>(&self, facts: &F, request: &Request) -> Result<Granted, Rule>
         requires { IsMadeFor (F.world facts.now) self.now }
+        /// promise (with err): The definitions' verdict: the first rule that refuses, with its numbers, or the levels
+        /// where they are needed, for any disk that tells its facts.
         ensures ok { OnOk result (verdict (F.world facts.now) self.now.sessions request.now ≡ None) }
         ensures source { IfOk result (λ g. g.source ≡ at_source (F.world facts.now) self.now.sessions request.now) }
         ensures target { IfOk result (λ g. g.target ≡ at_target (F.world facts.now) self.now.sessions request.now) }

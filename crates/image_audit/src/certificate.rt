@@ -65,6 +65,8 @@ impl Certificate {
     /// Takes the next line, without its line feed. It is refused exactly where it isn't of the form, or its block isn't
     /// below the number of blocks or isn't above each that is listed, and then nothing changes but the number of lines.
     pub fn add(&mut self, line: &[u8]) -> Result<(), FormFault>
+        /// promise (with refused, kept, lines): A line is taken exactly where it is of the form and its block is one of
+        /// the disk and above each that is listed; nothing changes by one that is refused but the number of lines.
         ensures added { OnOk result (IsAdded line.now self.old.entries self.new.entries) }
         ensures refused { OnErr result (ListsNone line.now self.old.entries) }
         ensures blocks { length self.new.entries ≡ length self.old.entries }

@@ -16,6 +16,7 @@ pub struct Listing {
 
 /// What a line says, None exactly where it isn't of the form. It comes without its line feed.
 pub fn parse_listing(line: &[u8]) -> Option<Listing>
+    /// promise (with only, cut): What a line says, none exactly where it isn't of the form.
     ensures spelled { IfSome result (IsListing line.now) }
     ensures only { (l : Listing) → IsListing line.now l → result ≡ Some l }
     // A line of more than 8,400 bytes says none, whole or cut to one byte more than that.

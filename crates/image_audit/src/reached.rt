@@ -40,6 +40,8 @@ impl Reached {
     pub fn new(alloc: Global, volume: &Volume, roots: &BlockList) -> Result<Reached, NoMemory>
         requires ready { IsVolumeReady volume.now }
         requires inside { All (λ root. root < volume.now.tables.geometry.blocks) roots.now }
+        /// promise: Exactly what the roots lead to is listed, each block with the length of the shortest path to it and
+        /// the least block one level up that points to it.
         ensures reached { IfOk result (AreReached (told_by volume.now) roots.now) }
         ensures blocks { IfOk result (λ r. length r ≡ volume.now.tables.geometry.blocks) }
     {

@@ -23,6 +23,7 @@ pub const LISTING_ROOM: usize = 60;
 /// The line of a block in a certificate, with its line feed.
 pub fn put_listing(into: &mut OutBuf, listing: &Listing)
     requires { length into.old + LISTING_ROOM ≤ LINE_MAX }
+    /// promise (with read): The line of a block, which reads as what it was made of.
     ensures text { into.new ≡ into.old ++ line_of (listing_words listing.now) }
     // It reads as what it was made of.
     ensures read { IsListing (join_with_byte 32 (listing_words listing.now)) listing.now }

@@ -26,11 +26,12 @@ use volume::Volume;
 pub fn verify(volume: &Volume, certificate: &Certificate) -> Verdict
     requires ready { IsVolumeReady volume.now }
     requires blocks { length certificate.now.entries ≡ volume.now.tables.geometry.blocks }
+    /// promise: A certificate is answered by the first of the four cases that applies, with the least block or pair.
     ensures verdict { IsVerdict (told_by volume.now) certificate.now.entries result }
-    // Where it is yes, exactly the listed blocks are reached.
+    /// promise: **Where it is yes, exactly the listed blocks are reached, whoever made the certificate.**
     ensures reached { (n : ℕ) → result ≡ Verdict.Yes n → (b : ℕ)
         → is_listed certificate.now.entries b ≡ has_number (reach (told_by volume.now)) b }
-    // What a search from the primary blocks finds is answered yes.
+    /// promise: What a search from the primary blocks finds is answered yes.
     ensures found { AreReached (told_by volume.now) (primary_blocks (told_by volume.now)) certificate.now.entries
         → result ≡ Verdict.Yes (count_by is_some certificate.now.entries) }
 {

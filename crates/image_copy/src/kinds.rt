@@ -29,25 +29,47 @@ pub fn copy_image<P: Port>(
     port: &mut P,
 ) -> Status
     ensures ending { IsCopyEnding result }
+    /// promise: Unless memory or the device is at fault, NotImage comes exactly where the image stands for no world,
+    /// and RootDenied exactly where a capability gives no write access to its root, the source's first, with the access
+    /// that it gives.
     ensures read { P.told → IsCopyJudged words.now (P.view port.old).reads result }
     // How the copy ended, and what of its line was sent.
+    /// promise: After Done one line was sent whole, after PutFault a proper front of it, and else nothing; in both the
+    /// copy has ended as the line says, nothing is loose, and nothing is left to be done.
+    /// promise: `no shared B`: B is the least block that is reached from both roots, and the world is as at the start.
+    /// `no not-this-fs`: there is no tree at the source, and the world is as at the start. `no nested PATH`: the first
+    /// directory that the target's layout can't hold, and no step was made.
+    /// promise: `no` and a refusal: the step that comes next is refused, by the step of its ask in the world as it is
+    /// then, and the target's root has the tree after the steps before it. `copied FILES BYTES`: the target's root has
+    /// the source's tree, and these are its files and their bytes.
     ensures copied { P.told → HasCopied result words.now (P.view port.old) (P.view port.new) }
     // A crash at any moment leaves the world at the start, one on the way, or with a front of the line the one that it
     // tells.
+    /// promise: **A crash at any moment** leaves an image of a valid world with the source's tree under the source's
+    /// root and, under the target's, what was there before or the tree after some of the steps; where a byte of the
+    /// line was sent, the world that the line tells. What the source's root doesn't reach is as it was while that is
+    /// mounted, and what the target's root doesn't reach from then on.
     ensures any_moment { P.told → IsFirm (P.view port.old) → LeavesOnly (P.view port.old) (P.view port.new)
         (IsLeftOfCopy words.now (P.view port.old)) }
     // Where no copy was begun, all is as it was.
+    /// promise: Where no copy was begun, each image left stands for what the one at the start stands for, and nothing
+    /// was sent.
     ensures not_begun { P.told → IsNotBegun result → IsFirm (P.view port.old)
         → LeavesOnly (P.view port.old) (P.view port.new) (λ x f. StandAlike (P.view port.old).reads x
         × (f ≡ (P.view port.old).sent)) }
     // Where the image fails one of the tests that need no write, nothing is written, and the disk reads as before;
     // where it fails another, nothing is lost that a repair could use.
+    /// promise (with spared, behind): Where the image fails one of the first three tests, nothing is written, and it
+    /// reads as before; where it fails another, nothing is lost that a repair could use; what lies after the image is
+    /// as it was.
     ensures untouched { P.told → IsForeign (P.view port.old).reads
         → IsUntouched (P.view port.old) (P.view port.new) }
     ensures spared { P.told → IsNotImage result → IsSpared (P.view port.old) (P.view port.new) }
     // However it ended, a crash at any moment leaves what lies behind the image as it was.
     ensures behind { P.told → IsFirm (P.view port.old) → LeavesBehind (P.view port.old) (P.view port.new) }
     // A count of faults rose only where the status is that fault's.
+    /// promise (with put_fault, no_device_fault, no_put_fault): A count of faults rose exactly where the status is that
+    /// fault's.
     ensures device_fault { result ≡ Status.DeviceFault → Rose (P.view port.old).faults (P.view port.new).faults }
     ensures put_fault { result ≡ Status.PutFault → Rose (P.view port.old).put_faults (P.view port.new).put_faults }
     ensures no_device_fault { result ≢ Status.DeviceFault → (P.view port.new).faults ≡ (P.view port.old).faults }

@@ -23,24 +23,33 @@ pub trait Device {
 
     /// Reads a sector. `Failed` comes only where `faults` rose, and leaves `into` as it was.
     fn read(&mut self, sector: u32, into: &mut [u8; 512]) -> Result<(), Failed>
+        /// promise (with rests): The bytes of the sector, and nothing changes.
         ensures bytes { told → OnOk result (into.new ≡ (view self.old).reads sector) }
         ensures kept { OnErr result (into.new ≡ into.old) }
         ensures rests { told → Rests (view self.old) (view self.new) }
         ensures uses { Uses 0 (view self.old) (view self.new) }
+        /// promise: **No fault is swallowed.** `Failed` comes only where the device's count of faults rose in this
+        /// call, and Ok leaves that count as it was: so of each call here, and in every crate above.
         ensures faults { CountsFault result (view self.old).faults (view self.new).faults };
 
     /// Writes a sector. Until the next sync a crash may leave any bytes in it, after a write that
     /// failed too. `Failed` comes only where `faults` rose.
     fn write(&mut self, sector: u32, from: &[u8; 512]) -> Result<(), Failed>
+        /// promise (with loose): After Ok the sector reads as the new bytes, and is loose: a crash may leave any bytes
+        /// in it.
         ensures written { told → OnOk result ((view self.new).reads sector ≡ from.now) }
         ensures loose { told → OnOk result ((view self.new).loose sector ≡ true) }
+        /// promise: No other sector is touched, and inside the call a crash leaves no image but those in which this
+        /// sector is loose too; so also after a failure.
         ensures touches { told → Touches sector (view self.old) (view self.new) }
         ensures uses { Uses 1 (view self.old) (view self.new) }
         ensures faults { CountsFault result (view self.old).faults (view self.new).faults };
 
     /// Waits until all that was written is on the disk. `Failed` comes only where `faults` rose.
     fn sync(&mut self) -> Result<(), Failed>
+        /// promise: After Ok nothing is loose.
         ensures firm { told → OnOk result (IsFirm (view self.new)) }
+        /// promise (with settles): After a failure what was loose stays so; a sync changes no byte that is read.
         ensures loose { told → OnErr result ((view self.new).loose ≡ (view self.old).loose) }
         ensures settles { told → Settles (view self.old) (view self.new) }
         ensures uses { Uses 0 (view self.old) (view self.new) }
@@ -62,6 +71,8 @@ pub trait Port: Device {
     /// shorter front than the piece may be sent. `Failed` comes only where `put_faults` rose.
     fn put(&mut self, piece: &[u8]) -> Result<usize, Failed>
         requires { 0 < length piece.now }
+        /// promise (with sent, part): Sends a front of the piece, of at least one byte; after a failure some shorter
+        /// front may have been sent.
         ensures some { IfOk result (λ count. (0 < count) × (count ≤ length piece.now)) }
         ensures sent { Self.told → IfOk result (λ count. (Self.view self.new).sent ≡ (Self.view self.old).sent
             ++ take count piece.now) }

@@ -50,8 +50,12 @@ impl FuseStation {
     /// A station with nothing loose and no failing calls that begins as one crash image of this
     /// one, and has sent nothing.
     pub fn into_image(self) -> MemStation
+        /// promise (with left): A station that begins as one crash image, which is among those left at that moment, and
+        /// that has sent nothing.
         ensures image { IsImage (fuse_view self).reads (fuse_view self).loose (station_view result).reads }
         ensures left { (fuse_view self).left (fuse_view self).clock (station_view result).reads (fuse_view self).sent }
+        /// promise (with new, torn): Each loose sector holds what the last sync held, what was last written, or 512
+        /// equal bytes, as was chosen.
         ensures old { pick_of self ≡ Pick.Old → (station_view result).reads ≡ synced_reads (inner_of self) }
         ensures new { pick_of self ≡ Pick.New → (station_view result).reads ≡ (fuse_view self).reads }
         ensures torn { (b : ℕ) → pick_of self ≡ Pick.Torn b → (n : ℕ) → (fuse_view self).loose n ≡ true

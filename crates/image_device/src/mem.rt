@@ -42,6 +42,7 @@ impl MemStation {
 
     /// A disk of zeros, with nothing sent. Its calls are numbered from 0, and those in `fail` fail.
     pub fn new(alloc: Global, fail: Vec<u64>) -> MemStation
+        /// promise (with unused): A station in memory with a disk of zeros, nothing loose and nothing sent.
         ensures reads { (station_view result).reads ≡ (λ n. zeros) }
         ensures unused { IsUnused result }
         ensures fail { failing_of result ≡ fail.items }

@@ -31,12 +31,14 @@ pub trait Source {
     fn take(&mut self, into: &mut [u8]) -> Result<usize, Failed>
         requires { 0 < length into.old }
         ensures room { IfOk result (λ count. count ≤ length into.old) }
+        /// promise (with end): The next bytes of the input, and none exactly at its end.
         ensures bytes { told → IfOk result (λ count. left_bytes self.old ≡ take count into.new
             ++ left_bytes self.new) }
         ensures taken { told → IfOk result (λ count. taken self.new ≡ taken self.old ++ take count into.new) }
         ensures end { told → IfOk result (λ count. (count ≡ 0) ↔ (left_bytes self.old ≡ [])) }
         ensures found_end { IfOk result (λ count. ((count ≡ 0) → ended self.new) × (ended self.old
             → count ≡ 0)) }
+        /// promise (with found_end): A source counts how often a take found its end; the end, once found, stays.
         ensures ends { CountsEnd result (ends self.old) (ends self.new) }
         ensures stays { ended self.old → ended self.new }
         ensures err { told → OnErr result ((left_bytes self.new ≡ left_bytes self.old)

@@ -10,8 +10,10 @@ use crate::{Device, Failed};
 /// Writes a sector and waits until it is on the disk. At any moment within, a crash leaves any
 /// bytes in this sector and in those that were loose, and every other as it was.
 pub fn write_through<D: Device>(dev: &mut D, sector: u32, from: &[u8; 512]) -> Result<(), Failed>
+    /// promise (with firm): After Ok the sector reads as these bytes, and nothing is loose.
     ensures written { D.told → OnOk result ((D.view dev.new).reads sector ≡ from.now) }
     ensures firm { D.told → OnOk result (IsFirm (D.view dev.new)) }
+    /// promise: A crash at any moment leaves every sector but this one, and those that were loose, as it was.
     ensures confined { D.told → IsConfined (λ n. n == sector) (D.view dev.old) (D.view dev.new) }
     ensures uses { Uses 1 (D.view dev.old) (D.view dev.new) }
     ensures faults { CountsFault result (D.view dev.old).faults (D.view dev.new).faults }
@@ -25,9 +27,12 @@ pub fn write_through<D: Device>(dev: &mut D, sector: u32, from: &[u8; 512]) -> R
 /// every other as it was.
 pub fn write_run<D: Device>(dev: &mut D, first: u32, bodies: &[[u8; 512]]) -> Result<(), Failed>
     requires { first + length bodies.now < 2 ^ 32 }
+    /// promise (with firm): After Ok the sectors read as these bytes, and nothing is loose.
     ensures written { D.told → OnOk result ((k : ℕ) → k < length bodies.now → (D.view dev.new).reads (first + k)
         ≡ slice_index_or bodies.now k []) }
     ensures firm { D.told → OnOk result (IsFirm (D.view dev.new)) }
+    /// promise (with uses): A crash at any moment leaves every sector but these, and those that were loose, as it was;
+    /// each is written once at most.
     ensures confined { D.told → IsConfined (λ n. nat_le first n && nat_lt n (first + length bodies.now))
         (D.view dev.old) (D.view dev.new) }
     ensures uses { Uses (length bodies.now) (D.view dev.old) (D.view dev.new) }

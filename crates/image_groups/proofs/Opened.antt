@@ -1,14 +1,16 @@
 -- A disk that was opened, and a run in groups from there as one from the start.
-use Rattle.std.proofs.Common.{◌≡◌, ℕ, List, [], refl, sym, ◌∙◌, subst, append-nil}
+use Rattle.std.proofs.Common.{◌≡◌, inl, inr, ℕ, List, [], refl, sym, ◌∙◌, subst, append-nil}
 use Rattle.std.proofs.Math.Logic.{∥∥₁_elim}
 use Rattle.std.specs.Prelude.{Result, Ok, Err}
 use Rattle.tsd_model.specs.World.{World}
+use Rattle.tsd_model.specs.declared.geometry.Geometry.{Geometry}
 use Rattle.tsd_model.specs.declared.requests.PlaceKind.{PlaceKind}
 use Rattle.tsd_model.specs.declared.requests.Request.{Request}
 use Rattle.image_device.specs.Runs.{IsFirm, LeavesOnly}
-use Rattle.image_device.specs.View.{View}
+use Rattle.image_device.specs.View.{IsSound, View}
 use Rattle.image_device.proofs.Moments.{joined, weakened}
 use Rattle.image_layout.specs.Image.{Image}
+use Rattle.image_world.specs.Behind.{LeavesBehind, behind, size_of_image}
 use Rattle.image_world.specs.Faults.{IsGood}
 use Rattle.image_world.specs.Stands.{Stands, world_of}
 use Rattle.recovery.specs.Opening.{StandAlike}
@@ -16,13 +18,15 @@ use Rattle.tsd_words.specs.declared.status.Status.{Status}
 use Rattle.tsd_words.specs.declared.status.Status.TheVariants as status
 use Rattle.serving.specs.Input.{Spelling}
 use Rattle.serving.specs.ModelRules.{Placed}
+use Rattle.serving.specs.Ran.{Taking}
 use Rattle.serving.specs.Runs.{Served}
 use Rattle.serving.specs.Voice.{Voice}
 use Rattle.image_runs.specs.Opened.{IsJudged, IsNotImage, IsUnopened}
 use Rattle.image_runs.specs.Served.{disk_service, start_of, IsAtEase}
+use Rattle.image_runs.proofs.Behind.{behind_then}
 use Rattle.gathering_runs.specs.Promise.{IsLeftByRun, IsOfPrefix}
 use Rattle.gathering_runs.specs.Run.{AnsweredAll, AskedInGroups}
-use Rattle.image_groups.specs.Served.{GroupsEnd}
+use Rattle.image_groups.specs.Served.{GroupsEnd, ImageRanInGroups}
 
 module _ (v : Voice) (kind : PlaceKind) (old mid : View) (qs : List Request) (opens : IsFirm old → LeavesOnly old mid (λ x f. StandAlike old.reads x × (f ≡ old.sent))) where
   -- what is left while an image is opened
@@ -72,6 +76,33 @@ module _ (v : Voice) (kind : PlaceKind) (old mid : View) (qs : List Request) (op
         served = λ all. (start_of kind old.reads, served);
         done = λ is. absurd (subst IsUnopened is why);
       }
+
+-- what lies behind the image stays where the loop leaves its part
+pub behind_opened : (g : Geometry) (old mid new : View) (P : Image → List ℕ → Type 0) → IsSound mid → g ≡ size_of_image old.reads → LeavesBehind old mid
+    → ∥ LeavesOnly mid new (λ x f. P x f × (behind g x ≡ behind g mid.reads)) ∥₁ → ∥ LeavesBehind old new ∥₁
+behind_opened g old mid new P sound size opened moments =
+    let prop : IsProp (∥ LeavesBehind old new ∥₁) = hlevel in
+    ∥∥₁_elim moments prop (λ (run : LeavesOnly mid new (λ x f. P x f × (behind g x ≡ behind g mid.reads))).
+    ∣ behind_then g old mid new sound size opened (weakened mid new (λ x f. P x f × (behind g x ≡ behind g mid.reads)) (λ x f. behind g x ≡ behind g mid.reads) run (λ x f left. left.1)) ∣₁)
+
+-- what is said of a run doesn't say that the port is as it was
+pub ran_alike : (r : Status) (v : Voice) (p : Spelling Request) (kind : PlaceKind) (limit : ℕ) (source : Taking) (tells A B : Type 0) (old new : View)
+    → ImageRanInGroups r v p kind limit source (record { tells = tells; untouched = A; old = old; new = new })
+    → ImageRanInGroups r v p kind limit source (record { tells = tells; untouched = B; old = old; new = new })
+ran_alike r v p kind limit source tells A B old new ran = record {
+  bytes = ran.bytes;
+  came_in = ran.came_in;
+  asked = ran.asked;
+  these = elim ran.these [
+    | inl closed ↦ inl (record { why = closed.why; untouched = closed.untouched; none = closed.none; sent = closed.sent; alike = closed.alike })
+    | inr asked ↦ inr asked
+  ];
+  ends = ran.ends;
+}
+
+-- what holds of two values holds of two that are the same
+pub of_same : {A : Type 0} (P : A → A → Type 0) (a b c d : A) → a ≡ b → c ≡ d → P a c → P b d
+of_same P a b c d first second here = subst (λ x. P x d) first (subst (λ y. P a y) second here)
 
 -- what is Ok is no error
 abbrev was_ok : {T E : Type 0} → Result T E → Type 0

@@ -2,6 +2,8 @@
 
 ghost use Rattle.std.specs.Prelude.{◌≡◌, ◌≢◌, ◌≤◌, []};
 ghost use Rattle.image_device.specs.Counts.{Rose};
+ghost use Rattle.image_device.specs.Runs.{IsFirm};
+ghost use Rattle.image_world.specs.Behind.{LeavesBehind};
 ghost use Rattle.recovery.specs.Opening.{IsForeign, IsSpared, IsUntouched};
 ghost use Rattle.serving.specs.Ran.{EndsOnce, moments, taking};
 ghost use Rattle.image_runs.specs.Opened.{IsJudged, IsNotImage};
@@ -37,12 +39,20 @@ pub fn serve_image_in_groups<S: Source, P: Port, R: Protocol<Request = Request> 
     ensures read { P.told → IsJudged (P.view port).reads result.1 }
     // What came in and what was sent, by status; what a crash at any moment may have left; and what the disk is after
     // Done.
+    /// promise (with read): **What `group` promises, from the image at the start to the last byte sent**: an image
+    /// opened, and served in groups; by the status what came in, what was sent and what a crash leaves.
     ensures ran { ImageRanInGroups result.1 R.voice R.spelling placement.now.kind limit
         (taking S.told S.taken S.left_bytes S.ended source.old source.new) (moments P.told P.view port result.0) }
     // Where the image fails one of the tests that need no write, nothing is written, and the disk reads as before;
     // where it fails another, nothing is lost that a repair could use.
+    /// promise (with spared): Where the image fails one of the first three tests, nothing is written; where it fails
+    /// another, nothing is lost that a repair could use.
     ensures untouched { P.told → IsForeign (P.view port).reads → IsUntouched (P.view port) (P.view result.0) }
     ensures spared { P.told → IsNotImage result.1 → IsSpared (P.view port) (P.view result.0) }
+    /// promise: A crash at any moment leaves what lies after the end of the image as it was; of the records that say so
+    /// there is one, and none is picked.
+    ensures behind { P.told → IsFirm (P.view port) → ∥ LeavesBehind (P.view port) (P.view result.0) ∥₁ }
+    /// promise: Nothing is taken after the end of the input was found.
     ensures once { EndsOnce (S.ends source.old) (S.ends source.new) }
     // A count of faults rose only where the status is that fault's.
     ensures source_fault { result.1 ≡ Status.SourceFault → Rose (S.faults source.old) (S.faults source.new) }

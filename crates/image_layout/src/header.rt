@@ -99,6 +99,7 @@ fn first_bad_field(geometry: &Geometry) -> Option<(u32, u32)>
 /// the geometry. Primary blocks are a bad field also where they are not fewer than the blocks. Other bytes don't
 /// matter.
 pub fn read_header(sector: &[u8; SECTOR_BYTES]) -> Result<Header, HeaderFault>
+    /// promise: Ok exactly where magic, version and fields are right, else the first bad one with what was found.
     ensures { IsHeaderReading sector.now result }
 {
     if !sector.starts_with(&MAGIC) {
@@ -122,13 +123,16 @@ pub fn read_header(sector: &[u8; SECTOR_BYTES]) -> Result<Header, HeaderFault>
 
 /// A sector has one reading.
 pub fn readings_are_one()
+    /// promise: No two readings of a sector hold together.
     ensures { (bytes : List ℕ) (one other : Result Header HeaderFault) → IsHeaderReading bytes one
         → IsHeaderReading bytes other → one ≡ other }
 {}
 
 /// The sector of a header. Every value is taken, right or not; one of version 1 or 2 with a lawful geometry reads back.
 pub fn write_header(header: &Header) -> [u8; SECTOR_BYTES]
+    /// promise: The header, with zeros after it.
     ensures bytes { result ≡ header_bytes header.now }
+    /// promise: The header reads back for lawful geometries and versions 1 and 2.
     ensures reads_back { IsVersion header.now.version → IsLawful header.now.geometry
         → IsHeaderReading result (Ok header.now) }
 {

@@ -95,6 +95,7 @@ impl Layout {
 
     /// How many sectors the image has.
     pub fn total(&self) -> u32
+        /// promise (with most): How many sectors the image has, at most the whole of the largest disk.
         ensures value { result ≡ total self.now.geometry }
         ensures most { result ≤ MOST_SECTORS }
     {
@@ -104,6 +105,7 @@ impl Layout {
     /// The offset of a block's count of pointers to it: a number of four bytes.
     pub fn count_offset(&self, block: u32) -> Offset
         requires { block < self.now.geometry.blocks }
+        /// promise (with inside, whole): The offset of a block's count, inside its area and within one sector.
         ensures value { result ≡ count_offset self.now.geometry block }
         ensures inside { (COUNTS_START ≤ result.sector) × (result.sector < bitmap_start self.now.geometry) }
         ensures whole { result.byte + COUNT_BYTES ≤ SECTOR_BYTES }
@@ -114,6 +116,7 @@ impl Layout {
     /// The offset of the bitmap's byte that has a block's bit. `bit_mask` tells which bit it is.
     pub fn bit_offset(&self, block: u32) -> Offset
         requires { block < self.now.geometry.blocks }
+        /// promise (with inside): The offset of the byte with a block's bit, inside the bitmap.
         ensures value { result ≡ bit_offset self.now.geometry block }
         ensures inside { (bitmap_start self.now.geometry ≤ result.sector)
             × (result.sector < slots_start self.now.geometry) }
@@ -125,6 +128,7 @@ impl Layout {
     /// The offset of a pointer slot: two numbers of four bytes, one more than the source and the target.
     pub fn slot_offset(&self, slot: u32) -> Offset
         requires { slot < self.now.geometry.slots }
+        /// promise (with inside, whole): The offset of a pointer slot, inside its area and within one sector.
         ensures value { result ≡ slot_offset self.now.geometry slot }
         ensures inside { (slots_start self.now.geometry ≤ result.sector)
             × (result.sector < data_start self.now.geometry) }
@@ -136,6 +140,8 @@ impl Layout {
     /// The offset of a primary block's capabilities in version 1: 16 bytes for reading, then 16 for writing.
     pub fn cap_offset(&self, block: u32) -> Offset
         requires { block < self.now.geometry.primaries }
+        /// promise (with inside, whole): The offset of a primary block's capabilities in version 1, within their
+        /// sector.
         ensures value { result ≡ cap_offset block }
         ensures inside { result.sector ≡ CAPS_START }
         ensures whole { result.byte + CAP_PAIR_BYTES ≤ SECTOR_BYTES }
@@ -146,6 +152,8 @@ impl Layout {
     /// The offset of a primary block's digests in version 2: 32 bytes for reading, then 32 for writing.
     pub fn digest_offset(&self, block: u32) -> Offset
         requires { block < self.now.geometry.primaries }
+        /// promise (with inside, whole): The offset of a primary block's digests in version 2, inside their area and
+        /// within one sector.
         ensures value { result ≡ digest_offset block }
         ensures inside { (CAPS_START ≤ result.sector) × (result.sector < COUNTS_START) }
         ensures whole { result.byte + DIGEST_PAIR_BYTES ≤ SECTOR_BYTES }
@@ -157,6 +165,7 @@ impl Layout {
     pub fn data_sector(&self, block: u32, part: u32) -> u32
         requires block { block < self.now.geometry.blocks }
         requires part { part < self.now.geometry.sectors }
+        /// promise (with inside): A sector of a block's data, inside the area of data and below the total.
         ensures value { result ≡ data_sector self.now.geometry block part }
         ensures inside { (data_start self.now.geometry ≤ result) × (result < total self.now.geometry) }
     {

@@ -61,6 +61,7 @@ pub fn body_sector(body: u32) -> u32
 
 /// These numbers are those of the format, and the ring ends with the descriptor of its last record.
 pub fn numbers_are_the_formats()
+    /// promise (with bodies, start, end): The constants of the journal are those of the format.
     ensures records { RECORDS ≡ records }
     ensures bodies { BODIES ≡ bodies }
     ensures start { RING_START ≡ ring_start }

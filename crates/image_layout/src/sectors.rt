@@ -28,6 +28,8 @@ pub const MOST_SECTORS: u32 = 8_462_726;
 /// These sectors are those of the format, and so is the most that an image has: the whole of the largest disk.
 pub fn sectors_are_the_formats()
     ensures bytes { SECTOR_BYTES ≡ 512 }
+    /// promise (with bytes, format_gate, sweep_flag, caps, counts, most): The constants of sectors are those of the
+    /// format.
     ensures header { HEADER_SECTOR ≡ header_sector }
     ensures format_gate { FORMAT_GATE ≡ format_gate }
     ensures sweep_flag { SWEEP_FLAG ≡ sweep_flag }

@@ -34,19 +34,24 @@ pub enum Telling {
 /// The status is Done or NotImage by what was found, DeviceFault or PutFault where that count rose, or NoMemory where
 /// none was found to open the image.
 pub fn check_image<P: Port>(alloc: Global, port: &mut P, telling: Telling) -> Status
+    /// promise: No other status comes than Done, NotImage, DeviceFault, PutFault and NoMemory.
     ensures ending { IsEnding result }
+    /// promise: After Done and NotImage one line: `clean` with the numbers of the world for which the image stands, or
+    /// the first test that it fails; Done comes with the one, NotImage with the other. Or the lines of `info`.
     ensures said { P.told → HasChecked telling result (P.view port.old).reads (P.view port.old).sent (P.view port.new).sent }
-    // Where the image fails one of the tests that need no write, nothing is written, and the disk reads as before;
-    // where it fails another, nothing is lost that a repair could use.
+    /// promise (with spared): Where the image fails one of the first three tests, nothing is written, and it reads as
+    /// before; where it fails another, nothing is lost that a repair could use.
     ensures untouched { P.told → IsForeign (P.view port.old).reads
         → IsUntouched (P.view port.old) (P.view port.new) }
     ensures spared { P.told → IsNotImage result → IsSpared (P.view port.old) (P.view port.new) }
-    // A crash at any moment leaves an image of the same world, or of none where the image stood for none.
+    /// promise: Each image left stands for the same world, or for none where the image stood for none; nothing was sent
+    /// by then, or a front of those lines.
     ensures any_moment { P.told → IsFirm (P.view port.old) → LeavesOnly (P.view port.old) (P.view port.new)
         (λ x f. StandAlike (P.view port.old).reads x × IsSaying telling (P.view port.old).reads (P.view port.old).sent f) }
-    // A crash at any moment leaves what lies behind the image as it was.
+    /// promise: What lies after the image is as it was in each image left.
     ensures behind { P.told → IsFirm (P.view port.old) → LeavesBehind (P.view port.old) (P.view port.new) }
-    // A count of faults rose only where the status is that fault's.
+    /// promise (with put_fault, no_device_fault, no_put_fault): A count of faults rose exactly where the status is that
+    /// fault's.
     ensures device_fault { result ≡ Status.DeviceFault → Rose (P.view port.old).faults (P.view port.new).faults }
     ensures put_fault { result ≡ Status.PutFault → Rose (P.view port.old).put_faults (P.view port.new).put_faults }
     ensures no_device_fault { result ≢ Status.DeviceFault → (P.view port.new).faults ≡ (P.view port.old).faults }

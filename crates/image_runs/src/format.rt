@@ -24,12 +24,17 @@ pub fn format_image<P: Port>(port: &mut P, words: &Format) -> Status
     ensures ending { IsEnding result }
     // No image is opened, and no memory taken.
     ensures image { (why : ImageFault) → result ≢ Status.NotImage why }
+    /// promise (with image): No memory is taken, and no image opened.
     ensures memory { result ≢ Status.NoMemory }
+    /// promise: After Done, and after a put that failed, nothing is loose, nothing is left to be done, and the disk
+    /// stands for the fresh world of the words' size and the seed's capabilities; one line for each primary block was
+    /// sent, or a proper front of them.
     ensures made { P.told → HasFormatted result words.now (P.view port.old) (P.view port.new) }
-    // A crash at any moment leaves what formatting may, and wherever a byte was sent the fresh world.
+    /// promise: Each image left is one that formatting may leave; wherever a byte was sent it stands for the fresh
+    /// world.
     ensures any_moment { P.told → LeavesOnly (P.view port.old) (P.view port.new) (IsLeftOfFormat words.now
         (P.view port.old)) }
-    // It leaves the sectors behind the image as they were.
+    /// promise: The sectors after the image stay as they are.
     ensures behind { P.told → IsFirm (P.view port.old) → LeavesSectorsBehind words.now.geometry (P.view port.old)
         (P.view port.new) }
     // A count of faults rose only where the status is that fault's.

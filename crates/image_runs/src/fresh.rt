@@ -37,16 +37,16 @@ pub fn serve_fresh<S: Source, P: Port, R: Protocol<Request = Request> + Replies>
     requires single { geometry.now.primaries ≡ 1 }
     requires few { limit ≤ INPUT_MAX }
     requires fresh { R.was_fed [] protocol.old }
-    // What came in and what was sent, by status; what a crash at any moment may have left; and what the disk is after
-    // Done.
+    /// promise: As for `serve_image`, of a fresh disk that is formatted first; what a crash leaves of the format is
+    /// said too.
     ensures ran { FreshRan result R.voice R.spelling placement.now.kind (single_world geometry.now caps.now) limit
         (taking S.told S.taken S.left_bytes S.ended source.old source.new) (moments P.told P.view port.old port.new) }
     // What is written before each reply has a bound, and what is written behind it; where the input was cut short,
     // nothing is done behind the last one but that.
     ensures prompt { P.told → IsPromptFresh result R.voice placement.now.kind (single_world geometry.now caps.now)
         (IsOfPort P.view) (P.view port.old) (P.view port.new) }
-    // A crash at any moment leaves the sectors behind the image as they were, or so that they are to be that once the
-    // records of the journal are in place.
+    /// promise: In each image that a crash leaves, the sectors after the image are as they were, or are to be so once
+    /// the records of the journal are in place.
     ensures behind { P.told → IsFirm (P.view port.old) → LeavesSameBehind geometry.now (P.view port.old)
         (P.view port.new) }
     ensures once { EndsOnce (S.ends source.old) (S.ends source.new) }

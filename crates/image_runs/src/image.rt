@@ -36,21 +36,23 @@ pub fn serve_image<S: Source, P: Port, R: Protocol<Request = Request> + Replies>
 ) -> Status
     requires few { limit ≤ INPUT_MAX }
     requires fresh { R.was_fed [] protocol.old }
+    /// promise (with ran): **The headline, from the image at the start to the last byte sent**: an image opened and
+    /// served, or why it wasn't opened; by the status what came in, what was sent and what a crash leaves, opening
+    /// included; with bounds on writes and on what waits to be reclaimed.
     ensures read { P.told → IsJudged (P.view port.old).reads result }
     // What came in and what was sent, by status; what a crash at any moment may have left; and what the disk is after
     // Done.
     ensures ran { ImageRan result R.voice R.spelling placement.now.kind limit
         (taking S.told S.taken S.left_bytes S.ended source.old source.new) (moments P.told P.view port.old port.new) }
-    // What is written before each reply has a bound, and what is written behind it; where the input was cut short,
-    // nothing is done behind the last one but that.
+    /// promise: Each reply is prompt, as for `serve_core`.
     ensures prompt { P.told → IsPromptRun result R.voice placement.now.kind (IsOfPort P.view) (P.view port.old)
         (P.view port.new) }
-    // Where the image fails one of the tests that need no write, nothing is written, and the disk reads as before;
-    // where it fails another, nothing is lost that a repair could use.
+    /// promise (with spared): Where the image fails one of the first three tests, nothing is written, and it reads as
+    /// before; where it fails another, nothing is lost that a repair could use.
     ensures untouched { P.told → IsForeign (P.view port.old).reads
         → IsUntouched (P.view port.old) (P.view port.new) }
     ensures spared { P.told → IsNotImage result → IsSpared (P.view port.old) (P.view port.new) }
-    // However it ended, a crash at any moment leaves what lies behind the image as it was.
+    /// promise: What lies after the image is as it was in each image that a crash leaves, however the run ended.
     ensures behind { P.told → IsFirm (P.view port.old) → LeavesBehind (P.view port.old) (P.view port.new) }
     ensures once { EndsOnce (S.ends source.old) (S.ends source.new) }
     // A count of faults rose only where the status is that fault's.

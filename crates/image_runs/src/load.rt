@@ -70,6 +70,9 @@ pub fn load_image<P: Port>(
 ) -> Status
     requires few { load.now.count ≤ 200000 }
     ensures ending { IsEnding result }
+    /// promise: After Done the disk stands for the world after the first COUNT requests of the seed by the rules of the
+    /// disk, nothing is doomed, and all gates are closed; the numbers in the line are those of the replies by these
+    /// rules, and of that world.
     ensures loaded { P.told → HasLoaded result placement.now.kind load.now.seed load.now.count (P.view port.old)
         (P.view port.new) }
     // Where the image fails one of the tests that need no write, nothing is written, and the disk reads as before;
@@ -77,10 +80,11 @@ pub fn load_image<P: Port>(
     ensures untouched { P.told → IsForeign (P.view port.old).reads
         → IsUntouched (P.view port.old) (P.view port.new) }
     ensures spared { P.told → IsNotImage result → IsSpared (P.view port.old) (P.view port.new) }
-    // A crash at any moment leaves a world of the run of the requests, and wherever a byte was sent the last one.
+    /// promise: Each image left stands for the world after some of these requests; wherever a byte was sent, after all
+    /// of them.
     ensures any_moment { P.told → IsFirm (P.view port.old) → LeavesOnly (P.view port.old) (P.view port.new)
         (IsLeftOfLoad placement.now.kind load.now.seed load.now.count (P.view port.old)) }
-    // Without memory no request is carried out.
+    /// promise: Without memory no request is carried out.
     ensures no_memory { P.told → result ≡ Status.NoMemory → IsFirm (P.view port.old)
         → LeavesOnly (P.view port.old) (P.view port.new) (λ x f. StandAlike (P.view port.old).reads x
         × (f ≡ (P.view port.old).sent)) }

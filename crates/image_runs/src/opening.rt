@@ -27,6 +27,8 @@ use volume::Volume;
 
 /// Opens the volume of an image. What is wrong comes as the status that says so.
 pub fn open_volume<D: Device>(alloc: Global, dev: &mut D) -> Result<Volume, Status>
+    /// promise (with at, done, settled): The volume of the world for which the image stands, with nothing left to be
+    /// reclaimed, or why it wasn't opened as a status.
     ensures read { D.told → IsOpened (D.view dev.old).reads result }
     ensures stops { IfErr result IsUnopened }
     ensures ready { IfOk result (λ v. IsVolumeReady v) }
@@ -44,8 +46,8 @@ pub fn open_volume<D: Device>(alloc: Global, dev: &mut D) -> Result<Volume, Stat
     // where it fails another, nothing is lost that a repair could use.
     ensures untouched { D.told → IsForeign (D.view dev.old).reads → IsUntouched (D.view dev.old) (D.view dev.new) }
     ensures spared { D.told → IfErr result (λ why. IsNotImage why → IsSpared (D.view dev.old) (D.view dev.new)) }
-    // It writes by what is replayed, and by what is left to be swept and reclaimed. Where nothing was left to be done,
-    // nothing is written, and nothing is owed.
+    /// promise (with unwritten, paid): What is written goes by what is replayed, and by what is left to be swept and
+    /// reclaimed; where nothing was left to be done, nothing is written, and nothing is owed.
     ensures uses { D.told → Uses (opening_writes (D.view dev.old).reads) (D.view dev.old) (D.view dev.new) }
     ensures unwritten { D.told → IsQuiet (D.view dev.old).reads → (D.view dev.new).writes
         ≤ (D.view dev.old).writes }
@@ -64,6 +66,8 @@ pub fn open_volume<D: Device>(alloc: Global, dev: &mut D) -> Result<Volume, Stat
 
 /// Opens the disk of an image, with no session open. What is wrong comes as the status that says so.
 pub fn open_core<D: Device>(alloc: Global, dev: &mut D) -> Result<Core, Status>
+    /// promise (with at, state, none): The disk of the world for which the image stands, with no session open, or why
+    /// it wasn't opened as a status.
     ensures read { D.told → IsOpened (D.view dev.old).reads result }
     ensures stops { IfErr result IsUnopened }
     ensures ready { IfOk result IsCoreReady }

@@ -34,13 +34,15 @@ pub fn serve_core<S: Source, P: Port, R: Protocol<Request = Request> + Replies>(
     requires fresh { R.was_fed [] protocol.old }
     requires ready { IsCoreReady core.old }
     requires at { P.told → IsCoreAt core.old (P.view port.old) }
+    /// promise: As for `serving::serve`, by the rules of the abstract disk.
     ensures ran { Ran result (spoken disk_rules R.voice) disk_work R.spelling
         (placed_on placement.now.kind core.old (P.view port.old).reads)
         (placed_on placement.now.kind core.new (P.view port.new).reads) limit
         (taking S.told S.taken S.left_bytes S.ended source.old source.new) (due core.old.volume)
         (moments P.told P.view port.old port.new) }
-    // Each request was answered promptly; where the input was cut short, nothing is done behind the last answer and
-    // what is behind an answer.
+    /// promise: No write comes before the reply of a request that is refused; at most 130 before that of a `Delete`,
+    /// 600 before that of another but a sweep, and 12 for each block and pair that waits at an allocation or a
+    /// `Create`; and at most 400 after a reply.
     ensures prompt { P.told → Promptly result (spoken disk_rules R.voice) disk_work (IsOfPort P.view)
         (placed_on placement.now.kind core.old (P.view port.old).reads) (mark (P.view port.old))
         (mark (P.view port.new)) }
@@ -49,7 +51,7 @@ pub fn serve_core<S: Source, P: Port, R: Protocol<Request = Request> + Replies>(
     ensures at { result ≢ Status.DeviceFault → P.told → IsCoreAt core.new (P.view port.new) }
     ensures spent { result ≡ Status.DeviceFault → core.new.volume.is_spent ≡ true }
     ensures closed { result ≡ Status.Done → P.told → IsQuiet (P.view port.new).reads }
-    // However it ended, a crash at any moment leaves what lies behind the image as it was.
+    /// promise: What lies after the image is as it was in each image that a crash leaves.
     ensures behind { P.told → LeavesPart (behind core.old.volume.tables.geometry) (P.view port.old) (P.view port.new) }
     ensures once { EndsOnce (S.ends source.old) (S.ends source.new) }
     // A count of faults rose only where the status is that fault's.

@@ -28,16 +28,19 @@ use volume::Volume;
 /// NoMemory where none was found to open the image.
 pub fn upgrade_image<P: Port>(alloc: Global, port: &mut P) -> Status
     ensures ending { IsEnding result }
+    /// promise: After Done the disk stands for the world with digests in place of capabilities, all gates of the
+    /// journal are closed, and what it held of these reads as zeros.
     ensures upgraded { P.told → HasUpgraded result (P.view port.old) (P.view port.new) }
     // Where the image fails one of the tests that need no write, nothing is written, and the disk reads as before;
     // where it fails another, nothing is lost that a repair could use.
     ensures untouched { P.told → IsForeign (P.view port.old).reads
         → IsUntouched (P.view port.old) (P.view port.new) }
     ensures spared { P.told → IsNotImage result → IsSpared (P.view port.old) (P.view port.new) }
-    // A crash at any moment leaves the world before or the upgraded one, and wherever a byte was sent the latter.
+    /// promise: Each image left stands for the world before, or for none where there was none, or for the upgraded one;
+    /// wherever a byte was sent, for the latter.
     ensures any_moment { P.told → IsFirm (P.view port.old) → LeavesOnly (P.view port.old) (P.view port.new)
         (IsLeftOfUpgrade (P.view port.old)) }
-    // Without memory nothing is upgraded.
+    /// promise: Without memory nothing is upgraded.
     ensures no_memory { P.told → result ≡ Status.NoMemory → IsFirm (P.view port.old)
         → LeavesOnly (P.view port.old) (P.view port.new) (λ x f. StandAlike (P.view port.old).reads x
         × (f ≡ (P.view port.old).sent)) }

@@ -35,7 +35,25 @@ pub fn serve_inode_image<S: Source, P: Port>(
     limit: u64,
 ) -> Status
     requires few { limit ≤ INPUT_MAX }
+    /// promise: Unless memory or the device is at fault, NotImage comes exactly where the image stands for no world,
+    /// and RootDenied exactly where the capability gives no write access to the root, with the access that it gives.
     ensures read { P.told → IsShellJudged root cap.now (P.view port.old).reads result }
+    /// promise: **The run begins** with the tree of the image mounted where one is there, and the world tidy; where
+    /// none is there nothing is mounted, and the world is as it was.
+    /// promise: **What was sent** are the lines of the answers of the asks, each by the step of its ask on the tree and
+    /// the room that the world has then; from the state after one answer to the state after the next the world changes
+    /// only by an ask that is done. After a fault of the device within a `cat` or an `ls`, a front of that answer may
+    /// be sent after them.
+    /// promise: **A crash at any moment**, opening and mounting included, leaves an image of a valid world whose tree
+    /// under the root is the one after the asks whose answers were sent whole, or after one more, whatever answer that
+    /// was to get; what the root doesn't reach is as at the start, and so are the capabilities. Of blocks that the tree
+    /// doesn't name, and of the geometry, it says nothing.
+    /// promise: Each state of the run rested in an image that a crash may have left with exactly the answers before it
+    /// sent: there the world is valid and tidy. So the numbers of free blocks and of held pointers in the answers are
+    /// those of a world that was there.
+    /// promise: Where no ask was served, nothing was sent, and a crash leaves the world as it was; where the device
+    /// failed while a tree was mounted, the tree under the root.
+    /// promise: After Done nothing is loose, the disk stands for the last world, and nothing is left to be done.
     ensures ran { ShellRan result kind.Inode root cap.now limit
         (taking S.told S.taken S.left_bytes S.ended source.old source.new) (moments P.told P.view port.old port.new) }
     // Where the image fails one of the tests that need no write, nothing is written, and the disk reads as before;
@@ -46,6 +64,8 @@ pub fn serve_inode_image<S: Source, P: Port>(
     // However it ended, a crash at any moment leaves what lies behind the image as it was.
     ensures behind { P.told → IsFirm (P.view port.old) → LeavesBehind (P.view port.old) (P.view port.new) }
     ensures once { EndsOnce (S.ends source.old) (S.ends source.new) }
+    /// promise (with device_fault, put_fault, no_source_fault, no_device_fault, no_put_fault): A count of faults rose
+    /// exactly where the status is that fault's.
     ensures source_fault { result ≡ Status.SourceFault → Rose (S.faults source.old) (S.faults source.new) }
     ensures device_fault { result ≡ Status.DeviceFault → Rose (P.view port.old).faults (P.view port.new).faults }
     ensures put_fault { result ≡ Status.PutFault → Rose (P.view port.old).put_faults (P.view port.new).put_faults }
@@ -74,6 +94,7 @@ pub fn serve_chain_image<S: Source, P: Port>(
     limit: u64,
 ) -> Status
     requires few { limit ≤ INPUT_MAX }
+    /// promise (with ran): As for `serve_inode_image`, of the tree of chains.
     ensures read { P.told → IsShellJudged root cap.now (P.view port.old).reads result }
     ensures ran { ShellRan result kind.Chain root cap.now limit
         (taking S.told S.taken S.left_bytes S.ended source.old source.new) (moments P.told P.view port.old port.new) }

@@ -47,6 +47,7 @@ pub fn load_tables<D: Device>(
     requires version { IsVersion header.now.version }
     requires lawful { IsLawful header.now.geometry }
     ensures fit { IfOk result (λ t. DoFit header.now t) }
+    /// promise (with fit): The four tables, or the first test that fails, with its least slot, pair or block.
     ensures read { D.told → AnswersTables (D.view dev.old).reads header.now result }
     ensures rests { D.told → Rests (D.view dev.old) (D.view dev.new) }
     ensures uses { Uses 0 (D.view dev.old) (D.view dev.new) }

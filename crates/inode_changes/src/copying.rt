@@ -82,6 +82,7 @@ pub fn copy<K: Blocks>(
     requires may { MayAsk K.told client.now (K.view disk.old) }
     requires named { IsTrue (is_path path.now) }
     requires new_named { IsTrue (is_path new.now) }
+    /// promise (with changes): The answer is the tree's step, and every stop leaves the tree before or after.
     ensures answer { K.told → Answers (mounted_by client.now) (K.view disk.old) (K.view disk.new)
         (ask.Copy path.now new.now) result (λ _ answer. answer ≡ done) }
     ensures changes { Changes K.told (mounted_by client.now) (K.view disk.old) (K.view disk.new)

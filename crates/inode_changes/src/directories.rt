@@ -94,6 +94,7 @@ fn add_directory<K: Blocks>(
 pub fn make_dir<K: Blocks>(client: &Client, disk: &mut K, path: &Path) -> Result<(), FsRefusal>
     requires may { MayAsk K.told client.now (K.view disk.old) }
     requires named { IsTrue (is_path path.now) }
+    /// promise (with changes): The answer is the tree's step, and every stop leaves the tree before or after.
     ensures answer { K.told → Answers (mounted_by client.now) (K.view disk.old) (K.view disk.new)
         (ask.MakeDir path.now) result (λ _ answer. answer ≡ done) }
     ensures changes { Changes K.told (mounted_by client.now) (K.view disk.old) (K.view disk.new) (ask.MakeDir path.now)

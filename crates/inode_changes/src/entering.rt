@@ -50,6 +50,8 @@ pub fn enter<K: Blocks>(
     requires room { DirectoryHasRoom lookup.now.directory.inode lookup.now.name.now }
     requires may { K.told → MayWrite client.now (K.view disk.old) lookup.now.directory.block }
     requires made { K.told → MayEnter client.now.root lookup.now inode (K.view disk.old).world }
+    /// promise (with keeps, runs): The one write that decides: the tree with the entry; a stop leaves the tree before
+    /// or after.
     ensures entered { K.told → OnOk result (Enters client.now.root lookup.now inode (K.view disk.old).world
         (K.view disk.new).world) }
     ensures keeps { K.told → OnOk result (KeepsRoom (need 0 0) (K.view disk.old).world (K.view disk.new).world) }

@@ -34,6 +34,8 @@ pub fn fill<K: Blocks>(
     requires suits { K.told → IsFor client.now (K.view disk.old) content.now }
     requires bare { K.told → (b : ℕ) → holds (K.view disk.old).world.pairs inode b ≡ false }
     requires free { K.told → new_count content.now ≤ free_count (K.view disk.old).world }
+    /// promise (with stopped, room, full): A new inode is filled that nothing names yet, with the blocks that it shares
+    /// with an old file and with new ones; where there is no room for them, that is told with its numbers.
     ensures filled { K.told → OnOk result (Filled client.now (K.view disk.old) (K.view disk.new) inode
         content.now.size (shared_of content.now) (new_bytes content.now)) }
     ensures room { K.told → OnOk result (no_room_in (K.view disk.old).world (new_count content.now)

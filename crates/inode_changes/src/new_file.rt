@@ -37,6 +37,8 @@ pub fn make_file<K: Blocks>(
     requires room { FitsInode content.now }
     requires suits { K.told → IsFor client.now (K.view disk.old) content.now }
     requires of_files { K.told → AreOfFiles client.now.root (K.view disk.old).world (shared_of content.now) }
+    /// promise (with keeps, full, same): A new file that nothing names yet; where there is no room the world is as it
+    /// was.
     ensures made { K.told → IfOk result (λ inode. IsMadeInode client.now.root (K.view disk.old).world directory inode
         (a_file (bytes_of (K.view disk.old).world content.now)) (K.view disk.new).world) }
     ensures may { K.told → OnOk result ((b : ℕ) → MayWrite client.now (K.view disk.old) b

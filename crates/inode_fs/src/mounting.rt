@@ -66,6 +66,8 @@ fn tidy<K: Blocks>(client: &Client, disk: &mut K, marks: &Marks) -> Result<(), F
 pub fn mount<K: Blocks>(client: &Client, marks: &mut Marks, disk: &mut K) -> Result<(), FsRefusal>
     requires ready { IsClientReady (mounted_by client.now) (K.view disk.old) }
     requires valid { K.told → IsValidNow (K.view disk.old) }
+    /// promise (with runs): Exactly the pairs that the tree doesn't name are deleted; nothing changes where there is no
+    /// tree.
     ensures finds { K.told → FindsTree (mounted_by client.now) (K.view disk.old) (K.view disk.new) result }
     ensures runs { Runs K.told (K.view disk.old) (K.view disk.new) (IsTreeAlone (mounted_by client.now)
         (K.view disk.old)) result }

@@ -48,6 +48,7 @@ impl Inode {
     /// The inode in a block's bytes, where its head is one's. The order of its list isn't looked at.
     #[tactic(none)]
     pub fn parse(bytes: Data) -> Option<Inode>
+        /// promise (with short): What inode a block is, if it is one.
         ensures said { 16 ≤ length bytes → option_map inode_of result ≡ said_in (length bytes) bytes }
         ensures short { length bytes < 16 → result ≡ None }
         ensures kept { IfSome result (λ inode. bytes_of inode ≡ bytes) }
@@ -171,6 +172,7 @@ impl Inode {
 
     /// Whether the names of a directory's entries are names and ascend, or no block of a file stands twice.
     pub fn is_in_order(&self) -> bool
+        /// promise: Whether the inode's entries are in order.
         ensures { result ≡ is_in_order (inode_of self.now) }
     {
         match self.kind {

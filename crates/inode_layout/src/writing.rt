@@ -63,6 +63,7 @@ pub fn empty_directory() -> Data
 pub fn file_inode(size: u32, shared: &[u8], count: usize, blocks: &[u32]) -> Data
     requires all { length shared.now ≡ 4 * count }
     requires fits { 16 + 4 * (count + length blocks.now) ≤ 4096 }
+    /// promise: The bytes of a file's inode.
     ensures { result ≡ inode_bytes (regular size (numbers count shared.now ++ blocks.now)) }
 {
     let mut bytes = head(InodeKind::Regular, size);
@@ -77,6 +78,7 @@ pub fn directory_with(old: &Inode, name: &[u8], block: u32) -> Data
     requires named { length name.now ≤ 28 }
     requires fits { length (with_listed (record { name = name.now; block = block }) (entries_said (inode_of old.now)))
         ≤ entries_room (block_len_of old.now) }
+    /// promise: The bytes of a directory with the entry in its place, instead of the one of its name.
     ensures { result ≡ inode_bytes (directory (with_listed (record { name = name.now; block = block })
         (entries_said (inode_of old.now)))) }
 {
@@ -92,6 +94,7 @@ pub fn directory_with(old: &Inode, name: &[u8], block: u32) -> Data
 /// The directory without the entry of a name.
 pub fn directory_without(old: &Inode, name: &[u8]) -> Data
     requires dir { IsTrue (is_directory (inode_of old.now)) }
+    /// promise: The bytes of a directory without an entry.
     ensures { result ≡ inode_bytes (directory (without_listed name.now (entries_said (inode_of old.now)))) }
 {
     let (before, behind) = around(old.body(), old.count(), name);

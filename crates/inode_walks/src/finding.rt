@@ -131,10 +131,13 @@ fn child<K: Blocks>(
 /// The inode at the end of a way from the root, each block on it read once.
 pub fn walk<K: Blocks>(client: &Client, disk: &mut K, names: &[Name]) -> Result<Found, FsRefusal>
     requires may { MayAsk K.told client.now (K.view disk.old) }
+    /// promise (with none, refused): What stands at a path, by the tree under the root, with the first refusal that
+    /// applies.
     ensures found { K.told → IfOk result (λ found. StandsAtPath client.now (K.view disk.new) names.now found) }
     ensures none { K.told → OnOk result (not_found (tree_under client.now (K.view disk.old)) names.now ≡ None) }
     ensures refused { K.told → IfErr result (λ e. e ≢ no.Device
         → not_found (tree_under client.now (K.view disk.old)) names.now ≡ Some e) }
+    /// promise: No world is changed.
     ensures looks { OnlyLooks K.told (K.view disk.old) (K.view disk.new) result }
 {
     let mut found = match read_inode(client, disk, client.root) {
@@ -212,6 +215,8 @@ pub fn look_up<'a, K: Blocks>(
     requires refusal { at_root ≢ no.Device }
     ensures dir { IfOk result (λ lookup. IsTrue (is_directory (inode_of lookup.directory.inode))) }
     ensures short { IfOk result (λ lookup. length lookup.name.now ≤ name_max) }
+    /// promise (with none, refused): What stands under a name in the directory of a path, with the first refusal that
+    /// applies.
     ensures found { K.told → IfOk result (λ lookup. IsLookup client.now (K.view disk.new) path.now lookup) }
     ensures none { K.told → OnOk result (lookup_refusal (tree_under client.now (K.view disk.old)) path.now at_root
         ≡ None) }

@@ -25,6 +25,7 @@ use tsd_model::lists::DATA_MAX;
 pub fn size<K: Blocks>(client: &Client, disk: &mut K, path: &Path) -> Result<u64, FsRefusal>
     requires may { MayAsk K.told client.now (K.view disk.old) }
     requires named { IsTrue (is_path path.now) }
+    /// promise (with looks): A file's size, by the tree; no world is changed.
     ensures answer { K.told → Answers (mounted_by client.now) (K.view disk.old) (K.view disk.new) (ask.Cat path.now)
         result TellsSize }
     ensures looks { OnlyLooks K.told (K.view disk.old) (K.view disk.new) result }
@@ -128,6 +129,7 @@ pub fn read_part<K: Blocks>(
 ) -> Result<(), FsRefusal>
     requires may { MayAsk K.told client.now (K.view disk.old) }
     requires named { IsTrue (is_path path.now) }
+    /// promise (with looks): A file's bytes from an offset, by the tree; no world is changed.
     ensures answer { K.told → Answers (mounted_by client.now) (K.view disk.old) (K.view disk.new) (ask.Cat path.now)
         result (λ _. TellsPart start into.new) }
     ensures nothing { IfErr result (λ _. into.new ≡ []) }
@@ -156,6 +158,7 @@ pub fn name_after<K: Blocks>(
 ) -> Result<Option<Name>, FsRefusal>
     requires may { MayAsk K.told client.now (K.view disk.old) }
     requires named { IsTrue (is_path path.now) }
+    /// promise (with looks): A directory's next name, by the tree; no world is changed.
     ensures answer { K.told → Answers (mounted_by client.now) (K.view disk.old) (K.view disk.new) (ask.Ls path.now)
         result (TellsNext after.now) }
     ensures looks { OnlyLooks K.told (K.view disk.old) (K.view disk.new) result }

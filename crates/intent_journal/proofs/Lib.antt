@@ -17,6 +17,7 @@ pub mod Places
 pub mod Checkpointing
 pub mod Committing
 pub mod Replaying
+pub mod Idle
 pub mod Emptying
 pub mod Roomy
 pub mod Costs

@@ -71,6 +71,8 @@ impl Batch {
     /// Gives a home new bytes. Where the home is held already, these take the place of its bytes.
     pub fn put(&mut self, sector: u32, bytes: &[u8; 512]) -> Result<(), BatchFull>
         requires { IsTrue (is_lawful_home sector) }
+        /// promise (with room, full): A batch holds at most 113 distinct homes, each with its last bytes; refused, with
+        /// nothing changed, exactly where the home is a new one and the batch is full.
         ensures ok { OnOk result (self.new ≡ with_patch (record { sector = sector; bytes = bytes.now }) self.old) }
         ensures room { OnOk result ((has_home self.old sector ≡ true) ⊎ (length self.old < bodies)) }
         ensures full { OnErr result ((has_home self.old sector ≡ false) × (length self.old ≡ bodies)) }

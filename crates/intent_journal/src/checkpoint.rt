@@ -33,15 +33,21 @@ impl Ring {
         ensures at { D.told → OnOk result (IsRingAt [] (D.view dev.new)) }
         ensures empty { OnOk result (self.new ≡ []) }
         ensures kept { OnErr result (self.new ≡ self.old) }
+        /// promise (with firm, at, empty): After Ok the sectors read as what the disk stood for, the journal aside;
+        /// nothing is loose, all gates are closed, and the ring is empty.
         ensures done { D.told → OnOk result (AgreeBut is_journal (home (D.view dev.old).reads) (D.view dev.new).reads) }
+        /// promise: Each open gate is closed by zeros, and no other gate is written.
         ensures gates { D.told → OnOk result (ClosesGates (D.view dev.old).reads (D.view dev.new).reads) }
         ensures firm { D.told → OnOk result (IsFirm (D.view dev.new)) }
         ensures sent { D.told → (D.view dev.new).sent ≡ (D.view dev.old).sent }
 
-        // A crash at any moment leaves what the disk stood for before, but in sectors that were loose.
+        /// promise: What a crash at any moment leaves has valid open records, and stands for what the disk stood for
+        /// before, except in sectors that were loose.
         ensures any_moment { D.told → LeavesOnly (D.view dev.old) (D.view dev.new)
             (λ x f. IsBefore (D.view dev.old) x × (f ≡ (D.view dev.old).sent)) }
 
+        /// promise (with most): At most as many writes as there are distinct homes and records, and never more than
+        /// 121.
         ensures uses { Uses (checkpoint_writes self.old) (D.view dev.old) (D.view dev.new) }
         ensures most { checkpoint_writes self.old ≤ 121 }
         ensures faults { CountsFault result (D.view dev.old).faults (D.view dev.new).faults }

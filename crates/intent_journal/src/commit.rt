@@ -32,22 +32,30 @@ impl Ring {
         requires { D.told → IsRingAt self.old (D.view dev.old) }
         ensures at { D.told → OnOk result (IsRingAt self.new (D.view dev.new)) }
         ensures records { OnOk result (self.new ≡ committed self.old batch.now) }
+        /// promise: After a failure the ring in memory is as it was, or empty where it had no room.
         ensures kept { OnErr result ((self.new ≡ self.old)
             ⊎ ((self.new ≡ []) × (is_full_for self.old (length batch.now) ≡ true))) }
+        /// promise (with firm, at, records): After Ok the disk stands for what it did with the whole batch in place,
+        /// nothing is loose, and the ring is at the device with the batch as its last record.
         ensures done { D.told → OnOk result (AgreeBut is_journal (overlaid batch.now (home (D.view dev.old).reads))
             (home (D.view dev.new).reads)) }
+        /// promise: The gate and the descriptor written are those of the format, with zeros after the homes.
         ensures written { D.told → OnOk result (batch.now ≢ [] → IsRecordWritten (length self.new - 1) batch.now
             (D.view dev.new).reads) }
         ensures firm { D.told → OnOk result (IsFirm (D.view dev.new)) }
         ensures sent { D.told → (D.view dev.new).sent ≡ (D.view dev.old).sent }
 
-        // A crash at any moment leaves what the disk stood for before, but in sectors that were loose, or that with the
-        // whole batch in place.
+        /// promise: **A batch is whole or absent in every image.** What a crash at any moment leaves has valid open
+        /// records, and stands for what the disk stood for before, except in sectors that were loose, or for that with
+        /// the whole batch in place.
         ensures any_moment { D.told → LeavesOnly (D.view dev.old) (D.view dev.new)
             (λ x f. IsBeforeOrAfter batch.now (D.view dev.old) x × (f ≡ (D.view dev.old).sent)) }
 
+        /// promise (with most): At most as many writes as the batch has homes and 2, and those of the checkpoint where
+        /// there is no room; none for an empty batch.
         ensures uses { Uses (commit_writes self.old batch.now) (D.view dev.old) (D.view dev.new) }
         ensures most { checkpoint_writes self.old ≤ 121 }
+        /// promise: `Failed` comes only where the device's count of faults rose, and Ok leaves the count.
         ensures faults { CountsFault result (D.view dev.old).faults (D.view dev.new).faults }
     {
         // So many records and bodies as a ring has are put in place by at most 121 writes.

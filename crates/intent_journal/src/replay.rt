@@ -11,10 +11,10 @@ ghost use Rattle.intent_journal.specs.Descriptor.{is_valid};
 ghost use Rattle.intent_journal.specs.Home.{home, is_journal, AgreeBut};
 ghost use Rattle.intent_journal.specs.Records.{patches_of, open_records, is_gate_open, descriptor_of};
 ghost use Rattle.intent_journal.specs.Records.{has_valid_records, bodied, AddsRecord, HasHomes, IsBadRecord};
-ghost use Rattle.intent_journal.specs.Ring.{IsRingAt, IsReplayFound, distinct_homes, replay_writes};
-ghost use Rattle.intent_journal.specs.Closing.{is_listed_open};
+ghost use Rattle.intent_journal.specs.Ring.{IsRingAt, IsReplayFound, distinct_homes, last_patches, replay_writes};
+ghost use Rattle.intent_journal.specs.Closing.{IsListed, closing_writes, is_listed_open};
 ghost use Rattle.intent_journal.specs.Written.{ClosesGates};
-ghost use Rattle.intent_journal.specs.Crash.{IsTheSame};
+ghost use Rattle.intent_journal.specs.Crash.{IsBefore, IsTheSame};
 
 use crate::checkpoint::{Gates, put_in_place};
 use crate::descriptor::{MOST_HOMES, read_descriptor};
@@ -22,32 +22,41 @@ use crate::patches::PatchList;
 use crate::ring::{RECORD_PLACES, ReplayFault, Replayed, Ring, read_over};
 use arrayvec::ArrayVec;
 use image_device::{Device, Failed};
+use image_layout::Patch;
 use image_layout::gate::says_open;
 use image_layout::ring::{RECORDS, body_sector, descriptor_sector, gate_sector};
 
 impl Ring {
-    /// Puts the open records of a disk in place and closes the gates that are open. Nothing may be loose. Whatever the
-    /// ring held before, it is empty after. `BadDescriptor` comes exactly where an open record has no valid descriptor,
+    /// Puts the open records of a disk in place and closes the gates that are open. Nothing may be loose. Where no gate
+    /// is open nothing is written or waited for. Whatever the ring held before, it is empty after. `BadDescriptor` comes exactly where an open record has no valid descriptor,
     /// and then nothing was written; `Device` comes only where the device's count of faults rose.
     pub fn replay<D: Device>(&mut self, dev: &mut D) -> Result<Replayed, ReplayFault>
         requires { D.told → IsFirm (D.view dev.old) }
         ensures empty { self.new ≡ [] }
         ensures at { D.told → OnOk result (IsRingAt [] (D.view dev.new)) }
+        /// promise: Nothing is answered exactly where no record is open, else the number of distinct homes.
         ensures found { D.told → IfOk result (λ r. IsReplayFound (open_records (D.view dev.old).reads) r) }
         ensures valid { D.told → OnOk result (has_valid_records (D.view dev.old).reads ≡ true) }
+        /// promise (with valid, unwritten): Unless the device fails, `BadDescriptor` comes exactly where an open record
+        /// isn't valid, and nothing was written then.
         ensures bad { D.told → IsErrOf result ReplayFault.BadDescriptor
             → (has_valid_records (D.view dev.old).reads ≡ false) × Rests (D.view dev.old) (D.view dev.new) }
         ensures unwritten { IsErrOf result ReplayFault.BadDescriptor → Uses 0 (D.view dev.old) (D.view dev.new) }
+        /// promise (with firm, at, empty): After Ok the sectors read as what the disk stood for, the journal aside;
+        /// nothing is loose, all gates are closed, and the ring is empty.
         ensures done { D.told → OnOk result (AgreeBut is_journal (home (D.view dev.old).reads) (D.view dev.new).reads) }
         ensures gates { D.told → OnOk result (ClosesGates (D.view dev.old).reads (D.view dev.new).reads) }
         ensures firm { D.told → OnOk result (IsFirm (D.view dev.new)) }
         ensures sent { D.told → (D.view dev.new).sent ≡ (D.view dev.old).sent }
 
-        // A crash at any moment leaves what the disk stood for at the start.
+        /// promise: What a crash at any moment leaves stands for what the disk stood for at the start; so a replay that
+        /// was stopped may be begun again, any number of times.
         ensures any_moment { D.told → LeavesOnly (D.view dev.old) (D.view dev.new)
             (λ x f. IsTheSame (D.view dev.old).reads x × (f ≡ (D.view dev.old).sent)) }
 
         ensures uses { Uses 121 (D.view dev.old) (D.view dev.new) }
+        /// promise (with uses): At most as many writes as there are distinct homes and gates that read open, and never
+        /// more than 121.
         ensures needed { D.told → Uses (replay_writes (D.view dev.old).reads) (D.view dev.old) (D.view dev.new) }
         ensures faults { CountsFaultOf ReplayFault.Device result (D.view dev.old).faults (D.view dev.new).faults }
     {
@@ -70,6 +79,8 @@ impl Ring {
         into: &mut [u8; 512],
     ) -> Result<(), ReplayFault>
         ensures empty { self.new ≡ [] }
+        /// promise (with rests): The sector as it is to be once the open records are in place, before a replay; nothing
+        /// is written.
         ensures bytes { D.told → OnOk result (into.new ≡ home (D.view dev.old).reads sector) }
         ensures kept { OnErr result (into.new ≡ into.old) }
         ensures valid { D.told → OnOk result (has_valid_records (D.view dev.old).reads ≡ true) }
@@ -132,8 +143,47 @@ fn replay_into<D: Device>(dev: &mut D, patches: &mut PatchList) -> Result<Replay
 {
     read_records(dev, patches)?;
     let gates = read_gates(dev)?;
-    let homes = put_in_place(dev, patches.as_slice(), &gates)?;
+    let homes = put_open_in_place(dev, patches.as_slice(), &gates)?;
     Ok(found(homes))
+}
+
+/// Puts patches in place and closes the gates that are open, where nothing is loose. Where no gate is open either, there
+/// is nothing to write, and nothing to wait for. Answers to how many homes it wrote.
+fn put_open_in_place<D: Device>(
+    dev: &mut D,
+    patches: &[Patch],
+    gates: &Gates,
+) -> Result<u32, Failed>
+    requires listed { D.told → IsListed patches.now gates.now (D.view dev.old) }
+    requires room { length patches.now ≤ bodies }
+    requires firm { D.told → IsFirm (D.view dev.old) }
+    ensures at { D.told → OnOk result (IsRingAt [] (D.view dev.new)) }
+    ensures homes { IfOk result (λ homes. homes ≡ length (last_patches patches.now)) }
+    ensures done { D.told → OnOk result (AgreeBut is_journal (home (D.view dev.old).reads) (D.view dev.new).reads) }
+    ensures gates { D.told → OnOk result (ClosesGates (D.view dev.old).reads (D.view dev.new).reads) }
+    ensures firm { D.told → OnOk result (IsFirm (D.view dev.new)) }
+    ensures sent { D.told → (D.view dev.new).sent ≡ (D.view dev.old).sent }
+    ensures any_moment { D.told → LeavesOnly (D.view dev.old) (D.view dev.new)
+        (λ x f. IsBefore (D.view dev.old) x × (f ≡ (D.view dev.old).sent)) }
+    ensures uses { Uses (closing_writes patches.now gates.now) (D.view dev.old) (D.view dev.new) }
+    ensures faults { CountsFault result (D.view dev.old).faults (D.view dev.new).faults }
+{
+    if patches.is_empty() && are_closed(gates) {
+        return Ok(0);
+    }
+    put_in_place(dev, patches, gates)
+}
+
+/// Whether every gate is closed.
+fn are_closed(gates: &Gates) -> bool
+    ensures { result ≡ true → (index : ℕ) → index < records → is_listed_open gates.now index ≡ false }
+{
+    for index in 0..RECORD_PLACES {
+        if gates[index] {
+            return false;
+        }
+    }
+    true
 }
 
 /// What a replay answers that wrote to so many homes.

@@ -124,7 +124,9 @@ impl Ring {
         into: &mut [u8; 512],
     ) -> Result<(), Failed>
         requires { D.told → IsRingAt self.now (D.view dev.old) }
+        /// promise (with rests): The sector as it is to be once the ring's records are in place; nothing is written.
         ensures bytes { D.told → OnOk result (into.new ≡ home (D.view dev.old).reads sector) }
+        /// promise: After a failure the caller's bytes are as they were.
         ensures kept { OnErr result (into.new ≡ into.old) }
         ensures rests { D.told → Rests (D.view dev.old) (D.view dev.new) }
         ensures uses { Uses 0 (D.view dev.old) (D.view dev.new) }

@@ -76,6 +76,8 @@ impl LoadGen {
     /// Draws the next request.
     pub fn next_request(&mut self) -> Request
         requires { self.old.drawn < DRAWS_MAX }
+        /// promise (with drawn): Exactly the request of the generator's number, a function of the words of the seed's
+        /// stream, of the seed's capabilities and of the size of the disk; and it is counted.
         ensures request { result ≡ next_request self.old }
         ensures drawn { self.new ≡ record self.old { drawn = self.old.drawn + 1 } }
     {

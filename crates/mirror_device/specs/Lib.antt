@@ -4,6 +4,7 @@ pub mod Mirror
 pub mod MirrorLaws
 pub mod Copying
 pub mod Sending
+pub mod Putting
 pub mod MemSide
 pub mod History
 pub mod Pair

@@ -116,6 +116,7 @@ impl MemSides {
     /// One side as a station with nothing loose and no failing calls. `pick` says what is in the
     /// sectors of the side that were loose.
     pub fn into_side(self, side: Side, pick: Pick) -> MemStation
+        /// promise: One side as a crash leaves it.
         ensures image { IsImage (side_of side (mem_view self)).reads (side_of side (mem_view self)).loose
             (station_view result).reads }
         ensures old { pick ≡ Pick.Old → (station_view result).reads ≡ synced_of side self }

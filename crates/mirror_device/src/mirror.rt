@@ -28,7 +28,7 @@ pub struct Mirror<P: Sides, K: Began> {
 impl<P: Sides, K: Began> Mirror<P, K> {
     ghost use Rattle.mirror_device.specs.Mirror.{start_at, SidesReadAlike, IsSideLost, LeftIsSound, NoneIsSound};
     ghost use Rattle.mirror_device.specs.Mirror.{CountsAgree};
-    ghost use Rattle.mirror_device.specs.Sending.{SendsLate};
+    ghost use Rattle.mirror_device.specs.Sending.{IsIdleSince, SendsLate, StartsAt};
     ghost use Rattle.mirror_device.specs.Copying.{CopyCounts, Copying, IsBrokenOff, IsLeftOfFirst};
     ghost use Rattle.image_device.specs.Image.{Image};
     ghost use Rattle.image_device.specs.Runs.{IsFirm};
@@ -39,6 +39,8 @@ impl<P: Sides, K: Began> Mirror<P, K> {
     /// Where the first side fails, it gives the sides back.
     pub fn new(sides: P) -> Result<Mirror<P, K>, P>
         requires { K.start ≡ start_at (P.view sides) }
+        /// promise (with firm, sent): The mirror begins with the second side a copy of the first: it reads as the first
+        /// side did, nothing is loose and nothing was sent.
         ensures reads { P.told → IfOk result (λ m. (⟦<Mirror<P, K> as Device>⟧.view m).reads
             ≡ (P.view sides).first.reads) }
         ensures firm { P.told → IfOk result (λ m. IsFirm (⟦<Mirror<P, K> as Device>⟧.view m)) }
@@ -46,6 +48,7 @@ impl<P: Sides, K: Began> Mirror<P, K> {
             ≡ (P.view sides).sent) }
 
         // A crash inside leaves what a crash before it leaves of the first side.
+        /// promise: A crash inside leaves what a crash before it left of the first side.
         ensures left { P.told → IfOk result (λ m. (x : Image) (f : List ℕ)
             → (⟦<Mirror<P, K> as Device>⟧.view m).left (P.view sides).clock x f
             → IsLeftOfFirst (P.view sides) x f) }
@@ -58,6 +61,33 @@ impl<P: Sides, K: Began> Mirror<P, K> {
 
         // Where it gives the sides back, the first one failed and is as it was, no sync of the second one was answered
         // Ok, and nothing was sent.
+        /// promise (with counts, cause): The sides are given back, with the first one as it was and nothing sent, only
+        /// where the first side's count of faults rose; then no call failed on the second side, and no sync of it
+        /// answered Ok.
+        ensures given_back { P.told → IfErr result (λ rest. Copying (P.view sides) (P.view rest)) }
+        ensures counts { IfErr result (λ rest. CopyCounts (P.view sides) (P.view rest)) }
+        ensures cause { IfErr result (λ rest. IsBrokenOff (P.view sides) (P.view rest)) }
+    {
+        Mirror::after_reads(sides)
+    }
+
+    /// The same where the first side was read since the start: the counts are those of the start, nothing was sent, and
+    /// a crash since then leaves of the first side what one now leaves.
+    pub fn after_reads(sides: P) -> Result<Mirror<P, K>, P>
+        requires counts { StartsAt K.start (P.view sides) }
+        requires idle { P.told → IsIdleSince K.start (P.view sides) }
+        ensures reads { P.told → IfOk result (λ m. (⟦<Mirror<P, K> as Device>⟧.view m).reads
+            ≡ (P.view sides).first.reads) }
+        ensures firm { P.told → IfOk result (λ m. IsFirm (⟦<Mirror<P, K> as Device>⟧.view m)) }
+        ensures sent { P.told → IfOk result (λ m. (⟦<Mirror<P, K> as Device>⟧.view m).sent
+            ≡ (P.view sides).sent) }
+        ensures left { P.told → IfOk result (λ m. (x : Image) (f : List ℕ)
+            → (⟦<Mirror<P, K> as Device>⟧.view m).left K.start.clock x f → IsLeftOfFirst (P.view sides) x f) }
+        ensures clock { IfOk result (λ m. (P.view sides).clock ≤ (⟦<Mirror<P, K> as Device>⟧.view m).clock) }
+        ensures faults { IfOk result (λ m. (⟦<Mirror<P, K> as Device>⟧.view m).faults ≡ 0) }
+        ensures writes { IfOk result (λ m. (⟦<Mirror<P, K> as Device>⟧.view m).writes ≡ 0) }
+        ensures put_faults { IfOk result (λ m. (⟦<Mirror<P, K> as Device>⟧.view m).put_faults
+            ≡ (P.view sides).put_faults) }
         ensures given_back { P.told → IfErr result (λ rest. Copying (P.view sides) (P.view rest)) }
         ensures counts { IfErr result (λ rest. CopyCounts (P.view sides) (P.view rest)) }
         ensures cause { IfErr result (λ rest. IsBrokenOff (P.view sides) (P.view rest)) }
@@ -106,10 +136,15 @@ impl<P: Sides, K: Began> Mirror<P, K> {
     /// Gives the sides back.
     pub fn into_sides(self) -> P
         ensures sides { result ≡ self.sides.sides }
+        /// promise: A call on the mirror has failed only where both sides have failed since it began, or the first one
+        /// has and the copying was never done; then neither side is sound.
         ensures failed { 0 < (⟦<Mirror<P, K> as Device>⟧.view self).faults → NoneIsSound (P.view result) K.start }
+        /// promise (with stands): As long as no call on the mirror has failed, the side that is left is sound, and the
+        /// other one has failed exactly where `lost` says so.
         ensures unfailed { (⟦<Mirror<P, K> as Device>⟧.view self).faults ≡ 0
             → LeftIsSound (P.view result) K.start self.serving }
         ensures stands { CountsAgree (P.view result) K.start self.serving }
+        /// promise: Bytes are sent only once the copying has ended or the second side has failed.
         ensures late { P.told → SendsLate (P.view result) K.start }
     {
         let Mirror {
@@ -125,6 +160,8 @@ impl<P: Sides, K: Began> Mirror<P, K> {
     /// Whether a side is lost: a call on it failed while the other one was left, or it failed in the
     /// copying.
     pub fn lost(&self, side: Side) -> bool
+        /// promise: Which side is a failed copy: a call on it failed while the other one was left, or it failed in the
+        /// copying.
         ensures { IsTrue result ↔ IsSideLost side self.now.serving }
     {
         match side {

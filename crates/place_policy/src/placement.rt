@@ -40,7 +40,9 @@ impl Placement {
 
     /// The rank of a block for a hint, which the stored closure answers.
     pub fn rank(&self, hint: u32, block: u32) -> u64
+        /// promise: The rank of the block for the hint, by the placement's kind.
         ensures value { result ≡ rank_of self.now.kind hint block }
+        /// promise: The rank is an answer of the stored closure.
         ensures answered { RankFn.post self.now.ranks hint block result }
     {
         (self.ranks)(hint, block)

@@ -13,6 +13,7 @@ use tsd_model::NoMemory;
 
 /// The blocks that the primary blocks lead to, they included, ascending.
 pub fn plain_reach(alloc: Global, world: &World) -> Result<Vec<u32>, NoMemory>
+    /// promise: The blocks that are reached from the primary ones, ascending.
     ensures { IfOk result (λ v. v.items ≡ reach world.now) }
 {
     let mut reached = primary_blocks(alloc, world)?;
@@ -25,6 +26,7 @@ pub fn plain_reach(alloc: Global, world: &World) -> Result<Vec<u32>, NoMemory>
 
 /// The doomed blocks, ascending: those that would be reclaimed now.
 pub fn plain_doomed(alloc: Global, world: &World) -> Result<Vec<u32>, NoMemory>
+    /// promise: The doomed blocks, ascending: those that would be reclaimed next.
     ensures { IfOk result (λ v. v.items ≡ doomed world.now) }
 {
     let mut gone = Vec::new(alloc);
@@ -37,6 +39,7 @@ pub fn plain_doomed(alloc: Global, world: &World) -> Result<Vec<u32>, NoMemory>
 
 /// The world without a pointer, before anything is reclaimed: what hung on it is still there, and doomed.
 pub fn plain_cut(alloc: Global, world: &World, source: u32, target: u32) -> Result<World, NoMemory>
+    /// promise: The world without one pointer, before anything is reclaimed.
     ensures { IfOk result (λ w. w ≡ without_pointer world.now source target) }
 {
     Ok(world.without_pointer(alloc, source, target)?)

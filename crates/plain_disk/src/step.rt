@@ -41,9 +41,14 @@ pub fn plain_step(
     sessions: &Sessions,
     request: &Request,
 ) -> Result<(World, Sessions, Reply), NoMemory>
+    /// promise: **The request is carried out exactly as the abstract disk's definitions say**: the world afterwards,
+    /// the sessions and the reply.
     ensures value { IfOk result (λ r. gives r.0 r.1 r.2
         ≡ step kind (record { world = world.now; sessions = sessions.now }) request.now) }
+    /// promise: At a valid world no block that is still reached afterwards is reclaimed.
     ensures reached { IsValid world.now → IfOk result (λ r. KeepsWhatIsReached world.now r.0) }
+    /// promise: At a valid world a request that isn't a sweep reclaims exactly the blocks that have lost their last
+    /// pointer.
     ensures last_pointer { IsValid world.now → is_sweep request.now ≡ false
         → IfOk result (λ r. ReclaimsTheLost world.now r.0) }
 {

@@ -107,6 +107,7 @@ impl World {
     pub fn fresh(alloc: Global, geometry: &Geometry, caps: &CapList) -> Result<World, NoMemory>
         requires lawful { IsLawful geometry.now }
         requires each { length caps.now ≡ geometry.now.primaries }
+        /// promise: The world of a new disk.
         ensures { IfOk result (λ w. w ≡ fresh_world geometry.now caps.now) }
     {
         let blocks = fresh_blocks(alloc, geometry)?;
@@ -232,6 +233,7 @@ impl World {
 
     /// The same world in version 2: of each capability only the digest is kept.
     pub fn upgraded(alloc: Global, world: &World) -> Result<World, NoMemory>
+        /// promise: The world with digests in place of its capabilities.
         ensures { IfOk result (λ w. w ≡ upgraded world.now) }
     {
         Ok(World {

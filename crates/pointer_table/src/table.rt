@@ -73,6 +73,8 @@ impl PointerTable {
     ) -> Result<PointerTable, TableFault>
         requires { IsLawful geometry.now }
         ensures table { IfOk result (λ t. (t.geometry ≡ geometry.now) × IsTable t) }
+        /// promise: After Ok the device's sectors have the table. Else: the least bad slot with its numbers as they
+        /// stand; or, where no slot is bad, the least pair that two slots hold.
         ensures read { D.told → AnswersPointers (D.view dev.old).reads geometry.now result }
         ensures rests { D.told → Rests (D.view dev.old) (D.view dev.new) }
         ensures uses { Uses 0 (D.view dev.old) (D.view dev.new) }
@@ -94,6 +96,7 @@ impl PointerTable {
     pub fn len(&self) -> u32
         ensures value { result ≡ length (pairs self.now) }
         ensures table { IsTable self.now }
+        /// promise: The pairs are the ascending list of those in the slots, none twice, with both ends in range.
         ensures pairs { ArePairs self.now }
     {
         self.held
@@ -120,6 +123,7 @@ impl PointerTable {
 
     /// Whether a pair is held.
     pub fn has(&self, source: u32, target: u32) -> bool
+        /// promise: Whether the pair is held.
         ensures { result ≡ holds (pairs self.now) source target }
     {
         self.index
@@ -129,6 +133,7 @@ impl PointerTable {
 
     /// The least 64 targets of the pairs from a block that are not below `start`, ascending.
     pub fn targets_from(&self, source: u32, start: u32) -> BlockList
+        /// promise: The least 64 targets from a block that are not below a start, ascending.
         ensures { result ≡ targets_from (pairs self.now) source start }
     {
         targets_from(&self.slots, &self.index, source, start)
@@ -137,6 +142,7 @@ impl PointerTable {
     /// The least targets of the pairs from a block, ascending, as many as are wanted.
     pub fn least_targets(&self, source: u32, most: usize) -> BlockList
         requires { most ≤ 64 }
+        /// promise: The least targets from a block, ascending, as many as are wanted.
         ensures { result ≡ take most (targets_from (pairs self.now) source 0) }
     {
         least_targets(&self.slots, &self.index, source, 0, most)
@@ -144,6 +150,7 @@ impl PointerTable {
 
     /// The least target of the pairs from a block.
     pub fn next_out(&self, source: u32) -> Option<u32>
+        /// promise: The least target of the pairs from a block.
         ensures { IsNextTarget (pairs self.now) source 0 result }
     {
         self.next_target(source, 0)
@@ -151,6 +158,7 @@ impl PointerTable {
 
     /// The least target of the pairs from a block that is not below `start`.
     pub fn next_target(&self, source: u32, start: u32) -> Option<u32>
+        /// promise: The least target of the pairs from a block that is not below a start.
         ensures { IsNextTarget (pairs self.now) source start result }
     {
         self.index.next_target(&self.slots, source, start)
@@ -158,6 +166,7 @@ impl PointerTable {
 
     /// The least source of the pairs to a block that is not below `start`.
     pub fn next_source(&self, target: u32, start: u32) -> Option<u32>
+        /// promise: The least source of the pairs to a block that is not below a start.
         ensures { IsNextSource (pairs self.now) target start result }
     {
         self.index.next_source(&self.slots, target, start)
@@ -169,11 +178,14 @@ impl PointerTable {
     pub fn add(&mut self, source: u32, target: u32) -> Result<Patch, TableFull>
         requires absent { holds (pairs self.old) source target ≡ false }
         requires within { MayBeHeld self.old.geometry (source, target) }
+        /// promise (with unchanged): Full exactly where every slot holds a pair, with nothing changed.
         ensures full { IsErr result ↔ (length (pairs self.old) ≡ self.old.geometry.slots) }
         ensures unchanged { OnErr result (self.new ≡ self.old) }
+        /// promise (with change): After Ok exactly one slot and exactly this pair are new.
         ensures pairs { OnOk result (pairs self.new ≡ with_pair (source, target) (pairs self.old)) }
         ensures change { IfOk result (IsChange self.old self.new None (Some (source, target))) }
         ensures sector { IfOk result (IsSlotSector self.old) }
+        /// promise: An image that had the table before has the new one with the patch.
         ensures stored { IfOk result (KeepsStored self.old self.new) }
         ensures table { IsTable self.new }
     {
@@ -186,8 +198,10 @@ impl PointerTable {
 
     /// Takes a pair away, and gives the sector of its slot as it now must read.
     pub fn remove(&mut self, source: u32, target: u32) -> Result<Patch, NoPointer>
+        /// promise (with unchanged): Refused exactly where the pair isn't held, with nothing changed.
         ensures absent { IsErr result ↔ (holds (pairs self.old) source target ≡ false) }
         ensures unchanged { OnErr result (self.new ≡ self.old) }
+        /// promise (with change): After Ok exactly one slot is emptied and exactly this pair is gone.
         ensures pairs { OnOk result (pairs self.new ≡ without_pair source target (pairs self.old)) }
         ensures change { IfOk result (IsChange self.old self.new (Some (source, target)) None) }
         ensures sector { IfOk result (IsSlotSector self.old) }

@@ -75,6 +75,7 @@ impl Ahead {
 
     /// Whether a block is doomed. No number past the last block is.
     pub fn is_doomed(&self, block: u32) -> bool
+        /// promise (with told): Whether the block is doomed, as long as the table was told of each pair and step.
         ensures value { result ≡ is_gone self.now.gone block }
         ensures told { (w : World) → IsAheadOf w self.now → result ≡ has_number (doomed w) block }
     {
@@ -83,6 +84,7 @@ impl Ahead {
 
     /// How many blocks are doomed.
     pub fn doomed(&self) -> u32
+        /// promise (with told): How many blocks are doomed.
         ensures value { result ≡ self.now.doomed }
         ensures told { (w : World) → IsAheadOf w self.now → result ≡ length (doomed w) }
     {
@@ -91,6 +93,7 @@ impl Ahead {
 
     /// How many pairs come from doomed blocks.
     pub fn doomed_pairs(&self) -> u32
+        /// promise (with told): How many pairs come from doomed blocks.
         ensures value { result ≡ self.now.pairs }
         ensures told { (w : World) → IsAheadOf w self.now → result ≡ length (doomed_pairs w) }
     {
@@ -110,6 +113,7 @@ impl Ahead {
     /// A pair to a block was added.
     pub fn raise(&mut self, target: u32)
         requires told { (w : World) × (a : ℕ) × IsAdding w a target self.old }
+        /// promise: The table is right again after a pair was added.
         ensures ahead { (w : World) (a : ℕ) → IsAdding w a target self.old
             → IsAheadOf (with_pointer w a target) self.new }
         ensures gone { self.new.gone ≡ self.old.gone }
@@ -122,6 +126,7 @@ impl Ahead {
     /// blocks is doomed, and there is no need to name it.
     pub fn raise_all(&mut self, targets: &[u32])
         requires told { (w : World) × IsGrowing w targets.now self.old }
+        /// promise: The table is right again after new blocks were taken.
         ensures ahead { (w : World) (a : ℕ) → IsGrowing w targets.now self.old
             → IsAheadOf (with_new_blocks w a targets.now) self.new }
         ensures gone { self.new.gone ≡ self.old.gone }
@@ -135,6 +140,8 @@ impl Ahead {
         requires hidden { Hides live.old (is_gone self.old.gone) }
         requires deleted { (w : World) × (a : ℕ) × IsDeleting w a target self.old
             × (graph_of pointers.now live.old ≡ without_pointer w a target) }
+        /// promise (with settled, more): Exactly the blocks that the deletion dooms are hidden, and their number is
+        /// told.
         ensures ahead { IsAheadOf (graph_of pointers.now live.new) self.new }
         ensures hidden { Hides live.new (is_gone self.new.gone) }
 
@@ -142,7 +149,7 @@ impl Ahead {
         ensures settled { (b : ℕ) → b < pointers.now.geometry.blocks → is_live live.new.unhidden b
             ≡ is_live_in (settle (graph_of pointers.now live.new)) b }
 
-        // The bitmap stays.
+        /// promise: The bitmap stays.
         ensures raw { live.new ≡ record live.old { unhidden = live.new.unhidden } }
         ensures more { self.new.doomed ≡ self.old.doomed + result }
     {
@@ -152,6 +159,7 @@ impl Ahead {
     /// A step of reclamation was carried out.
     pub fn done(&mut self, step: &OutStep)
         requires told { (w : World) × IsStepping w step.now self.old }
+        /// promise: The table is right again after a step.
         ensures ahead { (w : World) → IsStepping w step.now self.old → IsAheadOf (after_step w step.now) self.new }
         ensures gone { (b : ℕ) → is_gone self.new.gone b
             ≡ (is_gone self.old.gone b && not (step.now.freed && (b == step.now.block))) }

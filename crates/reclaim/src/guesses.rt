@@ -124,14 +124,17 @@ pub fn find_step(
 ) -> Option<OutStep>
     requires tables { AreTables pointers.now live.now }
     requires counts { HaveCounts pointers.now live.now counts.now }
+    /// promise (with freed, wide): By guesses, which may be wrong, a lost block and its first 16 targets, or all, and
+    /// then it is freed.
     ensures step { IfSome result (λ s. MayStep (graph_of pointers.now live.now) s) }
 
     // It frees the block exactly where it has no other targets; else it takes 16.
     ensures freed { IfSome result (λ s. IsTrue s.freed ↔ TakesAll (graph_of pointers.now live.now) s) }
     ensures wide { IfSome result (λ s. (s.freed ≡ true) ⊎ (length s.targets ≡ 16)) }
 
-    // What a disk with this graph settles to is the same after the step, and less is doomed.
+    /// promise: What a disk with this graph settles to is the same after the step, and less is doomed.
     ensures kept { IfSome result (λ s. AreKeptBy (graph_of pointers.now live.now) s) }
+    /// promise: None exactly where nothing is doomed, whatever the guesses are.
     ensures none { IsNone result ↔ (doomed (graph_of pointers.now live.now) ≡ []) }
 {
     let block = find_lost(pointers, counts, live, guesses)?;

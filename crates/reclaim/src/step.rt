@@ -28,14 +28,17 @@ pub fn next_step(
     requires tables { AreTables pointers.now live.now }
     requires counts { HaveCounts pointers.now live.now counts.now }
     requires work { HoldsLost (graph_of pointers.now live.now) work.old }
+    /// promise (with freed, wide): A lost block and its first 16 targets, or all, and then it is freed; a step that
+    /// doesn't free takes exactly 16.
     ensures step { IfSome result (λ s. MayStep (graph_of pointers.now live.now) s) }
 
     // It frees the block exactly where it has no other targets; else it takes 16.
     ensures freed { IfSome result (λ s. IsTrue s.freed ↔ TakesAll (graph_of pointers.now live.now) s) }
     ensures wide { IfSome result (λ s. (s.freed ≡ true) ⊎ (length s.targets ≡ 16)) }
 
-    // What a disk with this graph settles to is the same after the step, and less is doomed.
+    /// promise: What a disk with this graph settles to is the same after the step, and less is doomed.
     ensures kept { IfSome result (λ s. AreKeptBy (graph_of pointers.now live.now) s) }
+    /// promise: None exactly where nothing is doomed.
     ensures none { IsNone result ↔ (doomed (graph_of pointers.now live.now) ≡ []) }
     ensures room { work.new.room ≡ work.old.room }
     ensures idle { IsNone result → work.new ≡ work.old }

@@ -13,8 +13,10 @@ ghost use Rattle.ref_counts.specs.Stored.{AreWritten, IsStored, IsStoredBut};
 
 /// An image has the counts of one table alone, and the sectors of counts decide which.
 pub fn sectors_have_one_table()
+    /// promise: An image has the counts of one table alone.
     ensures one_table { (counts : List ℕ) (g : Geometry) (x : Image) → length counts ≡ g.blocks
         → IsStored counts g x → counts ≡ map (stored_count x g) (range_with_len 0 g.blocks) }
+    /// promise: The sectors of counts alone decide which.
     ensures same_sectors { (counts : List ℕ) (g : Geometry) (x y : Image)
         → AgreeWithin counts_start (bitmap_start g) x y → IsStored counts g x → IsStored counts g y }
     ensures same_sectors_but { (some : ℕ → Bool) (counts : List ℕ) (g : Geometry) (x y : Image)
@@ -25,6 +27,7 @@ pub fn sectors_have_one_table()
 /// An image has the counts of a table where the sectors of counts stand as they are written, and none but 0 where they
 /// are zeros.
 pub fn written_sectors_have_the_table()
+    /// promise: An image whose sectors stand as a table writes them has that table.
     ensures written { (counts : List ℕ) (g : Geometry) (x : Image) → length counts ≡ g.blocks
         → ((block : ℕ) → slice_index counts block < 2 ^ 32) → AreWritten counts g x → IsStored counts g x }
     ensures fresh { (g : Geometry) (x : Image) → ((n : ℕ) → counts_start ≤ n → n < bitmap_start g

@@ -53,6 +53,7 @@ impl RefCounts {
         requires { IsLawful geometry.now }
         ensures geometry { IfOk result (λ t. t.geometry ≡ geometry.now) }
         ensures table { IfOk result (λ t. IsTable t) }
+        /// promise: Any numbers load: after Ok the table is what the device's sectors say.
         ensures stored { D.told → IfOk result (λ t. IsStored t.counts t.geometry (D.view dev.old).reads) }
         ensures rests { D.told → Rests (D.view dev.old) (D.view dev.new) }
         ensures uses { Uses 0 (D.view dev.old) (D.view dev.new) }
@@ -88,6 +89,7 @@ impl RefCounts {
     pub fn raise(&mut self, block: u32)
         requires block { block < self.old.geometry.blocks }
         requires room { slice_index self.old.counts block < self.old.geometry.blocks }
+        /// promise: The count of this block rises by one, and no other changes.
         ensures raised { self.new ≡ record self.old {
           counts = slice_set self.old.counts block
               (slice_index self.old.counts block + 1);
@@ -97,6 +99,7 @@ impl RefCounts {
         ensures elsewhere { KeepsElsewhere block self.old self.new }
 
         // With the patch of this count, an image that had the table before has the new one.
+        /// promise: With the patch of this count, an image that had the table before has the new one.
         ensures stored { KeepsStored self.old self.new (patch_of self.new block) }
     {
         four_bytes_each(&self.counts);
@@ -107,6 +110,7 @@ impl RefCounts {
     pub fn lower(&mut self, block: u32)
         requires block { block < self.old.geometry.blocks }
         requires some { 0 < slice_index self.old.counts block }
+        /// promise: The count of this block falls by one, and no other changes.
         ensures lowered { self.new ≡ record self.old {
           counts = slice_set self.old.counts block
               (slice_index self.old.counts block - 1);
@@ -132,6 +136,8 @@ impl RefCounts {
         ensures bytes { result.bytes ≡ counts_sector_bytes self.now.counts (part_of block) }
 
         // An image that has the counts of all other sectors has all of them, once the patch stands there.
+        /// promise (with more): Where an image had all counts but those of this sector, it has the table with the
+        /// patch; so too where more sectors are still to be patched.
         ensures stored { Completes self.now result }
 
         // The same where more sectors are still to be patched.

@@ -69,6 +69,8 @@ impl FrameCutter {
     /// Takes the piece up to the end of its first frame, or all of it. After a whole frame it begins a new one.
     #[inline(never)]
     pub fn feed(&mut self, piece: &[u8]) -> Fed
+        /// promise (with some, all, whole, held, cuts, fed): The bodies of the frames fed so far, however the text is
+        /// cut.
         ensures within { result.used ≤ length piece.now }
         ensures some { result.whole ≡ true → 0 < result.used }
         ensures all { result.whole ≡ false → result.used ≡ length piece.now }
@@ -97,6 +99,7 @@ impl FrameCutter {
 
     /// Whether the bytes that were fed end inside a frame.
     pub fn is_inside(&self) -> bool
+        /// promise (with text): True exactly where the bytes fed end inside a frame.
         ensures value { IsTrue result ↔ (rest self.now ≢ []) }
         ensures text { (text : List ℕ) → WasFed text self.now → (IsTrue result ↔ (unended text ≢ [])) }
     {
@@ -161,6 +164,7 @@ fn known_size(held: &[u8]) -> usize
 /// However a text is cut into pieces, the bodies that a cutter holds whole, one after another, are those of the text's
 /// frames.
 pub fn any_cutting()
+    /// promise: However a text is cut into pieces, the bodies that are handed out are those of its frames.
     ensures { (feeds : List (List ℕ × Cutting)) → FollowOn [] feeds
         → bodies_held feeds ≡ frames (text_fed feeds) }
 {}
@@ -168,6 +172,7 @@ pub fn any_cutting()
 /// What the frames of a text are: the text is these frames, one after another, and then bytes that begin a frame and
 /// don't end it, or none. A text is so in one way.
 pub fn frames_are()
+    /// promise (with only): The frames of a text are its only cutting.
     ensures cut { (text : List ℕ) → ((i : ℕ) → slice_index text i < 256)
         → IsCut text (frames text) (unended text) }
     ensures only { (text : List ℕ) (bodies : List (List ℕ)) (more : List ℕ) → IsCut text bodies more
@@ -177,6 +182,8 @@ pub fn frames_are()
 /// Frames one behind the other part in one way. So the frames of what was sent count the replies that were sent whole.
 pub fn frames_part()
     // The frames of a text come first in a longer one: more bytes change no frame that is whole.
+    /// promise (with first, none): More bytes change no whole frame; a frame before other bytes is the first of their
+    /// frames; a proper front of a frame has none.
     ensures stay { (x y : List ℕ) → frames (x ++ y) ≡ frames x ++ frames (unended x ++ y) }
     // A frame before bytes is the first of their frames.
     ensures first { (body behind : List ℕ) → length body < 2 ^ 16 → frames (frame_of body ++ behind)

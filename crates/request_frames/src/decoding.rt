@@ -19,6 +19,8 @@ use tsd_model::{CapPair, Request};
 /// Puts the request that a body spells into the room for it, and Bad where it spells none.
 pub fn decode_body(body: &[u8], into: &mut Request)
     // What is read is spelled so, from the first byte to the last.
+    /// promise (with only, long): A request exactly where the body is its spelling, with nothing after the last field,
+    /// and `Bad` exactly where it is none's.
     ensures spelled { (into.new ≡ Request.Bad) ⊎ IsBody body.now into.new }
     // What is spelled so is read: so no body has two requests. No body spells Bad.
     ensures only { (q : Request) → IsBody body.now q → into.new ≡ q }

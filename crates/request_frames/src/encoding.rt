@@ -18,6 +18,7 @@ const PLACE_ROOM: usize = 28;
 /// Replaces the bytes by the frame of a request.
 pub fn encode_request(request: &Request, into: &mut FrameBuf)
     requires { request.now ≢ Request.Bad }
+    /// promise (with spelled): The frame of the one body of the request.
     ensures frame { into.new ≡ frame_of (request_body request.now) }
     ensures spelled { IsBody (request_body request.now) request.now }
 {

@@ -13,7 +13,7 @@
 //! - [`decode_body`] answers a request exactly where the body is its spelling, and Bad exactly where it is none's;
 //!   [`decode_reply`] the same of replies. The spellings are stated apart from both directions (`specs/Fields.antt`,
 //!   `specs/Requests.antt`, `specs/Replies.antt`).
-//! - [`encode_request`] and [`encode_reply`] leave the frame of the one body; so does [`short_frame`], in a shorter
+//! - [`encode_request`] and [`encode_reply`] leave the frame of the one body; so does [`put_short_frame`], in a shorter
 //!   room, wherever a reply isn't the bytes of a large block.
 //! - Frames one behind the other part in one way, and more bytes change no frame that is whole
 //!   ([`cutter::frames_part`]); a reply's body fits a frame ([`bodies_fit`]).
@@ -37,4 +37,4 @@ pub use decoding::decode_body;
 pub use encoding::encode_request;
 pub use frame_buf::{FrameBuf, ShortFrame};
 pub use reply_decoding::decode_reply;
-pub use reply_encoding::{bodies_fit, encode_reply, short_frame};
+pub use reply_encoding::{bodies_fit, encode_reply, put_short_frame};

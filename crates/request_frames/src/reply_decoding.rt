@@ -18,6 +18,7 @@ const NEW_BLOCKS_MAX: usize = 32;
 /// The reply that a body spells, where it spells one.
 pub fn decode_reply(body: &[u8]) -> Option<Reply>
     // What is read is spelled so, from the first byte to the last.
+    /// promise (with only): A reply exactly where the body is its spelling, and none exactly where it is none's.
     ensures spelled { MatchOption result (Unit {0}) (λ r. IsReply body.now r) }
     // What is spelled so is read: so no body has two replies, and None comes only where the body has none.
     ensures only { (r : Reply) → IsReply body.now r → result ≡ Some r }

@@ -1,6 +1,6 @@
 //! Replies as they are sent.
 
-ghost use Rattle.std.specs.Prelude.{◌≡◌, ◌+◌, ◌^◌, ◌<◌, ◌≤◌, [], ◌∷◌, ◌++◌, length, false, MatchOption};
+ghost use Rattle.std.specs.Prelude.{◌≡◌, ◌+◌, ◌^◌, ◌<◌, ◌≤◌, [], ◌∷◌, ◌++◌, length, true};
 ghost use Rattle.tsd_model.specs.ReplyForm.{HasBody};
 ghost use Rattle.tsd_model.specs.declared.replies.Reply.{Reply};
 ghost use Rattle.request_frames.specs.Fields.{Code, Number, AllFit, bytes_of};
@@ -19,22 +19,26 @@ const RULE_ROOM: usize = 9;
 /// Replaces the bytes by the frame of a reply.
 pub fn encode_reply(reply: &Reply, into: &mut FrameBuf)
     requires { HasBody reply.now }
+    /// promise (with spelled): The frame of the one body of the reply.
     ensures frame { into.new ≡ frame_of (reply_body reply.now) }
     ensures spelled { IsReply (reply_body reply.now) reply.now }
 {
     encode(reply, into);
 }
 
-/// The frame of a short reply; None where the reply is the bytes of a larger block.
-pub fn short_frame(reply: &Reply) -> Option<ShortFrame>
-    ensures { MatchOption result (is_short reply.now ≡ false) (λ frame. frame ≡ frame_of (reply_body reply.now)) }
+/// Replaces the bytes by the frame of a reply where that is short, and answers whether it is: it isn't where the reply is
+/// the bytes of a larger block.
+pub fn put_short_frame(reply: &Reply, into: &mut ShortFrame) -> bool
+    /// promise: A reply's frame is short unless the reply is the bytes of a block of more than 1,024.
+    ensures short { result ≡ is_short reply.now }
+    /// promise: Where it is short, the bytes are the frame of the reply.
+    ensures frame { result ≡ true → into.new ≡ frame_of (reply_body reply.now) }
 {
-    if !is_short(reply) {
-        return None;
+    let is_short = is_short(reply);
+    if is_short {
+        encode(reply, into);
     }
-    let mut frame = ShortFrame::new();
-    encode(reply, &mut frame);
-    Some(frame)
+    is_short
 }
 
 /// Whether a reply's frame is short.
@@ -140,5 +144,6 @@ fn put_two<const N: usize>(into: &mut Frame<N>, code: u8, first: u32, second: u3
 
 /// The body of a reply fits a frame.
 pub fn bodies_fit()
+    /// promise: Each reply of the disk fits one frame.
     ensures { (r : Reply) → HasBody r → length (reply_body r) < 2 ^ 16 }
 {}

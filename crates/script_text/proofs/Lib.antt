@@ -6,3 +6,4 @@ pub mod SpellingLaws
 pub mod CutLaws
 pub mod TextsLaws
 pub mod FeedLaws
+pub mod DigitLaws

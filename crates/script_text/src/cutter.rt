@@ -58,6 +58,8 @@ impl LineCutter {
     /// Takes the piece up to and including its first line feed, or all of it. After a whole line it begins a new one.
     #[inline(never)]
     pub fn feed(&mut self, piece: &[u8]) -> Fed
+        /// promise (with some, all, whole, cuts, fed): The lines of the bytes fed so far, however they are cut into
+        /// pieces.
         ensures within { result.used ≤ length piece.now }
         ensures some { result.whole ≡ true → 0 < result.used }
         ensures all { result.whole ≡ false → result.used ≡ length piece.now }
@@ -122,11 +124,14 @@ fn push_all(line: &mut ArrayVec<u8, HELD_MAX>, bytes: &[u8])
 /// However a text is cut into pieces, the lines that a cutter holds whole, one after another, are those of the text,
 /// each cut to 8,401 bytes.
 pub fn any_cutting()
+    /// promise: However a text is cut into pieces, the lines that are handed out are those of the text, each cut to
+    /// 8,401 bytes.
     ensures { (feeds : List (List ℕ × Cutting)) → FollowOn [] feeds
         → lines_held feeds ≡ map (take 8401) (lines (text_fed feeds)) }
 {}
 
 /// The lines of a text come first among those of a longer text: more bytes change no line that is whole.
 pub fn lines_stay()
+    /// promise: More bytes change no line that is whole.
     ensures { (x y : List ℕ) → (more : List (List ℕ)) × (lines (x ++ y) ≡ lines x ++ more) }
 {}

@@ -7,7 +7,7 @@ ghost use Rattle.std.specs.List.{list_all};
 ghost use Rattle.std.specs.Char.{is_ascii_digit};
 ghost use Rattle.script_text.specs.Reading.{num_of, new_of, shown_of, hint_of, data_of};
 
-use hex::FromHex;
+use crate::digits::decode;
 use tsd_model::caps::CAP_BYTES;
 use tsd_model::lists::DATA_MAX;
 use tsd_model::{Cap, Data, Hint, Shown};
@@ -45,9 +45,14 @@ fn all_digits(word: &[u8]) -> bool
 pub fn parse_cap(word: &[u8]) -> Option<Cap>
     ensures { result ≡ new_of word.now }
 {
-    match <[u8; CAP_BYTES] as FromHex>::from_hex(word) {
-        Ok(bytes) => Some(Cap { bytes }),
-        Err(_) => None,
+    if word.len() != 2 * CAP_BYTES {
+        return None;
+    }
+    let mut bytes = [0; CAP_BYTES];
+    if decode(word, &mut bytes) {
+        Some(Cap { bytes })
+    } else {
+        None
     }
 }
 
@@ -110,10 +115,10 @@ fn read_digits<const N: usize>(digits: &[u8], room: &mut Data) -> bool
     requires empty { room.old ≡ [] }
     ensures { result_ok (decode_sized digits.now (length digits.now / 2)) ≡ cond result (Some room.new) None }
 {
+    if digits.len() % 2 != 0 {
+        return false;
+    }
     let mut bytes = [0u8; N];
     let half = &mut bytes[..digits.len() / 2];
-    match hex::decode_to_slice(digits, half) {
-        Ok(()) => room.extend_from_slice(half).is_ok(),
-        Err(_) => false,
-    }
+    decode(digits, half) && room.extend_from_slice(half).is_ok()
 }

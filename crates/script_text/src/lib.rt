@@ -22,6 +22,7 @@
 #![tactic(auto)]
 
 pub mod cutter;
+mod digits;
 pub mod fields;
 pub mod out_buf;
 pub mod parse;
@@ -38,4 +39,4 @@ pub use out_buf::OutBuf;
 pub use parse::parse_line;
 pub use replies::{print_reply, replies_part};
 pub use requests::print_request;
-pub use short::{ShortLine, short_line};
+pub use short::{ShortLine, put_short_line};

@@ -22,10 +22,13 @@ pub const LINE_MAX: usize = 8400;
 /// line feed.
 pub fn parse_line(line: &[u8], into: &mut Request)
     // What is read is spelled so.
+    /// promise (with only): A request exactly where the line is its spelling by the grammar, and `Bad` exactly where it
+    /// is none's; so no line has two requests.
     ensures spelled { (into.new ≡ Request.Bad) ⊎ IsLine line.now into.new }
     // What is spelled so is read: so no line has two requests. No line spells Bad.
     ensures only { (q : Request) → IsLine line.now q → into.new ≡ q }
     // A longer line is as bad where it is cut to one byte more than a line may have.
+    /// promise: A line that is too long is as bad where it is cut.
     ensures cut { (whole : List ℕ) → line.now ≡ take 8401 whole → into.new ≡ request_of whole }
     // As a function that computes.
     ensures value { into.new ≡ request_of line.now }

@@ -15,6 +15,7 @@ use tsd_model::Reply;
 
 /// Replaces the bytes by the text of a reply and a line feed.
 pub fn print_reply(reply: &Reply, into: &mut OutBuf)
+    /// promise: Exactly the reply's text.
     ensures { into.new ≡ reply_text reply.now ++ 10 ∷ [] }
 {
     into.clear();
@@ -59,6 +60,8 @@ fn short(into: &mut OutBuf, reply: &Reply)
 /// feeds of what was sent count the replies that were sent whole.
 pub fn replies_part()
     // No byte of a reply's text is a line feed.
+    /// promise (with whole, part): A reply as it is sent has one line feed, its last byte; so the line feeds of what
+    /// was sent count the replies that were sent whole.
     ensures text { (r : Reply) → HasNumbers r → line_feeds (reply_text r) ≡ 0 }
     // A whole reply counts as one, whatever follows.
     ensures whole { (r : Reply) (behind : List ℕ) → HasNumbers r

@@ -20,6 +20,7 @@ const PLACE_ROOM: usize = 61;
 /// zeros, and hexadecimal digits are of lower case.
 pub fn print_request(request: &Request, into: &mut OutBuf)
     requires { request.now ≢ Request.Bad }
+    /// promise (with reads): A line of the grammar, which reads as the request.
     ensures text { into.new ≡ request_text request.now ++ 10 ∷ [] }
     ensures reads { IsLine (request_text request.now) request.now }
 {

@@ -87,16 +87,18 @@ impl ShortLine {
     }
 }
 
-/// The line of a short reply, with its line feed; None where the reply tells many bytes.
-pub fn short_line(reply: &Reply) -> Option<ShortLine>
-    ensures { MatchOption result (is_short reply.now ≡ false) (λ line. line ≡ reply_text reply.now ++ 10 ∷ []) }
+/// Puts the line of a short reply into `line`, which is empty, with its line feed, and answers whether the reply is
+/// short.
+pub fn put_short_line(reply: &Reply, line: &mut ShortLine) -> bool
+    requires { line.old ≡ [] }
+    ensures short { result ≡ is_short reply.now }
+    ensures text { result ≡ true → line.new ≡ reply_text reply.now ++ 10 ∷ [] }
 {
-    let mut line = ShortLine::new();
-    if !put_short(reply, &mut line) {
-        return None;
+    let is_short = put_short(reply, line);
+    if is_short {
+        line.put(b"\n".as_slice());
     }
-    line.put(b"\n".as_slice());
-    Some(line)
+    is_short
 }
 
 /// Puts the text of a short reply into `line`, which is empty, and answers whether it is one.

@@ -9,7 +9,9 @@ ghost use Rattle.serving.specs.FrameLaws.{frames_lawful, frames_apart};
 use crate::protocol::{Ending, Fed, Protocol};
 use crate::replies::Replies;
 use image_device::{Failed, Port, put_all};
-use request_frames::{FrameBuf, FrameCutter, decode_body, encode_reply, short_frame};
+use request_frames::{
+    FrameBuf, FrameCutter, ShortFrame, decode_body, encode_reply, put_short_frame,
+};
 use tsd_model::{Reply, Request};
 
 impl Protocol for FrameCutter {
@@ -51,10 +53,11 @@ impl Replies for FrameCutter {
     ghost apart = { frames_apart };
 
     fn put_reply<P: Port>(port: &mut P, reply: &Reply) -> Result<(), Failed> {
-        let short = short_frame(reply);
-        match &short {
-            Some(frame) => put_all(port, frame.as_slice()),
-            None => put_long(port, reply),
+        let mut frame = ShortFrame::new();
+        if put_short_frame(reply, &mut frame) {
+            put_all(port, frame.as_slice())
+        } else {
+            put_long(port, reply)
         }
     }
 }

@@ -57,9 +57,11 @@ pub trait Handler {
         ensures at { D.told → OnOk result (FitsDevice (holds self.new) (D.view dev.new)) }
         ensures spent { OnErr result (is_spent self.new) }
         ensures form { IfOk result HasForm }
+        /// promise: The reply and the state after are those of the rules.
         ensures given { D.told → IfOk result (λ r. rules.gives (state self.old (D.view dev.old).reads) request.now r
             (state self.new (D.view dev.new).reads)) }
         ensures sent { D.told → (D.view dev.new).sent ≡ (D.view dev.old).sent }
+        /// promise (with sent): A crash at any moment leaves the state before or the one after; nothing is sent.
         ensures any_moment { D.told → LeavesOnly (D.view dev.old) (D.view dev.new) (λ x f. StandsBeforeOrAfter rules
             (state self.old (D.view dev.old).reads) request.now x × (f ≡ (D.view dev.old).sent)) }
         ensures debt { D.told → work.bounded request.now → LeavesOnly (D.view dev.old) (D.view dev.new)
@@ -72,7 +74,8 @@ pub trait Handler {
         ensures most { D.told → work.bounded request.now → (D.view dev.new).writes
             ≤ used (due self.old (D.view dev.old).reads) (D.view dev.old) + work.cost
             (state self.old (D.view dev.old).reads) request.now }
-        // So often is written at most before the reply can be sent. A refusal asks nothing of the device.
+        /// promise (with refused): What is written before the reply can be sent has a bound; a refusal makes no call of
+        /// the device.
         ensures before { D.told → work.bounded request.now → OnOk result ((D.view dev.new).writes
             ≤ (D.view dev.old).writes + work.before_answer (state self.old (D.view dev.old).reads)
             (work.debt (D.view dev.old).reads) request.now) }

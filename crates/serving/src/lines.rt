@@ -8,7 +8,7 @@ ghost use Rattle.serving.specs.LineLaws.{lines_lawful, lines_apart};
 use crate::protocol::{Ending, Fed, Protocol};
 use crate::replies::Replies;
 use image_device::{Failed, Port, put_all};
-use script_text::{LineCutter, OutBuf, parse_line, print_reply, short_line};
+use script_text::{LineCutter, OutBuf, ShortLine, parse_line, print_reply, put_short_line};
 use tsd_model::{Reply, Request};
 
 impl Protocol for LineCutter {
@@ -53,10 +53,11 @@ impl Replies for LineCutter {
     ghost apart = { lines_apart };
 
     fn put_reply<P: Port>(port: &mut P, reply: &Reply) -> Result<(), Failed> {
-        let short = short_line(reply);
-        match &short {
-            Some(line) => put_all(port, line.as_slice()),
-            None => put_long(port, reply),
+        let mut line = ShortLine::new();
+        if put_short_line(reply, &mut line) {
+            put_all(port, line.as_slice())
+        } else {
+            put_long(port, reply)
         }
     }
 }

@@ -43,6 +43,7 @@ pub trait Protocol {
     /// Takes the piece up to the end of its first request, or all of it. A request that is whole then is put into the
     /// room for it.
     fn feed(&mut self, piece: &[u8], into: &mut Self::Request) -> Fed
+        /// promise (with some, all, fed, asked): The requests of the bytes fed so far, however they are cut.
         ensures within { result.used ≤ length piece.now }
         ensures some { result.whole ≡ true → 0 < result.used }
         ensures all { result.whole ≡ false → result.used ≡ length piece.now }
@@ -52,6 +53,7 @@ pub trait Protocol {
 
     /// What stands after the last whole request, the input having come to its end.
     fn ending(&self) -> Ending<Self::Request>
+        /// promise: What stands after the last whole request, the input having come to its end.
         ensures { (x : List ℕ) → was_fed x self.now → result ≡ spelling.ending x };
 
     /// What holds of the spelling.

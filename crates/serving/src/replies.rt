@@ -15,6 +15,7 @@ pub trait Replies {
     /// Sends a reply whole. After `Failed` a shorter front of it is sent; it comes only where `put_faults` rose.
     fn put_reply<P: Port>(port: &mut P, reply: &Reply) -> Result<(), Failed>
         requires { HasForm reply.now }
+        /// promise: The reply's text is sent, or a shorter front of it where the call fails.
         ensures { PutsAll P.told (voice.text reply.now) (P.view port.old) (P.view port.new) result };
 
     /// Replies part in one way.

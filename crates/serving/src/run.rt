@@ -31,28 +31,35 @@ pub fn serve<S: Source, P: Port, R: Protocol, H: Server<R>>(
     requires fresh { R.was_fed [] protocol.old }
     requires ready { H.is_ready server.old }
     requires at { P.told → FitsDevice (H.holds server.old) (P.view port.old) }
-    // What came in and what was sent, by status; and where the device tells, what a crash at any moment may have left,
-    // how many writes there were, and how much was left to be done.
+    /// promise: **What came in, what was sent and what a crash leaves, by the status.** Every image that a crash at any
+    /// moment may leave, with the bytes sent by then, is acknowledged: where these have A whole answers, it stands for
+    /// the state after the first A requests or, where there is a next one, for that or the state after it; the bytes
+    /// are those answers and a proper front of the next. Where no request is a sweep, how often was written and how
+    /// much is left to be reclaimed have their bounds.
     ensures ran { Ran result H.service H.work R.spelling (H.state server.old (P.view port.old).reads)
         (H.state server.new (P.view port.new).reads) limit
         (taking S.told S.taken S.left_bytes S.ended source.old source.new)
         (H.due server.old (P.view port.old).reads) (moments P.told P.view port.old port.new) }
-    // Each request was answered promptly; where the input was cut short, nothing is done behind the last answer and
-    // what is behind an answer.
+    /// promise: Each answer is prompt: where the request isn't a sweep, there is a state of the port's type at which
+    /// the whole answer was sent and no more was written since the request came than the server's work has before an
+    /// answer, and after which no more came before the next request than it has after one. After SourceFault, TooLong
+    /// and Truncated nothing more is written.
     ensures prompt { P.told → Promptly result H.service H.work (IsOfPort P.view) (H.state server.old
         (P.view port.old).reads) (mark (P.view port.old)) (mark (P.view port.new)) }
-    // However it ended, a crash at any moment leaves what no request touches as it was.
+    /// promise: However the run ends, a crash at any moment leaves what no request touches as it was.
     ensures aside_kept { P.told → LeavesPart (H.aside server.old) (P.view port.old) (P.view port.new) }
     ensures aside { H.aside server.new ≡ H.aside server.old }
     ensures lender { H.lender server.new ≡ H.lender server.old }
-    // Unless the device failed, the server may be used again; else it is spent.
+    /// promise (with at, spent): Unless the device failed, the server may be used again; where it failed, it is spent.
     ensures ready { result ≢ Status.DeviceFault → H.is_ready server.new }
     ensures at { result ≢ Status.DeviceFault → P.told → FitsDevice (H.holds server.new) (P.view port.new) }
     ensures spent { result ≡ Status.DeviceFault → H.is_spent server.new }
+    /// promise: On Done all that was left to be done is done.
     ensures closed { result ≡ Status.Done → P.told → H.is_closed (P.view port.new).reads }
-    // Nothing more is taken once the end was found.
+    /// promise: Nothing is taken after the end of the input was found.
     ensures once { EndsOnce (S.ends source.old) (S.ends source.new) }
-    // A count of faults rose only where the status is that fault's.
+    /// promise (with device_fault, put_fault, no_source_fault, no_device_fault, no_put_fault): A count of faults rose
+    /// exactly where the status is that fault's.
     ensures source_fault { result ≡ Status.SourceFault → Rose (S.faults source.old) (S.faults source.new) }
     ensures device_fault { result ≡ Status.DeviceFault → Rose (P.view port.old).faults (P.view port.new).faults }
     ensures put_fault { result ≡ Status.PutFault → Rose (P.view port.old).put_faults (P.view port.new).put_faults }

@@ -59,11 +59,16 @@ pub trait Server<R: Protocol> {
         ensures ready { result ≢ Err Status.DeviceFault → is_ready self.new }
         ensures at { result ≢ Err Status.DeviceFault → P.told → FitsDevice (holds self.new) (P.view port.new) }
         ensures spent { result ≡ Err Status.DeviceFault → is_spent self.new }
+        /// promise (with left): The whole answer is sent, which is one that the service gives. Where sending failed, a
+        /// proper front of it, and the state is the one that it leads to; where the device failed, nothing of it, all
+        /// of it or, of an answer that is sent in parts, a front.
         ensures answered { P.told → OnOk result ((answer : List ℕ)
             × service.gives (state self.old (P.view port.old).reads) request.now answer
             (state self.new (P.view port.new).reads) × ((P.view port.new).sent ≡ (P.view port.old).sent ++ answer)) }
         ensures left { P.told → IfErr result (λ why. LeftBy why service (state self.old (P.view port.old).reads)
             request.now (state self.new (P.view port.new).reads) (P.view port.old).sent (P.view port.new).sent) }
+        /// promise: A crash at any moment leaves the state before or the state after, with a front of the answer sent;
+        /// once all of it was sent, the state after.
         ensures any_moment { P.told → LeavesOnly (P.view port.old) (P.view port.new)
             (IsInAnswer service (state self.old (P.view port.old).reads) request.now (P.view port.old).sent) }
         ensures debt { P.told → work.bounded request.now → LeavesOnly (P.view port.old) (P.view port.new)

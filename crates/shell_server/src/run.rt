@@ -39,17 +39,21 @@ pub fn serve_shell<F: Files, L: Placing, K: Started, Y: TreeLayout, S: Source, P
     requires at { P.told → FitsDevice (FitsShell K.start (F.view files.old) core.old) (P.view port.old) }
     // What came in and what was sent, by status; what a crash at any moment may have left; and in which images the
     // states rested.
+    /// promise: What came in and what was sent, by the status: the lines of the answers of the asks, each by the step
+    /// of its ask on the tree and the room that the world has then; and what a crash at any moment leaves.
     ensures ran { (final : ShellState) × Ran result (shell_service K.start) shell_work (shell_spelling Y.layout)
         (shell_state (F.view files.old) (P.view port.old).reads) final limit
         (taking S.told S.taken S.left_bytes S.ended source.old source.new) (due core.old.volume)
         (moments P.told P.view port.old port.new) × (final.world ≡ world_of (P.view port.new).reads) }
     // However it ended, a crash at any moment leaves what lies behind the image as it was.
+    /// promise: What lies after the image is as it was in each image that a crash leaves.
     ensures behind { P.told → LeavesPart (behind (told_world core.old).geometry) (P.view port.old) (P.view port.new) }
     // Unless the device failed, the core may be used again; else it is spent.
     ensures ready { result ≢ Status.DeviceFault → IsCoreReady core.new }
     ensures at { result ≢ Status.DeviceFault → P.told → IsCoreAt core.new (P.view port.new) }
     ensures spent { result ≡ Status.DeviceFault → core.new.volume.is_spent ≡ true }
     ensures closed { result ≡ Status.Done → P.told → IsQuiet (P.view port.new).reads }
+    /// promise: Nothing is taken after the end of the input was found.
     ensures once { EndsOnce (S.ends source.old) (S.ends source.new) }
     // A count of faults rose only where the status is that fault's.
     ensures source_fault { result ≡ Status.SourceFault → Rose (S.faults source.old) (S.faults source.new) }

@@ -23,6 +23,7 @@ const REFUSAL_ROOM: usize = 40;
 
 /// Replaces the bytes by the line of an ask that was done.
 pub fn print_done(into: &mut OutBuf)
+    /// promise: Exactly the text of the answer.
     ensures { into.new ≡ answer_text done ++ 10 ∷ [] }
 {
     into.clear();
@@ -31,6 +32,7 @@ pub fn print_done(into: &mut OutBuf)
 
 /// Replaces the bytes by the answer to a line that asks nothing.
 pub fn print_bad(into: &mut OutBuf)
+    /// promise: Exactly the text of the answer.
     ensures { into.new ≡ answer_text bad ++ 10 ∷ [] }
 {
     into.clear();
@@ -39,6 +41,7 @@ pub fn print_bad(into: &mut OutBuf)
 
 /// Replaces the bytes by the line of a number of free blocks.
 pub fn print_free(count: u32, into: &mut OutBuf)
+    /// promise: Exactly the text of the answer.
     ensures { into.new ≡ answer_text (available count) ++ 10 ∷ [] }
 {
     into.clear();
@@ -50,6 +53,7 @@ pub fn print_free(count: u32, into: &mut OutBuf)
 /// Replaces the bytes by the line of a refusal. Device has no words: a program that meets it ends.
 pub fn print_refusal(refusal: &FsRefusal, into: &mut OutBuf)
     requires { refusal.now ≢ FsRefusal.Device }
+    /// promise (with one_line): Exactly the text of the refusal, in one line.
     ensures text { into.new ≡ answer_text (refused refusal.now) ++ 10 ∷ [] }
     ensures one_line { line_feeds (answer_text (refused refusal.now)) ≡ 0 }
 {
@@ -100,6 +104,7 @@ fn pair(into: &mut OutBuf, name: &[u8], first: u32, second: u32)
 /// Replaces the bytes by what stands before the digits of a file's bytes, or, where it has no bytes, by the line but
 /// its line feed.
 pub fn print_data_head(empty: bool, into: &mut OutBuf)
+    /// promise: Exactly the head of a file's bytes.
     ensures { into.new ≡ data_head empty }
 {
     into.clear();
@@ -113,6 +118,7 @@ pub fn print_data_head(empty: bool, into: &mut OutBuf)
 /// Replaces the bytes by the digits of some of a file's bytes, at most 4,096.
 pub fn print_data_part(part: &[u8], into: &mut OutBuf)
     requires { length part.now ≤ DATA_MAX }
+    /// promise: Exactly the digits of a part of a file's bytes.
     ensures { into.new ≡ encode_lower part.now }
 {
     let mut room = [0u8; DATA_DIGITS];
@@ -125,6 +131,7 @@ pub fn print_data_part(part: &[u8], into: &mut OutBuf)
 /// Replaces the bytes by what stands before the names in a directory, or, where it has none, by the line but its line
 /// feed.
 pub fn print_names_head(none: bool, into: &mut OutBuf)
+    /// promise: Exactly the head of a directory's names.
     ensures { into.new ≡ names_head none }
 {
     into.clear();
@@ -137,6 +144,7 @@ pub fn print_names_head(none: bool, into: &mut OutBuf)
 
 /// Replaces the bytes by a space and a name.
 pub fn print_name(name: &Name, into: &mut OutBuf)
+    /// promise: Exactly a name of a directory.
     ensures { into.new ≡ 32 ∷ name.now }
 {
     into.clear();
@@ -145,6 +153,7 @@ pub fn print_name(name: &Name, into: &mut OutBuf)
 
 /// Replaces the bytes by the end of a line.
 pub fn print_end(into: &mut OutBuf)
+    /// promise: Exactly the end of a long answer.
     ensures { into.new ≡ 10 ∷ [] }
 {
     into.clear();
@@ -154,6 +163,8 @@ pub fn print_end(into: &mut OutBuf)
 /// An answer that is sent in parts is the answer: the head, the parts in their order, and the end of the line.
 pub fn long_answers_in_parts()
     // A file's bytes, in whatever parts.
+    /// promise (with names): A file's bytes in whatever parts, and a directory's names one by one, are the text of the
+    /// answer.
     ensures data { (parts : List (List ℕ)) → let x = flat_map (λ part. part) parts in
         data_head (is_empty x) ++ flat_map encode_lower parts ≡ answer_text (bytes x) }
     // The names in a directory, one a part.

@@ -14,10 +14,13 @@ use script_text::parse::LINE_MAX;
 /// The ask that a line spells for a layout, and Bad where it spells none. The line comes without its line feed.
 pub fn parse_shell(kind: ShellKind, line: &[u8]) -> ShellAsk
     // What is read is spelled so.
+    /// promise (with only): An ask exactly where the line is its spelling for that layout, by a grammar apart from the
+    /// code, and `Bad` exactly where it is none's; so no line asks two things.
     ensures spelled { (result ≡ ShellAsk.Bad) ⊎ IsShellLine kind line.now result }
     // What is spelled so is read: so no line has two asks. No line spells Bad.
     ensures only { (a : ShellAsk) → IsShellLine kind line.now a → result ≡ a }
     // A longer line is as bad where it is cut to one byte more than a line may have.
+    /// promise: A line that is too long is as bad where it is cut.
     ensures cut { (whole : List ℕ) → line.now ≡ take 8401 whole → result ≡ ask_of kind whole }
     // As a function that computes.
     ensures value { result ≡ ask_of kind line.now }

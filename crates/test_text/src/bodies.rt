@@ -1,7 +1,7 @@
 //! Bodies: that the spellings of requests and replies are the ones that we mean, by examples.
 
 use request_frames::{
-    FrameBuf, decode_body, decode_reply, encode_reply, encode_request, short_frame,
+    FrameBuf, ShortFrame, decode_body, decode_reply, encode_reply, encode_request, put_short_frame,
 };
 use std::process::Abort;
 use tsd_model::{BlockList, Cap, CapPair, Data, Hint, Level, Reply, Request, Rule, Shown};
@@ -208,15 +208,14 @@ fn short_frames_end_at_1024_bytes(rt: HostRuntime) {
         Some(most) => {
             let mut frame = FrameBuf::new();
             encode_reply(&most, &mut frame);
-            match short_frame(&most) {
-                Some(short) => assert_eq!(rt; short.as_slice(), frame.as_slice()),
-                None => assert!(rt; false, "no short frame of 1,024 bytes"),
-            }
+            let mut short = ShortFrame::new();
+            assert!(rt; put_short_frame(&most, &mut short));
+            assert_eq!(rt; short.as_slice(), frame.as_slice());
         }
         None => assert!(rt; false, "1,024 bytes are a reply"),
     }
     let more = Reply::Bytes(data([7; 1025].as_slice()));
-    assert!(rt; short_frame(&more).is_none());
+    assert!(rt; !put_short_frame(&more, &mut ShortFrame::new()));
 }
 
 /// The replies of the worked example and each other one that isn't a refusal.

@@ -7,7 +7,7 @@ use tsd_model::{Cap, CapPair, Geometry, PlaceKind};
 use tsd_words::{Command, CopyFs, Format, Fresh, Load, TreeRoot, command};
 
 /// Words, and the command that they spell. R and W stand for 32 digits `a` and `b`, Z for 64 digits `0`.
-const SPELLED: [(&str, Command); 12] = [
+const SPELLED: [(&str, Command); 13] = [
     (
         "fresh 8 1 R W near",
         Command::Fresh(Fresh {
@@ -39,6 +39,7 @@ const SPELLED: [(&str, Command); 12] = [
     ("run low", Command::Run(PlaceKind::Low)),
     ("run zone", Command::Run(PlaceKind::Zone)),
     ("serve spread", Command::Serve(PlaceKind::Spread)),
+    ("group near", Command::Group(PlaceKind::Near)),
     ("check", Command::Check),
     (
         "load Z 200000 zone",

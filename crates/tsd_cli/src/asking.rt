@@ -1,7 +1,8 @@
 //! What is asked at a terminal before a disk is lost.
 
-use file_stations::{FileStation, ImageFile, InputSource, Opening, Progress, Shown};
+use file_stations::{FileStation, InputSource, Progress};
 use image_device::Source;
+use image_files::{ImageFile, Opening, Sectors, Shown};
 use image_layout::read_header;
 use place_policy::PlaceBook;
 use script_text::fields::parse_number;
@@ -55,7 +56,7 @@ pub fn is_kept<S: Source, E: Write>(
 /// What would be lost of the disk in the file at a path, by what `check` finds.
 fn loss_of(rt: &HostRuntime, path: &str, book: &PlaceBook) -> Result<Loss, AllocError> {
     let alloc = rt.alloc();
-    let Ok(image) = ImageFile::open(rt, path, Opening::Looked) else {
+    let Ok(mut image) = ImageFile::open(rt, path, Opening::Looked) else {
         return Ok(Loss::None);
     };
     let mut sector = [0u8; 512];

@@ -4,7 +4,8 @@ ghost use Rattle.std.specs.Prelude.{◌≡◌, IsOk, IsErr};
 
 use crate::usage::Misread;
 use crate::words::WordFault;
-use file_stations::{Kind, Quoted, Shown, Trouble, tell_image};
+use file_stations::tell_image;
+use image_files::{Kind, Quoted, Shown, Trouble};
 use std::io::Write;
 use tsd_serve::{MirrorStatus, Status};
 

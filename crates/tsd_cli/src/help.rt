@@ -9,7 +9,8 @@ pub const USAGE: &str =
 
 /// The topics of the help.
 pub const TOPICS: &str =
-    "fresh, format, run, serve, group, shell, copyfs, check, info, load, upgrade, audit, verify, mirror, requests and replies";
+    "fresh, format, run, serve, group, shell, copyfs, check, info, load, upgrade, audit, verify, mirror, \
+    requests and replies";
 
 /// The text of a topic of the help.
 pub fn text_of(topic: &str) -> Option<&'static str> {
@@ -45,7 +46,7 @@ usage: tsd [--overwrite] [mirror IMAGE] IMAGE COMMAND | help [TOPIC] | -h | -V
 IMAGE is a file or a block device, or `-` for a disk in memory that is gone when
 the program ends. It is open for one process at a time. A file that is named
 help is given as ./help, one named mirror as ./mirror. Where it holds something
-that is no disk it is lost to a new disk, or to a copy, only behind --overwrite.
+that is no disk it is lost to a new disk, or to a copy, only after --overwrite.
 A word of COMMAND that begins with `@`, as @FILE, stands for the first word in
 that file: so a capability stays off the command line, which other users see.
 
@@ -69,7 +70,7 @@ mirror IMAGE IMAGE COMMAND does it on two images as one disk, and goes on with
 the other where one of them fails: `tsd help mirror`.
 
 exit status, told on standard error by a line and, where more is known of why,
-by those behind it
+by those after it
 
   0  done
   2  faulty command line
@@ -80,7 +81,7 @@ by those behind it
   7  input too long
   8  no memory
   9  input ends inside a frame
-  10 the capability doesn't open the root to write
+  10 the capability gives no access to write the root
  11  done, on one image of a mirror: the other one failed
 
 more
@@ -90,7 +91,7 @@ more
   tsd help replies   the lines of replies, and the refusals
   man tsd            the man page tsd.1, which has all of these
   docs/FORMAT.md     the bytes of an image, the lines, the frames and the faults
-                     of an image; `make install` puts it into share/doc/tsd
+                     of an image; `make install` writes it to share/doc/tsd
 ";
 
 /// The topic `fresh`.
@@ -198,8 +199,7 @@ once.
 A reply is sent when the disk holds what it tells. After a crash the disk is the
 one after some of the requests, in order, among them each whose reply was sent;
 it may be a whole group further than the last reply, where `serve` is one
-request further at most. It takes one image in a file or a device: no mirror,
-and not `-`.
+request further at most. Over a mirror that holds of each image.
 
   PLACE  which free block is taken first, as for `serve`
 
@@ -312,7 +312,7 @@ pub const CHECK: &str = "tsd IMAGE check
 Opens the disk and prints `clean LIVE FREE POINTERS`: how many blocks are live
 and how many free, and how many pointers are held. Where the image stands for no
 disk, it prints the first thing that is wrong with it, and the status is 3. An
-image that can't be written is opened to be read alone, as by `audit` and
+image that can't be written is opened read-only, as by `audit` and
 `verify`: where it needs a recovery, that is told, and the status is 4.
 
 example
@@ -335,9 +335,10 @@ Tells what the image says of itself, a name and a value in each line:
   pointers   how many pointers are held
   size       how many bytes a whole image has
 
-The image is tested as by `check`, and opened to be read alone: where it needs a
+The image is tested as by `check`, and opened read-only: where it needs a
 recovery, that is told, and the status is 4. `tsd IMAGE check` makes one. Over
-`mirror` both images are opened to be written.
+`mirror` both images are opened to be written. No line counts the blocks that
+wait to be reclaimed (doomed): in a disk that was opened there are none.
 
 example
 
@@ -435,7 +436,7 @@ holds anything else it is refused, unless --overwrite stands before `mirror`.
 Two paths of one file, or of one device, are refused before anything is written.
 A block device may not be smaller than the other image, since the copying goes
 over all sectors of the larger one: as the first it is a device fault, as the
-second it is lost.
+second a failed copy, status 11.
 
 The status is 11 where all was done and one image failed, and its line says
 which: `tsd: side lost, first` or `tsd: side lost, second`. The other image has
@@ -504,7 +505,7 @@ refusals
   free-block              the block is free
   not-primary             only primary blocks have capabilities
   is-primary              nothing points to a primary block
-  denied ATTAINED NEEDED  the level attained, none, read or write, is too low
+  denied ACCESS NEEDED    the access there is, none, read or write, is too low
   pointer-exists          the pointer is held already
   no-pointer              the pointer isn't held
   full FREE WANTED        fewer blocks are free than were asked for

@@ -1,7 +1,7 @@
 //! The program `tsd`.
 //!
-//! What it stands on: `tsd_serve` for the top call; `file_stations` for images in files and the standard streams; the
-//! closures that rank blocks are made here.
+//! What it stands on: `tsd_serve` for the top call; `image_files` and `file_stations` for images in files and the
+//! standard streams; the closures that rank blocks are made here.
 //!
 //! What it promises: the contract of the top call over the objects that are made here. What the command line and a file
 //! that a word names are on a real machine is trusted. Tests alone show it: those of this crate, its stored run, and
@@ -10,7 +10,6 @@
 
 mod asking;
 mod ended;
-mod grouped;
 mod help;
 mod line;
 mod opening;
@@ -25,7 +24,8 @@ mod words;
 #[cfg(test)]
 mod words_tests;
 
-use file_stations::{InputSource, StandIns, Trouble};
+use file_stations::InputSource;
+use image_files::{StandIns, Trouble};
 use opening::tells_into_image;
 use run::{run, tell};
 use std::io::{self, Stderr, Write};

@@ -3,10 +3,10 @@
 ghost use Rattle.std.specs.Prelude.{◌≡◌, ◌*◌};
 ghost use Rattle.tsd_model.specs.Geometry.{IsLawful};
 ghost use Rattle.image_layout.specs.Areas.{total};
-ghost use Rattle.file_stations.specs.declared.image_file.Opening.TheVariants as opening;
+ghost use Rattle.image_files.specs.declared.image_file.Opening.TheVariants as opening;
 
 use crate::line::images_of;
-use file_stations::{Content, IntoFile, Opening, Trouble, content_of};
+use image_files::{Content, IntoFile, Opening, Trouble, content_of};
 use image_layout::{Layout, read_header};
 use std::fs::{self, File};
 use std::io::Read;

@@ -6,18 +6,17 @@ ghost use Rattle.tsd_model.specs.declared.requests.PlaceKind.TheVariants.{Low, N
 
 use crate::asking::is_kept;
 use crate::ended::{Cause, Ended, tell_cause};
-use crate::grouped::{obeyed, words_of_serve};
 use crate::help::{HELP, VERSION, text_of};
 use crate::line::{Line, Target};
 use crate::opening::{copied, cut_off, look, mirrored, opening_of};
 use crate::testing::flaw_of;
 use crate::usage::Misread;
 use crate::words::{WordFault, meant};
-use file_stations::{
-    Content, FileSides, FileStation, ImageFile, IntoFile, Mark, Named, NamedImage, Opening,
-    Progress, Shown, Trouble, are_one, content_of,
-};
+use file_stations::{FileSides, FileStation, Named, NamedImage, Progress};
 use image_device::{MemStation, Source};
+use image_files::{
+    Content, ImageFile, IntoFile, Mark, Opening, Shown, Trouble, are_one, content_of,
+};
 use place_policy::{PlaceBook, Placement, ZONE_TURNS, low_rank, near_rank, spread_rank, zone_rank};
 use script_text::OutBuf;
 use std::alloc::{AllocError, Global};
@@ -76,9 +75,6 @@ struct Asked<'a> {
     /// The words of the command, each as it is meant.
     command: &'a Vec<String>,
 
-    /// Whether they are those of `serve`, in place of `group`: requests are served in groups.
-    is_grouped: bool,
-
     /// Whether what is no disk may be overwritten.
     overwrites: bool,
 
@@ -111,27 +107,7 @@ fn serve<S: Source, O: Write, E: Write>(
         command: given,
     } = line;
     let is_mirror = matches!(target, Target::Sides(..) | Target::NoSides);
-    let ended = match words_of_serve(rt.alloc(), &meant)? {
-        Some(_) if !matches!(target, Target::File(..)) => Ended::alone(Status::Usage),
-        Some(words) => with_placements(
-            rt,
-            target,
-            (overwrites, true),
-            &words,
-            input,
-            output,
-            errors,
-        )?,
-        None => with_placements(
-            rt,
-            target,
-            (overwrites, false),
-            &meant,
-            input,
-            output,
-            errors,
-        )?,
-    };
+    let ended = with_placements(rt, target, overwrites, &meant, input, output, errors)?;
     let is_told = matches!(ended.cause, Cause::OneFile(..));
     Ok(match ended.status {
         MirrorStatus::Ended(Status::Usage) if is_told => ended,
@@ -161,12 +137,11 @@ fn all_meant(
     Ok(Ok(found))
 }
 
-/// Makes the placements and serves. `how` says whether what is no disk may be overwritten, and whether requests are
-/// served in groups.
+/// Makes the placements and serves.
 fn with_placements<S: Source, O: Write, E: Write>(
     rt: &HostRuntime,
     target: Target,
-    how: (bool, bool),
+    overwrites: bool,
     command: &Vec<String>,
     input: &mut S,
     output: &mut O,
@@ -205,10 +180,8 @@ fn with_placements<S: Source, O: Write, E: Write>(
         Placement::new(PlaceKind::Zone, zone),
     );
     tell_equal(errors, command);
-    let (overwrites, is_grouped) = how;
     let asked = Asked {
         command,
-        is_grouped,
         overwrites,
         book: &book,
     };
@@ -262,9 +235,8 @@ fn serve_file<S: Source, O: Write, E: Write>(
         forget_mark(rt, path.as_str());
     }
     tell_readers(errors, path.as_str(), &image);
-    let station = FileStation::new(rt.alloc(), image, output, Progress::of(rt));
-    let how = (asked.command, asked.is_grouped, asked.book);
-    let (mut station, status) = obeyed(rt.alloc(), how, input, station);
+    let mut station = FileStation::new(rt.alloc(), image, output, Progress::of(rt));
+    let status = tsd(rt.alloc(), asked.command, input, &mut station, asked.book);
     station.wipe();
     let cause = match (station.trouble(), station.output_trouble()) {
         (Some(trouble), _) => Cause::Image {
@@ -350,8 +322,8 @@ fn serve_sides<S: Source, O: Write, E: Write>(
     Ended { status, cause }
 }
 
-/// These two paths, where the first image stands for a world, or a command doesn't open one, or it can't be told: else the
-/// run ends before the second one is opened.
+/// These two paths, where the first image stands for a world, or a command doesn't open one, or it can't be told: else
+/// the run ends before the second one is opened.
 fn tested<O: Write>(
     rt: &HostRuntime,
     paths: (String, String),

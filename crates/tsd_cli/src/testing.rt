@@ -1,6 +1,7 @@
 //! The first image of a mirror, tested by reads alone before anything is written to the second one.
 
-use file_stations::{ImageFile, InputSource, Opening, Progress, Shadow};
+use file_stations::{InputSource, Progress, Shadow};
+use image_files::{ImageFile, Opening};
 use place_policy::PlaceBook;
 use std::alloc::AllocError;
 use std::io;
@@ -16,8 +17,8 @@ pub struct Flaw {
     pub line: Vec<u8>,
 }
 
-/// What is wrong with the image at a path, by what `check` finds over it: what that writes is kept in memory. None where
-/// it stands for a world, or where that can't be told.
+/// What is wrong with the image at a path, by what `check` finds over it: what that writes is kept in memory. None
+/// where it stands for a world, or where that can't be told.
 pub fn flaw_of(rt: &HostRuntime, path: &str, book: &PlaceBook) -> Result<Option<Flaw>, AllocError> {
     let alloc = rt.alloc();
     let Ok(image) = ImageFile::open(rt, path, Opening::Read) else {

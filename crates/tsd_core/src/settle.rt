@@ -27,6 +27,7 @@ impl Core {
         requires at { D.told → IsCoreAt self.old (D.view dev.old) }
         ensures ready { OnOk result (IsCoreReady self.new) }
         ensures at { D.told → OnOk result (IsCoreAt self.new (D.view dev.new)) }
+        /// promise (with told): The state stays.
         ensures state { D.told → OnOk result (state_on self.new (D.view dev.new).reads ≡ state_on self.old
             (D.view dev.old).reads) }
         ensures told { OnOk result (told_state self.new ≡ told_state self.old) }
@@ -34,6 +35,7 @@ impl Core {
         ensures size { SameSize self.old self.new }
         ensures spent { OnErr result (self.new.volume.is_spent ≡ true) }
         ensures sent { D.told → (D.view dev.new).sent ≡ (D.view dev.old).sent }
+        /// promise (with behind): The data of all blocks stays, and what lies after the image.
         ensures data_kept { D.told → KeepsData self.old.volume.tables.geometry [] (D.view dev.old) (D.view dev.new)
             result }
         ensures behind { D.told → LeavesPart (behind self.old.volume.tables.geometry) (D.view dev.old)
@@ -44,6 +46,7 @@ impl Core {
 
         // No more than four steps are made: at most four blocks, and 64 pairs from them, in four batches.
         ensures few { OnOk result (owed self.old.volume.tables ≤ owed self.new.volume.tables + 68) }
+        /// promise (with few, ring, limit): No more than four steps are made, and at most 400 writes.
         ensures few_blocks { OnOk result (length (doomed (graph_in self.old.volume.tables))
             ≤ length (doomed (graph_in self.new.volume.tables)) + 4) }
         ensures ring { OnOk result (HasBatches 4 33 self.old.volume.ring self.new.volume.ring) }
@@ -123,6 +126,8 @@ impl Core {
         requires at { D.told → IsCoreAt self.old (D.view dev.old) }
         ensures ready { OnOk result (IsCoreReady self.new) }
         ensures at { D.told → OnOk result (IsCoreAt self.new (D.view dev.new)) }
+        /// promise (with closed): The state stays; nothing is doomed afterwards, no sweep is open, and all gates of the
+        /// journal are closed.
         ensures state { D.told → OnOk result (state_on self.new (D.view dev.new).reads ≡ state_on self.old
             (D.view dev.old).reads) }
         ensures told { OnOk result (told_state self.new ≡ told_state self.old) }
@@ -133,6 +138,7 @@ impl Core {
         ensures size { SameSize self.old self.new }
         ensures spent { OnErr result (self.new.volume.is_spent ≡ true) }
         ensures sent { D.told → (D.view dev.new).sent ≡ (D.view dev.old).sent }
+        /// promise (with behind): The data of all blocks stays, and what lies after the image.
         ensures data_kept { D.told → KeepsData self.old.volume.tables.geometry [] (D.view dev.old) (D.view dev.new)
             result }
         ensures behind { D.told → LeavesPart (behind self.old.volume.tables.geometry) (D.view dev.old)

@@ -33,6 +33,7 @@ pub struct Geometry {
 
 /// Whether a disk may have this size.
 pub fn lawful(geometry: &Geometry) -> bool
+    /// promise: True exactly for the lawful geometries.
     ensures { IsTrue result ↔ IsLawful geometry.now }
 {
     matches!(geometry.sectors, 1 | 2 | 4 | 8)

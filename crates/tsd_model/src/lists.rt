@@ -91,6 +91,8 @@ impl Data {
 
     /// Adds a byte at the end. A full list stays as it is.
     pub fn push(&mut self, item: u8) -> Result<(), ListFull>
+        /// promise (with ok, err): One byte more at the end; refused, with nothing changed, exactly where the list is
+        /// full.
         ensures variant { IsOk result ↔ (length self.old < DATA_MAX) }
         ensures ok { OnOk result (self.new ≡ self.old ++ item ∷ []) }
         ensures err { OnErr result (self.new ≡ self.old) }
@@ -177,6 +179,8 @@ impl BlockList {
 
     /// Adds a block at the end. A full list stays as it is.
     pub fn push(&mut self, item: u32) -> Result<(), ListFull>
+        /// promise (with ok, err): One block more at the end; refused, with nothing changed, exactly where the list is
+        /// full.
         ensures variant { IsOk result ↔ (length self.old < BLOCKS_MAX) }
         ensures ok { OnOk result (self.new ≡ self.old ++ item ∷ []) }
         ensures err { OnErr result (self.new ≡ self.old) }
@@ -262,6 +266,8 @@ impl CapList {
 
     /// Adds a pair at the end. A full list stays as it is.
     pub fn push(&mut self, item: CapPair) -> Result<(), ListFull>
+        /// promise (with ok, err): One pair more at the end; refused, with nothing changed, exactly where the list is
+        /// full.
         ensures variant { IsOk result ↔ (length self.old < CAPS_MAX) }
         ensures ok { OnOk result (self.new ≡ self.old ++ item ∷ []) }
         ensures err { OnErr result (self.new ≡ self.old) }

@@ -29,6 +29,7 @@ pub struct Need {
 
 /// Whose a request is, None where it is of no session.
 pub fn session_of(request: &Request) -> Option<u32>
+    /// promise: The session in which the request comes, where it names one.
     ensures { result ≡ session_of request.now }
 {
     match request {
@@ -49,6 +50,7 @@ pub fn session_of(request: &Request) -> Option<u32>
 
 /// The blocks that a request names: the block or the source, then the target. A sweep names block 0.
 pub fn named_blocks(request: &Request) -> ArrayVec<u32, 2>
+    /// promise: The blocks that the request names, in order.
     ensures { result.items ≡ named_blocks request.now }
 {
     let mut blocks = ArrayVec::new();
@@ -71,6 +73,7 @@ pub fn named_blocks(request: &Request) -> ArrayVec<u32, 2>
 
 /// What a request needs: a capability is shown at the block or the source; a sweep needs write at block 0.
 pub fn needs(request: &Request) -> ArrayVec<Need, 2>
+    /// promise: What the request needs: which level at which block, by the table of requests.
     ensures { result.items ≡ needs request.now }
 {
     let mut needs = ArrayVec::new();
@@ -112,6 +115,7 @@ fn need_of(block: u32, level: Level, shown: Shown) -> Need
 
 /// How many free blocks a request takes.
 pub fn wanted_blocks(request: &Request) -> Option<u32>
+    /// promise: How many free blocks the request wants.
     ensures { result ≡ wanted_blocks request.now }
 {
     match request {
@@ -122,6 +126,7 @@ pub fn wanted_blocks(request: &Request) -> Option<u32>
 
 /// How many pointers a request adds.
 pub fn wanted_pairs(request: &Request) -> Option<u32>
+    /// promise: How many new pointers the request wants.
     ensures { result ≡ wanted_pairs request.now }
 {
     match request {
@@ -133,6 +138,7 @@ pub fn wanted_pairs(request: &Request) -> Option<u32>
 
 /// Whether it is no request.
 pub fn is_bad(request: &Request) -> bool
+    /// promise: True exactly where the request is none, by the rule that looks at the request alone.
     ensures { result ≡ is_bad request.now }
 {
     matches!(request, Request::Bad)

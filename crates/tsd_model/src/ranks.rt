@@ -41,6 +41,7 @@ pub fn rank(kind: PlaceKind, hint: u32, block: u32) -> u64
 
 /// The rank by number.
 pub fn low_rank(_hint: u32, block: u32) -> u64
+    /// promise: The rank of a block by the placement `low`, for every hint and block.
     ensures { result ≡ rank_of Low _hint block }
 {
     u64::from(block)
@@ -48,6 +49,7 @@ pub fn low_rank(_hint: u32, block: u32) -> u64
 
 /// The rank by distance from the hint, a block above it before the one that is as far below.
 pub fn near_rank(hint: u32, block: u32) -> u64
+    /// promise: The rank of a block by the placement `near`, for every hint and block.
     ensures { result ≡ rank_of Near hint block }
 {
     2 * u64::from(block.abs_diff(hint)) + u64::from(block < hint)
@@ -55,6 +57,7 @@ pub fn near_rank(hint: u32, block: u32) -> u64
 
 /// The rank upwards from the hint, and round after the greatest `u32`.
 pub fn spread_rank(hint: u32, block: u32) -> u64
+    /// promise: The rank of a block by the placement `spread`, for every hint and block.
     ensures { result ≡ rank_of Spread hint block }
 {
     u64::from(block.wrapping_sub(hint))
@@ -63,6 +66,7 @@ pub fn spread_rank(hint: u32, block: u32) -> u64
 /// The rank by the turn of the block's zone, and by number in zones of one turn. With `ZONE_TURNS` it is that of the
 /// kind `Zone`.
 pub fn zone_rank(turns: &[u8; 16], hint: u32, block: u32) -> u64
+    /// promise: The rank of a block by the placement `zone`, for every hint and block.
     ensures { result ≡ 2 ^ 32 * slice_index turns.now (zones_after hint block) + block }
 {
     let zones_after = (zone_of(block) + ZONES - zone_of(hint)) % ZONES;

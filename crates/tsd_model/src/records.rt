@@ -46,6 +46,8 @@ pub fn kept_of(version: u32, cap: &Cap) -> KeptCap
 
 /// What a version keeps of a pair of capabilities.
 pub fn kept(version: u32, caps: &CapPair) -> Record
+    /// promise: What a primary block keeps of a pair of capabilities: the pair itself in version 1, its digests in
+    /// version 2.
     ensures { result ≡ kept version caps.now }
 {
     Record {

@@ -3,3 +3,4 @@ pub mod Prefixes
 pub mod Promises
 pub mod Mirrored
 pub mod ByAccess
+pub mod Tests

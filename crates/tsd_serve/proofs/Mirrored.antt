@@ -1,5 +1,6 @@
 -- From what a command did over two sides to what holds of each side.
 use Rattle.std.proofs.Common.{◌≡◌, ◌≢◌, ◌⊎◌, inl, inr, ⊎_elim, ℕ, ◌==◌, List, [], refl, sym, ◌∙◌, subst, arith}
+use Rattle.std.proofs.Math.Logic.{∥∥₁_elim}
 use Rattle.tsd_model.specs.World.{World}
 use Rattle.tsd_model.specs.declared.requests.PlaceKind.{PlaceKind}
 use Rattle.tsd_model.specs.declared.requests.Request.{Request}
@@ -8,9 +9,9 @@ use Rattle.image_device.specs.Runs.{IsFirm, LeavesOnly}
 use Rattle.image_device.specs.View.{IsLeftNow}
 use Rattle.image_device.proofs.Moments.{weakened}
 use Rattle.image_device.proofs.Sets.{or_false, or_false_left, or_false_right}
-use Rattle.mirror_device.specs.Copying.{Copying, InCopying, IsLeftOfFirst}
+use Rattle.mirror_device.specs.Copying.{InCopying, IsLeftOfFirst}
 use Rattle.mirror_device.specs.Mirror.{CountsAgree, EachSound, LeftIsSound, Shows, image_left, start_at}
-use Rattle.mirror_device.specs.SidesView.{SidesAreSound, IsItemNow, Item, SidesView}
+use Rattle.mirror_device.specs.SidesView.{SidesAreSound, Item, SidesView}
 use Rattle.mirror_device.specs.declared.side.Serving.{Serving}
 use Rattle.mirror_device.specs.declared.side.Serving.TheVariants.{Both, First, Second}
 use Rattle.mirror_device.specs.declared.side.Side.TheVariants.{First as FirstSide, Second as SecondSide}
@@ -62,11 +63,10 @@ module _ (old new : SidesView) (c : Serving) (port : Moments) (begins : BeganAs 
       now : IsLeftNow port.old x f
       now = (record { agrees = λ n h. was.0.agrees n (firm n) ∙ sym (λ j. begins.reads j n); whole = was.0.whole }, was.1 ∙ sym begins.sent)
 
-  of_opened : (v : Voice) (p : Spelling Request) (kind : PlaceKind) (source : Taking)
-      → (IsFirm port.old → (w : World) → Stands port.old.reads w → EachCrashLeaves p source port (IsPrefixLeft v kind w port.old.sent))
-      → IsFirm (first_view old) → (w : World) → Stands old.first.reads w → EachSideKeeps p source old new (IsPrefixLeft v kind w old.sent)
-  of_opened v p kind source ran firm w stands =
-      let e : EachCrashLeaves p source port (IsPrefixLeft v kind w port.old.sent) = ran begins.firm w (subst (λ (x : Image). Stands x w) (sym begins.reads) stands) in
+  -- what holds of each image that a crash left of the mirror, of each side
+  each_side_keeps : (v : Voice) (p : Spelling Request) (kind : PlaceKind) (source : Taking) → IsFirm (first_view old) → (w : World)
+      → EachCrashLeaves p source port (IsPrefixLeft v kind w port.old.sent) → EachSideKeeps p source old new (IsPrefixLeft v kind w old.sent)
+  each_side_keeps v p kind source firm w e =
       let P : Image → List ℕ → Type 0 = IsPrefixLeft v kind w port.old.sent e.asked in
       record {
         bytes = e.bytes;
@@ -79,18 +79,29 @@ module _ (old new : SidesView) (c : Serving) (port : Moments) (begins : BeganAs 
             (each_side P e.any_moment (of_first firm P e.any_moment) i left);
       }
 
+  -- the world of the first side is the mirror's
+  stands_in_mirror : (w : World) → Stands old.first.reads w → Stands port.old.reads w
+  stands_in_mirror w stands = subst (λ (x : Image). Stands x w) (sym begins.reads) stands
+
+  of_opened : (v : Voice) (p : Spelling Request) (kind : PlaceKind) (source : Taking)
+      → (IsFirm port.old → (w : World) → Stands port.old.reads w → EachCrashLeaves p source port (IsPrefixLeft v kind w port.old.sent))
+      → IsFirm (first_view old) → (w : World) → Stands old.first.reads w → EachSideKeeps p source old new (IsPrefixLeft v kind w old.sent)
+  of_opened v p kind source ran firm w stands = each_side_keeps v p kind source firm w (ran begins.firm w (stands_in_mirror w stands))
+
+  -- the same where none of the records is picked
+  of_groups : (v : Voice) (p : Spelling Request) (kind : PlaceKind) (source : Taking)
+      → (IsFirm port.old → (w : World) → Stands port.old.reads w → ∥ EachCrashLeaves p source port (IsPrefixLeft v kind w port.old.sent) ∥₁)
+      → IsFirm (first_view old) → (w : World) → Stands old.first.reads w → ∥ EachSideKeeps p source old new (IsPrefixLeft v kind w old.sent) ∥₁
+  of_groups v p kind source ran firm w stands =
+      let prop : IsProp (∥ EachSideKeeps p source old new (IsPrefixLeft v kind w old.sent) ∥₁) = hlevel in
+      ∥∥₁_elim (ran begins.firm w (stands_in_mirror w stands)) prop (λ (e : EachCrashLeaves p source port (IsPrefixLeft v kind w port.old.sent)). ∣ each_side_keeps v p kind source firm w e ∣₁)
+
 -- ---- the first side failed in the copying
 
-module _ (old new : SidesView) (sound : SidesAreSound old) (copying : Copying old new) where
-  in_copying : (i : Item) → new.left old.clock i → InCopying old i
-  in_copying i left = ⊎_elim (λ was. now_in (sound.only_now i was)) (λ here. here) (copying.nothing_else old.clock i (omega arith) left)
-    where
-      now_in : IsItemNow old i → InCopying old i
-      now_in now = record { first = now.first.image; second = λ lt. absurd (omega (arith, now.second.syncs)); sent = now.sent }
-
+module _ (old new : SidesView) (sound : SidesAreSound old) (copying : (i : Item) → new.left old.clock i → InCopying old i) where
   pub each_copied : (P : Image → List ℕ → Type 0) → ((x : Image) (f : List ℕ) → IsLeftOfFirst old x f → P x f) → (i : Item) → new.left old.clock i → EachSound (start_at old) First i (λ x. P x i.sent)
   each_copied P before i left =
-      let here = in_copying i left in
+      let here = copying i left in
       (λ h. before i.first.image i.sent (here.first, here.sent), λ h. before i.second.image i.sent (here.second h.1, here.sent), λ h k. before i.first.image i.sent (here.first, here.sent))
 
   none_asked : (p : Spelling Request) (source : Taking) (P : List Request → Image → List ℕ → Type 0) → source.came [] → ((x : Image) (f : List ℕ) → IsLeftOfFirst old x f → P [] x f) → EachSideKeeps p source old new P
@@ -109,6 +120,7 @@ formatting_first old w x f was = inl (record { agrees = λ n h. was.0.agrees n (
 pub headline_over : (words : Command) (source : Taking) (old new : SidesView) (c : Serving) (port : Moments) → BeganAs old port.old → EndedAs old new c port.new → Headline words source port → MirrorHeadline words source old new
 headline_over (command.Run kind) source old new c port begins ends ran = of_opened old new c port begins ends line_voice line_spelling kind source ran
 headline_over (command.Serve kind) source old new c port begins ends ran = of_opened old new c port begins ends frame_voice frame_spelling kind source ran
+headline_over (command.Group kind) source old new c port begins ends ran = of_groups old new c port begins ends frame_voice frame_spelling kind source ran
 headline_over (command.Fresh fresh) source old new c port begins ends ran =
     let w = single_world fresh.geometry fresh.caps in
     record {
@@ -139,9 +151,11 @@ headline_over command.Audit source old new c port begins ends ran = tt
 headline_over command.Verify source old new c port begins ends ran = tt
 headline_over (command.CopyFs words) source old new c port begins ends ran = tt
 
-pub headline_unbegun : (words : Command) (source : Taking) (old new : SidesView) → source.came [] → SidesAreSound old → Copying old new → MirrorHeadline words source old new
+pub headline_unbegun : (words : Command) (source : Taking) (old new : SidesView) → source.came [] → SidesAreSound old → ((i : Item) → new.left old.clock i → InCopying old i) → MirrorHeadline words source old new
 headline_unbegun (command.Run kind) source old new came sound copying = λ firm w stands. none_asked old new sound copying line_spelling source (IsPrefixLeft line_voice kind w old.sent) came (none_on_first old line_voice kind w lines_apart.nothing firm stands)
 headline_unbegun (command.Serve kind) source old new came sound copying = λ firm w stands. none_asked old new sound copying frame_spelling source (IsPrefixLeft frame_voice kind w old.sent) came (none_on_first old frame_voice kind w frames_apart.nothing firm stands)
+headline_unbegun (command.Group kind) source old new came sound copying =
+    λ firm w stands. ∣ none_asked old new sound copying frame_spelling source (IsPrefixLeft frame_voice kind w old.sent) came (none_on_first old frame_voice kind w frames_apart.nothing firm stands) ∣₁
 headline_unbegun (command.Fresh fresh) source old new came sound copying = none_asked old new sound copying line_spelling source _ came (λ x f was. inl (formatting_first old (single_world fresh.geometry fresh.caps) x f was, was.1))
 headline_unbegun (command.Format words) source old new came sound copying = tt
 headline_unbegun (command.Shell shell) source old new came sound copying = tt

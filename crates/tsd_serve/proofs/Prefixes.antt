@@ -1,5 +1,5 @@
 -- What the whole replies among the bytes sent say of the image, in the words of the headline.
-use Rattle.std.proofs.Common.{◌≡◌, ◌⊎◌, inl, inr, ℕ, Bool, List, [], ◌∷◌, ◌++◌, length, map, drop, refl, sym, ◌∙◌, ap, subst, append_assoc, append-nil, length-append, arith}
+use Rattle.std.proofs.Common.{◌≡◌, ◌⊎◌, inl, inr, ℕ, suc, ◌<◌, ◌≤◌, Bool, List, [], ◌∷◌, ◌++◌, length, map, drop, refl, sym, ◌∙◌, ap, subst, append_assoc, append-nil, length-append, arith}
 use Rattle.std.proofs.lemmas.List.{map-append}
 use Rattle.tsd_model.specs.World.{World}
 use Rattle.tsd_model.specs.Step.{State}
@@ -10,10 +10,12 @@ use Rattle.image_device.specs.View.{IsPart}
 use Rattle.image_layout.specs.Image.{Image}
 use Rattle.image_world.specs.Stands.{Stands}
 use Rattle.serving.specs.ModelRules.{Placed, IsModelRun}
-use Rattle.serving.specs.Runs.{IsAcknowledged, IsBroken, IsCutOff, texts}
+use Rattle.serving.specs.Runs.{IsAcknowledged, IsBroken, IsCutOff, Run, texts}
+use Rattle.serving.specs.Service.{IsCounted, Service}
 use Rattle.serving.specs.Voice.{Voice}
 use Rattle.serving.proofs.ModelRuns.{model_run}
 use Rattle.serving.proofs.Runs.{texts-append}
+use Rattle.gathering_runs.specs.Promise.{IsOfPrefix}
 use Rattle.image_runs.specs.Served.{disk_service}
 use Rattle.tsd_serve.specs.Headline.{IsPrefixLeft}
 
@@ -162,3 +164,67 @@ none_left v kind w before asked x sent none stands same = record {
   holds = omega (arith, none);
   stands = stands;
 }
+
+-- ---- of a run in groups
+
+abbrev tail_of : List ℕ → List ℕ
+tail_of [] = []
+tail_of (x ∷ xs) = xs
+
+abbrev head_of : ℕ → List ℕ → ℕ
+head_of d [] = d
+head_of d (x ∷ xs) = x
+
+-- of two fronts of a list one goes further
+parted : (a rest front back : List ℕ) → a ++ rest ≡ front ++ back
+    → ((more : List ℕ) × (front ≡ a ++ more) × (rest ≡ more ++ back)) ⊎ ((more : List ℕ) × (a ≡ front ++ more) × (0 < length more))
+parted [] rest front back same = inl (front, refl, same)
+parted (x ∷ a) rest [] back same = inr (x ∷ a, refl, omega arith)
+parted (x ∷ a) rest (y ∷ front) back same =
+    let first : x ≡ y = ap (head_of x) same in
+    elim (parted a rest front back (ap tail_of same)) [
+      | inl further ↦ inl (further.0, ap (λ l. y ∷ l) further.1 ∙ ap (λ n. n ∷ (a ++ further.0)) (sym first), further.2)
+      | inr within ↦ inr (within.0, ap (λ l. x ∷ l) within.1 ∙ ap (λ n. n ∷ (front ++ within.0)) first, within.2)
+    ]
+
+-- a front of the answers of a run holds no more whole ones than there are
+acked_front : (k : Service Request) → IsCounted k → (s t : k.States) (qs : List Request) (xs : List (List ℕ)) (front back : List ℕ) → Run k s qs xs t → texts xs ≡ front ++ back → k.acked front ≤ length qs
+acked_front k counted s t [] [] [] back run same = omega (arith, counted.nothing)
+acked_front k counted s t [] [] (y ∷ front) back run same = absurd (omega (arith, ap length same))
+acked_front k counted s t [] (a ∷ xs) front back run same = absurd run
+acked_front k counted s t (q ∷ qs) [] front back run same = absurd run
+acked_front k counted s t (q ∷ qs) (a ∷ xs) front back run same = elim (parted a (texts xs) front back same) [
+  | inl further ↦
+      let rest : k.acked further.0 ≤ length qs = acked_front k counted run.0 t qs xs further.0 back run.2 further.2 in
+      let one : k.acked (a ++ further.0) ≡ suc (k.acked further.0) = counted.whole s q a run.0 further.0 run.1 in
+      let is : k.acked front ≡ k.acked (a ++ further.0) = ap k.acked further.1 in
+      omega (arith, rest, one, is)
+  | inr within ↦
+      let none : k.acked front ≡ 0 = counted.part s q a run.0 front within.0 run.1 within.1 within.2 in
+      omega (arith, none)
+]
+
+pub of_prefix_left : (v : Voice) (kind : PlaceKind) (w : World) (before : List ℕ) (asked : List Request) (x : Image) (sent : List ℕ) → IsCounted (disk_service v) → IsOfPrefix (disk_service v) (start kind w) before asked x sent
+    → IsPrefixLeft v kind w before asked x sent
+of_prefix_left v kind w before asked x sent counted p =
+    let s = at_rest w in
+    let m : IsModelRun v (start kind w) p.first p.answers p.state = model_run Stands v (start kind w) p.first p.answers p.state p.run in
+    let behind = texts (map v.text (replies kind (after kind s m.wants p.first) [] p.rest)) in
+    let few : v.acked p.sent.front ≤ length p.first = acked_front (disk_service v) counted (start kind w) p.state p.first p.answers p.sent.front p.sent.back p.run p.sent.whole in
+    record {
+      wants = m.wants ++ [];
+      replied = record {
+        front = p.sent.front;
+        back = p.sent.back ++ behind;
+        sent = p.sent.sent;
+        whole = texts_on v kind s m.wants [] asked p.first p.rest p.parts m.each
+            ∙ ap (λ l. texts l ++ behind) (sym m.texts)
+            ∙ ap (λ l. l ++ behind) p.sent.whole
+            ∙ append_assoc p.sent.front p.sent.back behind;
+      };
+      prefix = p.first;
+      rest = p.rest;
+      parts = p.parts;
+      holds = few;
+      stands = subst (λ (t : State). Stands x t.world) (m.state ∙ sym (after_first kind s m.wants [] p.first m.each)) p.stands;
+    }

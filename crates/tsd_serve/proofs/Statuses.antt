@@ -17,10 +17,15 @@ use Rattle.image_runs.specs.Fresh.{FreshRan}
 use Rattle.fs_trees.specs.declared.ask.ShellKind.{ShellKind}
 use Rattle.tsd_model.specs.declared.caps.Cap.{Cap}
 use Rattle.image_shell.specs.Served.{ShellRan}
+use Rattle.image_groups.specs.Served.{ImageRanInGroups}
 
 -- The words of a run were a command.
 pub no_usage : (v : Voice) (p : Spelling Request) (kind : PlaceKind) (limit : ℕ) (source : Taking) (port : Moments) → ImageRan status.Usage v p kind limit source port → ⊥
 no_usage v p kind limit source port ran = elim ran.these [ inl closed ↦ closed.why | inr asked ↦ asked ]
+
+-- nor of frames in groups
+pub no_usage_groups : (v : Voice) (p : Spelling Request) (kind : PlaceKind) (limit : ℕ) (source : Taking) (port : Moments) → ImageRanInGroups status.Usage v p kind limit source port → ⊥
+no_usage_groups v p kind limit source port ran = elim ran.these [ inl closed ↦ closed.why | inr asked ↦ asked ]
 
 -- nor was it none where the disk was made first
 pub no_usage_fresh : (v : Voice) (p : Spelling Request) (kind : PlaceKind) (w : World) (limit : ℕ) (source : Taking) (port : Moments) → FreshRan status.Usage v p kind w limit source port → ⊥

@@ -47,8 +47,8 @@ pub record IsLeftByAccess (v : Voice) (kind : PlaceKind) (w : World) (before : L
   pub by_access : (done ahead : List Request) → asked ≡ done ++ ahead → IsByAccess kind w run.wants done
   pub by_grants : (done ahead : List Request) → asked ≡ done ++ ahead → IsByGrants kind w run.wants done
 
--- So it is in every image that a crash at any moment leaves, and at the end: of `run` and `serve`, over an image in
--- which nothing is loose and which stands for a world.
+-- So it is in every image that a crash at any moment leaves, and at the end: of `run`, `serve` and `group`, over an
+-- image in which nothing is loose and which stands for a world.
 abbrev pub LeavesByAccess : Spelling Request → Voice → PlaceKind → Taking → Moments → Type 0
 LeavesByAccess p v kind source port =
     IsFirm port.old → (w : World) → Stands port.old.reads w
@@ -57,4 +57,7 @@ LeavesByAccess p v kind source port =
 abbrev pub AccessLaw : Command → Taking → Moments → Type 0
 AccessLaw (command.Run kind) source port = LeavesByAccess line_spelling line_voice kind source port
 AccessLaw (command.Serve kind) source port = LeavesByAccess frame_spelling frame_voice kind source port
+AccessLaw (command.Group kind) source port =
+    IsFirm port.old → (w : World) → Stands port.old.reads w
+    → ∥ EachCrashLeaves frame_spelling source port (IsLeftByAccess frame_voice kind w port.old.sent) ∥₁
 AccessLaw words source port = ⊤

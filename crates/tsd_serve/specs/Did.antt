@@ -35,6 +35,7 @@ use Rattle.image_runs.specs.Fresh.{FreshRan, single_world}
 use Rattle.image_runs.specs.Opened.{IsJudged, IsNotImage}
 use Rattle.image_runs.specs.Served.{ImageRan}
 use Rattle.image_shell.specs.Served.{IsShellJudged, ShellRan}
+use Rattle.tsd_serve.specs.Grouped.{OpenedInGroups}
 
 -- What a command that opens an image leaves alone. Of one that stands for no world: where it fails one of the first
 -- three tests, of the format gate, the journal and the header, nothing was written, and the disk reads as before. Where
@@ -142,6 +143,8 @@ Did (Some (command.Format words)) r source port = source.untouched × Formatted 
 Did (Some (command.Run kind)) r source port = Opened r line_voice line_spelling kind source port
 Did (Some (command.Serve kind)) r source port =
     HasNoCutter r source port ⊎ Opened r frame_voice frame_spelling kind source port
+Did (Some (command.Group kind)) r source port =
+    HasNoCutter r source port ⊎ OpenedInGroups r frame_voice frame_spelling kind source port
 Did (Some (command.Shell shell)) r source port = Mounted r shell source port
 Did (Some command.Check) r source port = source.untouched × Checked telling.Clean r port
 Did (Some command.Info) r source port = source.untouched × Checked telling.Info r port

@@ -48,8 +48,9 @@ pub record EachCrashLeaves (p : Spelling Request) (source : Taking) (port : Mome
   pub are : AreOf p bytes asked
   pub any_moment : LeavesOnly port.old port.new (P asked)
 
--- The headline. `run` and `serve` begin with an image in which nothing is loose and which stands for a world; `fresh`
--- with any, and until its format is done a crash may also leave what formatting leaves.
+-- The headline. `run`, `serve` and `group` begin with an image in which nothing is loose and which stands for a world;
+-- `fresh` with any, and until its format is done a crash may also leave what formatting leaves. Of `group` there is a
+-- record of what each crash leaves, and none is picked.
 abbrev pub Headline : Command → Taking → Moments → Type 0
 Headline (command.Run kind) source port =
     IsFirm port.old → (w : World) → Stands port.old.reads w
@@ -57,6 +58,9 @@ Headline (command.Run kind) source port =
 Headline (command.Serve kind) source port =
     IsFirm port.old → (w : World) → Stands port.old.reads w
     → EachCrashLeaves frame_spelling source port (IsPrefixLeft frame_voice kind w port.old.sent)
+Headline (command.Group kind) source port =
+    IsFirm port.old → (w : World) → Stands port.old.reads w
+    → ∥ EachCrashLeaves frame_spelling source port (IsPrefixLeft frame_voice kind w port.old.sent) ∥₁
 Headline (command.Fresh fresh) source port =
     let w = single_world fresh.geometry fresh.caps in
     EachCrashLeaves line_spelling source port (λ asked x sent. (IsFormatting port.old w x sent × (sent ≡ port.old.sent))

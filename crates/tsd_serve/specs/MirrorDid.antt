@@ -95,7 +95,7 @@ pub record DidCopy (told : Type 0) (r : MirrorStatus) (source : Taking) (old new
   pub status : r ≡ Ended status.DeviceFault
   pub untaken : source.untouched
   pub broken_off : IsBrokenOff old new
-  pub left : told → Copying old new
+  pub left : told → ∥ Copying old new ∥₁
 
 -- ---- the headline on each side
 
@@ -133,6 +133,9 @@ MirrorHeadline (command.Run kind) source old new =
 MirrorHeadline (command.Serve kind) source old new =
     IsFirm (first_view old) → (w : World) → Stands old.first.reads w
     → EachSideKeeps frame_spelling source old new (IsPrefixLeft frame_voice kind w old.sent)
+MirrorHeadline (command.Group kind) source old new =
+    IsFirm (first_view old) → (w : World) → Stands old.first.reads w
+    → ∥ EachSideKeeps frame_spelling source old new (IsPrefixLeft frame_voice kind w old.sent) ∥₁
 MirrorHeadline (command.Fresh fresh) source old new =
     let w = single_world fresh.geometry fresh.caps in
     EachSideKeeps line_spelling source old new (λ asked x sent. (IsFormatting (first_view old) w x sent

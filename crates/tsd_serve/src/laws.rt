@@ -15,17 +15,24 @@ use image_device::{Port, Source};
 /// that holds every request whose reply was sent; each reply sent is the one that the abstract disk gives at that
 /// point.
 pub fn acknowledged_requests_stay<S: Source, P: Port>()
+    /// promise: **For every list of requests of interleaved sessions, and a crash before or within any sector write,
+    /// the image left stands for the world after some prefix of those requests that holds every request whose reply was
+    /// sent; each reply sent is the one that the abstract disk gives at that point.**
     ensures { (words : Words) (status : Ended) (source_old source_new : S) (port_old port_new : P)
         → let source = taking S.told S.taken S.left_bytes S.ended source_old source_new in
         let port = moments P.told P.view port_old port_new in
         Did (Some words) status source port → P.told → Headline words source port }
 {}
 
-/// The law of access, from the same clause: in every image that a crash leaves after `run` or `serve`, and in every
-/// reply, what of a block's bytes, pointers and capabilities differs from the start was changed by a session that
+/// The law of access, from the same clause: in every image that a crash leaves after `run`, `serve` or `group`, and in
+/// every reply, what of a block's bytes, pointers and capabilities differs from the start was changed by a session that
 /// attained write there, by a capability that it showed or along a pointer from where it was granted write. What no
 /// session could reach is as it was, and no reply depends on its bytes.
 pub fn changes_are_by_access<S: Source, P: Port>()
+    /// promise: **Who changed what.** After `run`, `serve` or `group`, in every image that a crash leaves and in every
+    /// reply: what of the start's blocks differs was changed by a session with write access there, by a capability that
+    /// it showed or along a pointer from where it was granted write. What no session could reach is as it was, and no
+    /// reply depends on its bytes.
     ensures { (words : Words) (status : Ended) (source_old source_new : S) (port_old port_new : P)
         → let source = taking S.told S.taken S.left_bytes S.ended source_old source_new in
         let port = moments P.told P.view port_old port_new in

@@ -1,8 +1,9 @@
 //! The program as one call: command words, an input, and an image with an output beside it.
 //!
-//! What it stands on: runs over an image (`image_runs`), over the tree of files in one (`image_shell`) and over what of
-//! one is reached (`audit_runs`), copies of such a tree (`image_copy`), the outside (`image_device`), lines
-//! (`script_text`) and frames (`request_frames`), placements (`place_policy`), and words and statuses (`tsd_words`).
+//! What it stands on: runs over an image (`image_runs`), also in groups (`image_groups`), over the tree of files in one
+//! (`image_shell`) and over what of one is reached (`audit_runs`), copies of such a tree (`image_copy`), the outside
+//! (`image_device`), lines (`script_text`) and frames (`request_frames`), placements (`place_policy`), and words and
+//! statuses (`tsd_words`).
 //!
 //! What it promises: [`tsd`] does what its words say, or is Usage where they are no command, and then has
 //! called nothing. By command and status it says what came in, which requests that holds, what was sent, what a crash
@@ -12,6 +13,8 @@
 //! sent. [`changes_are_by_access`] reads off it who changed what (`specs/Access.antt`).
 #![tactic(auto)]
 
+mod first;
+mod grouped;
 mod laws;
 mod mirror;
 mod mirror_status;

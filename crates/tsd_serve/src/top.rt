@@ -9,6 +9,7 @@ ghost use Rattle.tsd_serve.specs.Prompt.{AnswersPromptly};
 ghost use Rattle.tsd_words.specs.Words.{IsInLimits, command_of};
 ghost use Rattle.tsd_words.specs.declared.commands.Command.TheVariants as command;
 
+use crate::grouped::group_frames;
 use audit_runs::{audit_image, verify_image};
 use fs_trees::ShellKind;
 use image_copy::copy_image;
@@ -27,13 +28,13 @@ use tsd_words::{Command, Fresh, Shell, Status, command};
 
 /// Does what the words say over the image beside the port: `fresh BLOCKS SECTORS READCAP WRITECAP PLACE` formats it and
 /// answers the lines of the input until it ends, `run PLACE` opens it and answers lines, `serve PLACE` opens it and
-/// answers frames. `shell KIND ROOT CAP PLACE` opens it, mounts the tree of files under a block, and answers lines on
-/// that. `format BLOCKS SECTORS SLOTS PRIMARIES SEED` makes a disk, `check` and `info` tell what an image is, `load
+/// answers frames, `group PLACE` as well, with group commit. `shell KIND ROOT CAP PLACE` opens it, mounts the tree of
+/// files under a block, and answers lines on that. `format BLOCKS SECTORS SLOTS PRIMARIES SEED` makes a disk, `check` and `info` tell what an image is, `load
 /// SEED COUNT PLACE` carries out the requests of a seed, and `upgrade` has an image keep digests in place of
 /// capabilities. `audit` puts a certificate of which blocks are reached, and `verify` reads one and tells what it
 /// shows. `copyfs KIND ROOT CAP KIND ROOT CAP PLACE` copies the tree of files under one block to another block.
 ///
-/// Each reply is put whole before the next request is carried out.
+/// Each reply is put whole before the next request is carried out; by `group` once all of its group are committed.
 #[tactic(auto, using(crate::proofs::Statuses::no_usage_ending, crate::proofs::Statuses::no_source_ending))]
 pub fn tsd<S: Source, P: Port>(
     alloc: Global,
@@ -43,20 +44,30 @@ pub fn tsd<S: Source, P: Port>(
     places: &PlaceBook,
 ) -> Status
     // Usage comes exactly where the words are no command, and before any call.
+    /// promise (with untouched_source, untouched_port): Usage comes exactly where the words are no command, and before
+    /// any call.
     ensures usage { (result ≡ Status.Usage) ↔ (command_of (map string_bytes words.now.items) ≡ None) }
     ensures untouched_source { result ≡ Status.Usage → source.new ≡ source.old }
     ensures untouched_port { result ≡ Status.Usage → port.new ≡ port.old }
     // By command and status: what came in, what was sent, what a crash at any moment may have left, and what the disk
     // is after Done.
+    /// promise: **The headline, as a clause of the call that the program makes**: by command and status what came in,
+    /// what was sent, what a crash at any moment may have left, and what the disk is after Done.
     ensures did { Did (command_of (map string_bytes words.now.items)) result
         (taking S.told S.taken S.left_bytes S.ended source.old source.new) (moments P.told P.view port.old port.new) }
     // What is written before each reply has a bound, and what is written behind it; where the input was cut short,
     // nothing is done behind the last one but that.
+    /// promise: With `run`, `serve` and `fresh` each reply is sent whole when so often was written since its request
+    /// came as is said of `serve_core`, and at most 400 writes come after it; after SourceFault, TooLong and Truncated
+    /// nothing is written but these.
     ensures prompt { P.told → AnswersPromptly (command_of (map string_bytes words.now.items)) result P.view port.old
         port.new }
     // Nothing more is taken once the end was found.
+    /// promise: Nothing is taken after the end of the input was found.
     ensures once { EndsOnce (S.ends source.old) (S.ends source.new) }
     // A count of faults rose only where the status is that fault's.
+    /// promise (with device_fault, put_fault, no_source_fault, no_device_fault, no_put_fault): A count of faults rose
+    /// exactly where the status is that fault's.
     ensures source_fault { result ≡ Status.SourceFault → Rose (S.faults source.old) (S.faults source.new) }
     ensures device_fault { result ≡ Status.DeviceFault → Rose (P.view port.old).faults (P.view port.new).faults }
     ensures put_fault { result ≡ Status.PutFault → Rose (P.view port.old).put_faults (P.view port.new).put_faults }
@@ -102,6 +113,7 @@ pub(crate) fn obey<S: Source, P: Port>(
         Command::Format(words) => format_image(port, &words),
         Command::Run(kind) => run_lines(alloc, kind, source, port, places),
         Command::Serve(kind) => run_frames(alloc, kind, source, port, places),
+        Command::Group(kind) => group_frames(alloc, kind, source, port, places),
         Command::Shell(shell) => shell_lines(alloc, &shell, source, port, places),
         Command::Check => check_image(alloc, port, Telling::Clean),
         Command::Info => check_image(alloc, port, Telling::Info),

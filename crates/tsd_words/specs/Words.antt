@@ -126,11 +126,12 @@ alone_of name =
     (cond (bytes_eq name (codes "audit")) (Some command.Audit)
     (cond (bytes_eq name (codes "verify")) (Some command.Verify) None))))
 
--- run PLACE; serve PLACE
+-- run PLACE; serve PLACE; group PLACE
 unfoldable pub served_of : List ℕ → List ℕ → Option Command
 served_of name placement =
     cond (bytes_eq name (codes "run")) (option_map (λ kind. command.Run kind) (kind_of placement))
-    (cond (bytes_eq name (codes "serve")) (option_map (λ kind. command.Serve kind) (kind_of placement)) None)
+    (cond (bytes_eq name (codes "serve")) (option_map (λ kind. command.Serve kind) (kind_of placement))
+    (cond (bytes_eq name (codes "group")) (option_map (λ kind. command.Group kind) (kind_of placement)) None))
 
 -- fresh BLOCKS SECTORS READCAP WRITECAP PLACE; format BLOCKS SECTORS SLOTS PRIMARIES SEED
 unfoldable pub made_of : List ℕ → List ℕ → List ℕ → List ℕ → List ℕ → List ℕ → Option Command

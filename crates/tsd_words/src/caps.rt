@@ -13,6 +13,7 @@ const CAP_LINE_ROOM: usize = 100;
 
 /// A line for each primary block, with its capabilities.
 pub fn cap_lines(caps: &CapList) -> OutBuf
+    /// promise: The lines that `format` prints: each primary block with its capabilities.
     ensures { result ≡ cap_lines 0 caps.now }
 {
     let mut lines = OutBuf::new();

@@ -102,6 +102,9 @@ pub enum Command {
     /// Opens an image, and answers requests as frames.
     Serve(PlaceKind),
 
+    /// Opens an image, and answers requests as frames: those that come together are committed together.
+    Group(PlaceKind),
+
     /// Opens an image, mounts the tree under a block, and answers the lines of the shell.
     Shell(Shell),
 

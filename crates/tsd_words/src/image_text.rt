@@ -17,6 +17,7 @@ const REST_ROOM: usize = 45;
 
 /// Replaces the bytes by the text of what is wrong and a line feed.
 pub fn image_line(fault: &ImageFault, into: &mut OutBuf)
+    /// promise: The line of the first test that an image fails.
     ensures { into.new ≡ fault_text fault.now ++ 10 ∷ [] }
 {
     into.clear();

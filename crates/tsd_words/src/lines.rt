@@ -45,6 +45,7 @@ pub struct Summary {
 
 /// The line of an image that stands for a world.
 pub fn clean_line(live: u32, free: u32, pointers: u32) -> OutBuf
+    /// promise: The line that `check` prints of a world.
     ensures { result ≡ line_of (clean_words live free pointers) }
 {
     let mut line = OutBuf::new();
@@ -61,6 +62,7 @@ pub fn clean_line(live: u32, free: u32, pointers: u32) -> OutBuf
 pub fn info_lines(version: u32, size: &Geometry, free: u32, pointers: u32) -> OutBuf
     requires lawful { IsLawful size.now }
     requires some { free ≤ size.now.blocks }
+    /// promise: The lines that `info` prints of a world.
     ensures { result ≡ info_lines version size.now free pointers }
 {
     let bytes = u64::from(Layout::of(size).total()) * SECTOR_BYTES;

@@ -66,6 +66,7 @@ impl Status {
 /// Replaces the bytes by the text of a status and a line feed. A run that is done has no text.
 pub fn status_line(status: &Status, into: &mut OutBuf)
     requires { status.now ≢ Status.Done }
+    /// promise: The line of the status.
     ensures { into.new ≡ status_text status.now ++ 10 ∷ [] }
 {
     into.clear();

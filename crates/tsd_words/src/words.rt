@@ -18,6 +18,7 @@ use tsd_model::{CapPair, Geometry, PlaceKind};
 
 /// The command that the words spell, without the image's name before them; none where they spell none.
 pub fn command(words: &Vec<String>) -> Option<Command>
+    /// promise (with limits): The command that the words spell, exactly by the definition.
     ensures value { result ≡ command_of (map string_bytes words.now.items) }
     ensures limits { IfSome result IsInLimits }
 {
@@ -98,7 +99,7 @@ fn alone(name: &[u8]) -> Option<Command>
     }
 }
 
-/// `run PLACE` and `serve PLACE`.
+/// `run PLACE`, `serve PLACE` and `group PLACE`.
 #[tactic(auto, unfolding(crate::specs::Words::served_of))]
 fn served(name: &[u8], placement: &[u8]) -> Option<Command>
     ensures value { result ≡ served_of name.now placement.now }
@@ -108,6 +109,8 @@ fn served(name: &[u8], placement: &[u8]) -> Option<Command>
         Some(Command::Run(kind(placement)?))
     } else if name == b"serve".as_slice() {
         Some(Command::Serve(kind(placement)?))
+    } else if name == b"group".as_slice() {
+        Some(Command::Group(kind(placement)?))
     } else {
         None
     }

@@ -30,6 +30,7 @@ impl Volume {
         requires ready { IsVolumeReady self.old }
         requires unspent { self.old.is_spent ≡ false }
         requires at { D.told → IsVolumeAt self.old (D.view dev.old) }
+        /// promise (with cost, once): As for `write_block`; the world afterwards has the new pair.
         ensures operation { IsOperation D.told [] (λ w. with_caps w block (kept self.old.tables.version caps.now))
             self.old self.new (D.view dev.old) (D.view dev.new) result }
         ensures cost { IsWithin D.told (owed self.old.tables) (batch_cost 1) (checkpoint_writes

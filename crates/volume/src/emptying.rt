@@ -20,6 +20,8 @@ impl Volume {
     pub fn empty_ring<D: Device>(&mut self, dev: &mut D) -> Result<(), Failed>
         requires unspent { self.old.is_spent ≡ false }
         requires at { D.told → IsVolumeAt self.old (D.view dev.old) }
+        /// promise (with same, closed): All records are in place and all gates of the journal closed; nothing else of
+        /// the volume changes.
         ensures operation { IsOperation D.told [] (λ w. w) self.old self.new (D.view dev.old) (D.view dev.new) result }
         ensures cost { IsWithin D.told (owed self.old.tables) 0 (checkpoint_writes self.old.ring) self.old self.new
             (D.view dev.old) (D.view dev.new) result }

@@ -36,6 +36,8 @@ impl Volume {
     pub fn finish<D: Device>(&mut self, dev: &mut D) -> Result<u32, Failed>
         requires unspent { self.old.is_spent ≡ false }
         requires at { D.told → IsVolumeAt self.old (D.view dev.old) }
+        /// promise (with settled): A sweep and a reclamation that the image holds are ended; the world stays, and
+        /// nothing is doomed afterwards.
         ensures operation { IsOperation D.told [] (λ w. w) self.old self.new (D.view dev.old) (D.view dev.new) result }
         ensures cost { self.old.tables.is_sweeping ≡ false → IsWithin D.told (owed self.old.tables) 0 (due self.old)
             self.old self.new (D.view dev.old) (D.view dev.new) result }
@@ -47,6 +49,8 @@ impl Volume {
         ensures ready { OnOk result (IsVolumeReady self.new) }
 
         // Whether a sweep is open or not: at most what the image has left to be written.
+        /// promise (with uses, cost): At most what the tables leave to be written: 5 for each pair and block that is
+        /// doomed or, where a sweep is open, 7 for each that it still takes away and 5 for its flag.
         ensures paid { OnOk result ((D.view dev.new).writes + due self.new
             ≤ (D.view dev.old).writes + left_due self.old) }
         ensures uses { Uses (left_due self.old) (D.view dev.old) (D.view dev.new) }

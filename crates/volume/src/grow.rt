@@ -44,6 +44,8 @@ impl Volume {
         requires ready { IsVolumeReady self.old }
         requires unspent { self.old.is_spent ≡ false }
         requires at { D.told → IsVolumeAt self.old (D.view dev.old) }
+        /// promise (with cost): As for `write_block`; in the world afterwards these blocks are live, with zeros in them
+        /// and a pointer to each from the source.
         ensures operation { IsOperation D.told blocks.now (λ w. with_new_blocks w source blocks.now) self.old self.new
             (D.view dev.old) (D.view dev.new) result }
         ensures cost { IsWithin D.told (owed self.old.tables) (zeroed_cost self.old.tables.geometry
@@ -52,11 +54,14 @@ impl Volume {
 
         // Behind the records of what was reclaimed comes one batch; the journal is emptied before it only where it
         // holds a sector of these blocks, or has no room.
+        /// promise: One batch comes after the records of what was reclaimed; the journal is emptied before it only
+        /// where it holds a sector of the new blocks, or has no room.
         ensures ring { OnOk result ((mid : List JournalRecord) × HasBatches (owed self.old.tables) 33 self.old.ring mid
             × HasNewBlocks self.old.tables.geometry blocks.now mid self.new.ring) }
 
         ensures version { self.new.tables.version ≡ self.old.tables.version }
         ensures told { OnOk result (told_by self.new ≡ with_new_blocks (told_by self.old) source blocks.now) }
+        /// promise: What is doomed is reclaimed first: nothing is doomed afterwards.
         ensures settled { OnOk result (owed self.new.tables ≡ 0) }
         ensures ready { OnOk result (IsVolumeReady self.new) }
     {

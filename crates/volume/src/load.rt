@@ -54,6 +54,8 @@ impl Volume {
         requires formatted { D.told → IsFormatGateOpen (D.view dev.old).reads }
         requires closed { D.told → AreClosed (D.view dev.old).reads }
         requires header { D.told → IsHeaderReading ((D.view dev.old).reads header_sector) (Ok header.now) }
+        /// promise: The tables of the image, or the first of the tests 4 to 8 of opening that fails, with its least
+        /// slot, pair or block.
         ensures read { D.told → AnswersVolume (D.view dev.old).reads result }
         ensures at { D.told → IfOk result (λ v. IsVolumeAt v (D.view dev.new)) }
         ensures of_header { IfOk result (λ v. (v.tables.version ≡ header.now.version)
@@ -62,6 +64,7 @@ impl Volume {
         ensures unfinished { IfOk result (λ v. v.is_ready ≡ false) }
         ensures unspent { IfOk result (λ v. v.is_spent ≡ false) }
         ensures rests { D.told → Rests (D.view dev.old) (D.view dev.new) }
+        /// promise: Nothing is written.
         ensures uses { Uses 0 (D.view dev.old) (D.view dev.new) }
         ensures faults { CountsFaultOf VolumeFault.Device result (D.view dev.old).faults (D.view dev.new).faults }
     {

@@ -40,6 +40,7 @@ impl Volume {
         requires ready { IsVolumeReady self.old }
         requires unspent { self.old.is_spent ≡ false }
         requires at { D.told → IsVolumeAt self.old (D.view dev.old) }
+        /// promise (with cost, once): As for `write_block`; the world afterwards has the pointer.
         ensures operation { IsOperation D.told [] (λ w. with_pointer w source target) self.old self.new (D.view dev.old)
             (D.view dev.new) result }
         ensures cost { IsWithin D.told (owed self.old.tables) (batch_cost 2) (due self.old + batch_cost 2) self.old
@@ -49,6 +50,8 @@ impl Volume {
         ensures version { self.new.tables.version ≡ self.old.tables.version }
         ensures told { OnOk result (told_by self.new ≡ with_pointer (told_by self.old) source target) }
         ensures ready { OnOk result (IsVolumeReady self.new) }
+        /// promise (with unsettled, uses_few): What is doomed is reclaimed first exactly where the pairs on the disk
+        /// take all slots.
         ensures settled { length (pairs_of self.old.tables) ≡ self.old.tables.geometry.slots
             → OnOk result (owed self.new.tables ≡ 0) }
         ensures unsettled { length (pairs_of self.old.tables) ≢ self.old.tables.geometry.slots
@@ -76,6 +79,8 @@ impl Volume {
         requires ready { IsVolumeReady self.old }
         requires unspent { self.old.is_spent ≡ false }
         requires at { D.told → IsVolumeAt self.old (D.view dev.old) }
+        /// promise (with cost, once): As for `write_block`; the world afterwards is without the pointer and without
+        /// what hung on it. It is one batch, so a deletion is answered before anything is reclaimed.
         ensures operation { IsOperation D.told [] (λ w. settle (without_pointer w source target)) self.old self.new
             (D.view dev.old) (D.view dev.new) result }
         ensures cost { let gone = made (told_by self.old) source target in IsWithin D.told (owed
@@ -84,6 +89,7 @@ impl Volume {
         ensures once { CommitsOnce 2 self.old self.new (D.view dev.old) (D.view dev.new) result }
         ensures version { self.new.tables.version ≡ self.old.tables.version }
         ensures told { OnOk result (told_by self.new ≡ settle (without_pointer (told_by self.old) source target)) }
+        /// promise: The answer is how many blocks the deletion doomed.
         ensures lost { IfOk result (λ count. count ≡ free_count (told_by self.new) - free_count (told_by self.old)) }
         ensures ready { OnOk result (IsVolumeReady self.new) }
         ensures owed { OnOk result (owed self.new.tables + 1 ≡ owed self.old.tables + made (told_by self.old) source

@@ -29,11 +29,13 @@ impl Volume {
         requires unspent { self.old.is_spent ≡ false }
         requires at { D.told → IsVolumeAt self.old (D.view dev.old) }
         ensures operation { IsOperation D.told [] (λ w. w) self.old self.new (D.view dev.old) (D.view dev.new) result }
+        /// promise (with rests): Nothing is written.
         ensures cost { IsWithin D.told (owed self.old.tables) 0 0 self.old self.new (D.view dev.old)
             (D.view dev.new) result }
         ensures rests { D.told → Rests (D.view dev.old) (D.view dev.new) }
         ensures version { self.new.tables.version ≡ self.old.tables.version }
         ensures same { OnOk result (self.new ≡ self.old) }
+        /// promise (with operation): The bytes of the block in the world for which the device stands, which stays.
         ensures bytes { D.told → OnOk result (contents (world_on (D.view dev.old)) block ≡ Some into.new) }
         ensures full { OnOk result (length into.new ≡ block_len self.old.tables.geometry) }
     {

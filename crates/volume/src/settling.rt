@@ -33,17 +33,21 @@ impl Volume {
         requires ready { IsVolumeReady self.old }
         requires unspent { self.old.is_spent ≡ false }
         requires at { D.told → IsVolumeAt self.old (D.view dev.old) }
+        /// promise (with told): The world stays.
         ensures operation { IsOperation D.told [] (λ w. w) self.old self.new (D.view dev.old) (D.view dev.new) result }
         ensures cost { IsWithin D.told (owed self.old.tables) 0 (due self.old) self.old self.new (D.view dev.old)
             (D.view dev.new) result }
         ensures version { self.new.tables.version ≡ self.old.tables.version }
         ensures told { OnOk result (told_by self.new ≡ told_by self.old) }
+        /// promise (with few_blocks, few, ring): Four steps are made, or as many as are left, and no more: at most four
+        /// blocks, 64 pairs from them, and four batches.
         ensures steps { OnOk result ((owed self.new.tables + 4 ≤ owed self.old.tables)
             ⊎ (owed self.new.tables ≡ 0)) }
         ensures few { OnOk result (owed self.old.tables ≤ owed self.new.tables + 68) }
         ensures few_blocks { OnOk result (length (doomed (graph_in self.old.tables))
             ≤ length (doomed (graph_in self.new.tables)) + 4) }
         ensures ring { OnOk result (HasBatches 4 33 self.old.ring self.new.ring) }
+        /// promise: Whether steps are left.
         ensures more { IfOk result (λ more. IsTrue more ↔ (0 < owed self.new.tables)) }
         ensures ready { OnOk result (IsVolumeReady self.new) }
         ensures uses { Uses (checkpoint_writes self.old.ring + 4 * batch_cost 33) (D.view dev.old) (D.view dev.new) }
@@ -62,6 +66,7 @@ impl Volume {
         requires ready { IsVolumeReady self.old }
         requires unspent { self.old.is_spent ≡ false }
         requires at { D.told → IsVolumeAt self.old (D.view dev.old) }
+        /// promise (with ring, lowered, none): One step of reclamation in one batch, if one is left; the world stays.
         ensures operation { IsOperation D.told [] (λ w. w) self.old self.new (D.view dev.old) (D.view dev.new) result }
         ensures cost { IsWithin D.told (owed self.old.tables) 0 (due self.old) self.old self.new (D.view dev.old)
             (D.view dev.new) result }
@@ -81,6 +86,7 @@ impl Volume {
         requires ready { IsVolumeReady self.old }
         requires unspent { self.old.is_spent ≡ false }
         requires at { D.told → IsVolumeAt self.old (D.view dev.old) }
+        /// promise (with settled): All steps that are left; the world stays, and nothing is doomed afterwards.
         ensures operation { IsOperation D.told [] (λ w. w) self.old self.new (D.view dev.old) (D.view dev.new) result }
         ensures cost { IsWithin D.told (owed self.old.tables) 0 (due self.old) self.old self.new (D.view dev.old)
             (D.view dev.new) result }

@@ -30,6 +30,8 @@ impl Volume {
         requires ready { IsVolumeReady self.old }
         requires unspent { self.old.is_spent ≡ false }
         requires at { D.told → IsVolumeAt self.old (D.view dev.old) }
+        /// promise: As for `write_block`; the world afterwards is the swept one, and every image on the way stands for
+        /// the one or the other.
         ensures operation { IsOperation D.told [] swept self.old self.new (D.view dev.old) (D.view dev.new) result }
         ensures version { self.new.tables.version ≡ self.old.tables.version }
         ensures told { OnOk result (told_by self.new ≡ swept (told_by self.old)) }
@@ -38,6 +40,8 @@ impl Volume {
         ensures ready { OnOk result (IsVolumeReady self.new) }
 
         // At most 7 writes for each block and pair that it takes away, and 10 for its flag, beside what was due.
+        /// promise (with uses): At most 7 writes for each block and pair that it takes away and 10 for its flag, beside
+        /// what was due.
         ensures paid { OnOk result (IsPaid (sweep_cost (told_by self.old)) self.old (D.view dev.old) self.new
             (D.view dev.new)) }
         ensures uses { Uses (due self.old + sweep_cost (told_by self.old)) (D.view dev.old) (D.view dev.new) }

@@ -27,12 +27,15 @@ impl Volume {
         requires ready { IsVolumeReady self.old }
         requires unspent { self.old.is_spent ≡ false }
         requires at { D.told → IsVolumeAt self.old (D.view dev.old) }
+        /// promise: As for `write_block`; the world afterwards has digests in place of capabilities.
         ensures operation { IsOperation D.told [] upgraded self.old self.new (D.view dev.old) (D.view dev.new) result }
         ensures cost { IsWithin D.told (owed self.old.tables) (batch_cost 3 + 113) (checkpoint_writes
             self.old.ring + batch_cost 3 + 113) self.old self.new (D.view dev.old) (D.view dev.new) result }
         ensures none { self.old.tables.version ≡ 2
             → (D.view dev.new).writes ≤ (D.view dev.old).writes + checkpoint_writes self.old.ring + 113 }
         ensures told { OnOk result (told_by self.new ≡ upgraded (told_by self.old)) }
+        /// promise (with closed, erased, none): Afterwards the ring is empty, its gates are closed and its bodies read
+        /// as zeros; of version 2 no more is written than that takes.
         ensures ring { OnOk result (self.new.ring ≡ []) }
         ensures closed { D.told → OnOk result (AreClosed (D.view dev.new).reads) }
         ensures erased { D.told → OnOk result ((n : ℕ) → 4 ≤ n → n ≤ 116 → (D.view dev.new).reads n

@@ -34,11 +34,19 @@ impl Volume {
         requires ready { IsVolumeReady self.old }
         requires unspent { self.old.is_spent ≡ false }
         requires at { D.told → IsVolumeAt self.old (D.view dev.old) }
+        /// promise: **Whole or absent.** After Ok the device stands for exactly the world with these bytes; every image
+        /// that a crash at any moment may leave, also inside a call that then fails, stands for the world before or the
+        /// world after; nothing is sent; and the data of all other blocks, and what lies after the image, stays in each
+        /// of them. `Failed` comes only where the device's count of faults rose, and then the volume is spent.
         ensures operation { IsOperation D.told (block ∷ []) (λ w. written w block bytes.now) self.old self.new
             (D.view dev.old) (D.view dev.new) result }
+        /// promise: Each such image has at most so much still to be reclaimed as there was; and the writes of the call,
+        /// and what is to be written later for it, have a bound, so that the bound of a whole run follows by addition.
         ensures cost { IsWithin D.told (owed self.old.tables) (batch_cost self.old.tables.geometry.sectors)
             (checkpoint_writes self.old.ring + batch_cost self.old.tables.geometry.sectors) self.old self.new
             (D.view dev.old) (D.view dev.new) result }
+        /// promise: At most one batch is committed after the records that stay; these are put in place first only where
+        /// they leave no room for it, and nothing else is written.
         ensures once { CommitsOnce self.old.tables.geometry.sectors self.old self.new (D.view dev.old)
             (D.view dev.new) result }
         ensures version { self.new.tables.version ≡ self.old.tables.version }

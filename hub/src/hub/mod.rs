@@ -209,6 +209,9 @@ impl Hub<'_> {
 
     /// How long may be waited.
     fn patience(&self) -> Option<Duration> {
+        if let Some(time) = self.time_to_round() {
+            return Some(time);
+        }
         let has_guests = self.slots[SESSIONS + 1..].iter().any(|slot| matches!(slot, Slot::Taken(_)));
         if !self.joiners.is_empty() || has_guests {
             return Some(TICK);

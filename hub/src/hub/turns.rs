@@ -4,9 +4,12 @@
 //! client goes, then the changes of one round, and then the next reads: so a read waits for one round of changes at
 //! most, and a change for one read of each client. While no change waits, reads go as long as the disk has less than it
 //! takes to be busy.
+//!
+//! Where changes share their syncs, a round waits a little for the clients that the round before has answered: those
+//! that change one thing after another come together then, in place of by turns in two rounds of half as many.
 
 use std::collections::VecDeque;
-use std::time::Instant;
+use std::time::{Duration, Instant};
 
 use super::{Hub, NotServed, Slot, To, SESSIONS};
 use crate::buffer::frame_end;
@@ -22,6 +25,10 @@ const MICROS_OF_ROUND: f64 = 1000.0;
 const SHARING: usize = 64;
 /// By this part the last round counts in how long a change takes.
 const WEIGHT: f64 = 0.25;
+/// A round that shares its syncs waits for clients for one of so many parts of the time that the round before took.
+const PARTS_TO_WAIT: u32 = 4;
+/// It waits so long at most.
+const MOST_TO_WAIT: Duration = Duration::from_millis(10);
 
 /// The row of the clients that have a request.
 pub struct Turns {
@@ -30,6 +37,9 @@ pub struct Turns {
     row: VecDeque<usize>,
     changes_at_disk: usize,
     reads_went: bool,
+    /// A bit for each slot whose client is awaited.
+    awaited: u128,
+    waits_until: Option<Instant>,
     round: Option<(Instant, usize)>,
     micros_of_change: f64,
 }
@@ -37,21 +47,48 @@ pub struct Turns {
 impl Turns {
     /// Of no clients.
     pub fn new(shares: bool) -> Turns {
-        let row = VecDeque::new();
-        Turns { shares, row, changes_at_disk: 0, reads_went: false, round: None, micros_of_change: MICROS_OF_ROUND }
+        Turns {
+            shares,
+            row: VecDeque::new(),
+            changes_at_disk: 0,
+            reads_went: false,
+            awaited: 0,
+            waits_until: None,
+            round: None,
+            micros_of_change: MICROS_OF_ROUND,
+        }
     }
 
     /// A client that has a request stands in the row, once.
     pub fn note(&mut self, slot: usize, client: &mut Client) {
-        if client.lying() > 0 && !client.is_in_row {
-            client.is_in_row = true;
-            self.row.push_back(slot);
+        if client.lying() > 0 {
+            self.awaited &= !(1 << slot);
+            if !client.is_in_row {
+                client.is_in_row = true;
+                self.row.push_back(slot);
+            }
         }
     }
 
     /// A client is gone.
     pub fn forget(&mut self, slot: usize) {
+        self.awaited &= !(1 << slot);
         self.row.retain(|other| *other != slot);
+    }
+
+    /// A client whose change was answered, and that has no other request: it may come with one soon.
+    fn await_change(&mut self, slot: usize, client: &Client) {
+        if self.shares && client.lying() == 0 {
+            self.awaited |= 1 << slot;
+        }
+    }
+
+    /// How long the next round waits for clients.
+    fn waits(&self, now: Instant) -> Duration {
+        match self.waits_until {
+            Some(until) if self.awaited != 0 && self.changes_at_disk == 0 => until.saturating_duration_since(now),
+            _ => Duration::ZERO,
+        }
     }
 
     fn most_changes(&self) -> usize {
@@ -64,13 +101,16 @@ impl Turns {
     fn begin_round(&mut self, count: usize, now: Instant) {
         self.changes_at_disk = count;
         self.reads_went = false;
+        self.awaited = 0;
         self.round = (count > 0).then_some((now, count));
     }
 
     fn end_change(&mut self, now: Instant) {
         self.changes_at_disk -= 1;
         if let (0, Some((begun, count))) = (self.changes_at_disk, self.round) {
-            let micros = now.saturating_duration_since(begun).as_micros() as f64 / count as f64;
+            let time = now.saturating_duration_since(begun);
+            self.waits_until = Some(now + (time / PARTS_TO_WAIT).min(MOST_TO_WAIT));
+            let micros = time.as_micros() as f64 / count as f64;
             self.micros_of_change += WEIGHT * (micros.max(1.0) - self.micros_of_change);
         }
     }
@@ -107,6 +147,19 @@ impl Hub<'_> {
         }
     }
 
+    /// How many whole milliseconds a round of changes waits; none where none does. Where it is less than one, which the
+    /// system can't wait, whoever has something to do may run meanwhile.
+    pub(super) fn time_to_round(&self) -> Option<Duration> {
+        let time = self.turns.waits(self.now);
+        if time.is_zero() || !self.has_waiting_change() {
+            return None;
+        }
+        if time < Duration::from_millis(1) {
+            std::thread::yield_now();
+        }
+        Some(Duration::from_millis(time.as_millis() as u64))
+    }
+
     fn has_waiting_change(&self) -> bool {
         self.turns.row.iter().any(|slot| match &self.slots[*slot] {
             Slot::Taken(client) => matches!(client.next(), Some(Asked::Change(_))),
@@ -119,7 +172,7 @@ impl Hub<'_> {
             self.round(Taking::Reads, usize::MAX);
             self.turns.reads_went = true;
         }
-        if !self.order.is_empty() {
+        if !self.order.is_empty() || !self.turns.waits(self.now).is_zero() {
             return;
         }
         let most = self.turns.most_changes();
@@ -224,16 +277,19 @@ impl Hub<'_> {
         match sent.to {
             To::Opening => self.open(body)?,
             To::Closed(slot) => self.free(slot),
-            To::Client(slot, generation) => self.give(slot, generation, body),
+            To::Client(slot, generation) => self.give(slot, generation, is_change, body),
         }
         Ok(None)
     }
 
-    fn give(&mut self, slot: usize, generation: u64, body: &[u8]) {
+    fn give(&mut self, slot: usize, generation: u64, is_change: bool, body: &[u8]) {
         let Slot::Taken(client) = &mut self.slots[slot] else { return };
         if client.generation == generation {
             client.at_disk -= 1;
             client.give(body);
+            if is_change {
+                self.turns.await_change(slot, client);
+            }
             if self.touched.last() != Some(&slot) {
                 self.touched.push(slot);
             }

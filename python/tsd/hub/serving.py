@@ -81,6 +81,9 @@ class Hub:
 
     def _patience(self) -> Optional[float]:
         """How many seconds may be waited."""
+        to_round = turns.seconds_to_round(self)
+        if to_round is not None:
+            return to_round
         if self.joiners or any(guest in self.slots for guest in GUESTS):
             return TICK
         times = [max(self.given.idle / 4, TICK)] if self.given.idle else []

@@ -3,6 +3,9 @@
 Reads go ahead, since they take microseconds and a change waits for syncs. While a change waits, one read of each client
 goes, then the changes of one round, and then the next reads: so a read waits for one round of changes at most, and a
 change for one read of each client. While no change waits, reads go as long as the disk has less than keeps it busy.
+
+Where changes share their syncs, a round waits a little for the clients that the round before has answered: those that
+change one thing after another come together then, in place of by turns in two rounds of half as many.
 """
 
 from __future__ import annotations
@@ -10,7 +13,7 @@ from __future__ import annotations
 import os
 import time
 from collections import deque
-from typing import TYPE_CHECKING, Deque, Optional
+from typing import TYPE_CHECKING, Deque, Optional, Set
 
 from tsd.errors import NoReply, Refused
 from tsd.frames import frame
@@ -32,6 +35,9 @@ SECONDS_OF_ROUND = 0.001
 SHARING = 64
 # By this part the last round counts in how long a change takes.
 WEIGHT = 0.25
+# A round that shares its syncs waits for clients this part of the time that the round before took, and at most so long.
+PART_TO_WAIT = 0.25
+MOST_SECONDS_TO_WAIT = 0.01
 REFUSED = b"\x08\x00"
 
 
@@ -44,20 +50,36 @@ class Turns:
         self.row: Deque[int] = deque()
         self.changes_at_disk = 0
         self.reads_went = False
+        self._awaited: Set[int] = set()
+        self._waits_until = 0.0
         self._begun = 0.0
         self._count = 0
         self._seconds_of_change = SECONDS_OF_ROUND
 
     def note(self, slot: int, client: Client) -> None:
         """A client that has a request stands in the row, once."""
-        if client.lying and not client.is_in_row:
-            client.is_in_row = True
-            self.row.append(slot)
+        if client.lying:
+            self._awaited.discard(slot)
+            if not client.is_in_row:
+                client.is_in_row = True
+                self.row.append(slot)
 
     def forget(self, slot: int) -> None:
         """A client is gone."""
+        self._awaited.discard(slot)
         if slot in self.row:
             self.row.remove(slot)
+
+    def await_change(self, slot: int, client: Client) -> None:
+        """A client whose change was answered, and that has no other request: it may come with one soon."""
+        if self.shares and not client.lying:
+            self._awaited.add(slot)
+
+    def waits(self, now: float) -> float:
+        """How many seconds the next round waits for clients."""
+        if not self._awaited or self.changes_at_disk:
+            return 0.0
+        return max(0.0, self._waits_until - now)
 
     def most_changes(self) -> int:
         """How many changes a round has."""
@@ -69,14 +91,16 @@ class Turns:
         """So many changes have gone to the disk."""
         self.changes_at_disk = self._count = count
         self.reads_went = False
+        self._awaited.clear()
         self._begun = now
 
     def end_change(self, now: float) -> None:
         """One of them is answered."""
         self.changes_at_disk -= 1
         if self.changes_at_disk == 0:
-            seconds = max(1e-6, (now - self._begun) / self._count)
-            self._seconds_of_change += WEIGHT * (seconds - self._seconds_of_change)
+            seconds = now - self._begun
+            self._waits_until = now + min(PART_TO_WAIT * seconds, MOST_SECONDS_TO_WAIT)
+            self._seconds_of_change += WEIGHT * (max(1e-6, seconds / self._count) - self._seconds_of_change)
 
 
 def take_turn(hub: Hub) -> None:
@@ -100,6 +124,17 @@ def fill(hub: Hub) -> None:
             return
 
 
+def seconds_to_round(hub: Hub) -> Optional[float]:
+    """How many whole milliseconds a round of changes waits, in seconds; None where none does. Where it is less than
+    one, which the system can't wait, whoever has something to do may run meanwhile."""
+    seconds = hub.turns.waits(hub.now)
+    if seconds == 0 or not has_waiting_change(hub):
+        return None
+    if seconds < 0.001:
+        os.sched_yield()
+    return int(1000 * seconds) / 1000
+
+
 def has_waiting_change(hub: Hub) -> bool:
     """Whether a client's next request is a change."""
     return any(is_change(hub.slots[slot].next()) for slot in hub.turns.row)  # type: ignore[union-attr]
@@ -115,7 +150,7 @@ def fill_with_changes(hub: Hub) -> None:
     if not hub.turns.reads_went:
         take_round(hub, False)
         hub.turns.reads_went = True
-    if hub.order:
+    if hub.order or hub.turns.waits(hub.now):
         return
     most = hub.turns.most_changes()
     count = taken = take_round(hub, True, None if hub.turns.shares else most)
@@ -196,7 +231,7 @@ def take_reply(hub: Hub, body: bytes) -> None:
     hub.stats.at_disk.go(1, hub.now)
     count_reply(hub, sent.asked, reply)
     if sent.generation:
-        give(hub, sent.slot, sent.generation, body)
+        give(hub, sent.slot, sent.generation, sent.asked, body)
     elif sent.slot:
         free_number(hub, sent.slot)
     else:
@@ -212,13 +247,15 @@ def count_reply(hub: Hub, asked: Asked, reply: Reply) -> None:
         hub.stats.refusals[reply.value.RULE] += 1
 
 
-def give(hub: Hub, slot: int, generation: int, body: bytes) -> None:
+def give(hub: Hub, slot: int, generation: int, asked: Asked, body: bytes) -> None:
     """Gives a client its reply, where it is still there."""
     client = hub.slots.get(slot)
     if isinstance(client, Client) and client.generation == generation:
         client.at_disk -= 1
         client.give(body)
         hub.touched.append(slot)
+        if is_change(asked):
+            hub.turns.await_change(slot, client)
 
 
 def free_number(hub: Hub, slot: int) -> None:

@@ -125,6 +125,11 @@ class Puts:
         self._consent = consent
         self._begun: Dict[str, Stage] = {}
 
+    @property
+    def files(self) -> Files:
+        """The files of the disk."""
+        return self._files
+
     def put(
         self, source: Source, path: str, progress: Progress = no_progress, size: Optional[int] = None
     ) -> None:
@@ -145,6 +150,12 @@ class Puts:
             progress(len(first))
         self.settle(path)
 
+    def replace(self, source: str, path: str) -> None:
+        """Over inodes: a file of the disk comes to the place of another one, as a second name, which shares its blocks.
+        The old one stays until the room for the name is shown; what a refusal cuts off is taken away."""
+        self._put_beside(lambda new: self._files.do("cp", source, new), path, no_progress, True)
+        self.settle(path)
+
     def settle(self, path: str) -> None:
         """What an earlier put left of a file at this path is no matter any more."""
         stage = self._begun.pop(path, None)
@@ -157,12 +168,15 @@ class Puts:
             raise self._refused("is-dir", (), path)
         if self._files.kind == INODE or found is None:
             self._check_room(path, size)
+        def write(new: str) -> None:
+            self._write(pieces, new, progress)
+
         if self._files.kind == INODE:
-            self._put_beside(pieces, path, progress, found == FILE)
+            self._put_beside(write, path, progress, found == FILE)
         elif found is None:
             self._put_at(pieces, path, progress)
         elif self._is_room_for_both(path, size):
-            self._put_beside(pieces, path, progress, True)
+            self._put_beside(write, path, progress, True)
         else:
             self._files.do("rm", path)
             self._put_at(pieces, path, progress)
@@ -216,12 +230,12 @@ class Puts:
             raise
         self._remove(stage.begun)
 
-    def _put_beside(self, pieces: Iterator[bytes], path: str, progress: Progress, is_old: bool) -> None:
+    def _put_beside(self, write: Callable[[str], None], path: str, progress: Progress, is_old: bool) -> None:
         """A file that is whole before it takes its place; where it is cut off before, what was written is taken
         away."""
         stage = self._new_stage(path)
         try:
-            self._write(pieces, stage.new, progress)
+            write(stage.new)
             self._files.bring("put", stage.to, path.encode())
             if is_old:
                 self._show_room(stage, path)

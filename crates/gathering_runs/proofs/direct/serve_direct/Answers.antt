@@ -19,11 +19,11 @@ returns-then-is_err-clause-did g c told =
     let h = c.args.server.now in
     let part = g.H.Handler.aside h in
     let v0 = g.P.Device.view c.args.disk.now.port in
-    let v1 = g.P.Device.view c.checkpoint.new.dev in
+    let v1 = g.P.Device.view c.empty_journal.new.port in
     let b = c.requires.between told in
     let s = g.H.Handler.state h (cleared v0.reads) in
     turned_err k part status.DeviceFault s _ v0 v1 (c.args.request.now ∷ [])
-    (left_in_place k part s v0 v1 (λ x y has. g.met.H.GroupHandler.alike s x y has) (λ x y has. g.met.H.GroupHandler.aside_alike h x y has) b.firm (g.met.H.Handler.stands_now h (cleared v0.reads) b.held) (c.args.request.now ∷ []) (c.checkpoint.ensures.any_moment told))
+    (left_in_place k part s v0 v1 (λ x y has. g.met.H.GroupHandler.alike s x y has) (λ x y has. g.met.H.GroupHandler.aside_alike h x y has) b.firm (g.met.H.Handler.stands_now h (cleared v0.reads) b.held) (c.args.request.now ∷ []) (c.empty_journal.ensures.any_moment told))
 
 pub returns-clause-did : goal.returns-clause-did
 returns-clause-did g c told =
@@ -31,17 +31,17 @@ returns-clause-did g c told =
     let h = c.args.server.now in
     let part = g.H.Handler.aside h in
     let v0 = g.P.Device.view c.args.disk.now.port in
-    let v1 = g.P.Device.view c.checkpoint.new.dev in
+    let v1 = g.P.Device.view c.empty_journal.new.port in
     let v2 = g.P.Device.view c.answer.new.port in
     let h2 = c.answer.new.server in
     let b = c.requires.between told in
     let s = g.H.Handler.state h (cleared v0.reads) in
-    let closed = ring_closed v1 (unless_err c.checkpoint.result c.is_err.result c.if-is_err.false c.is_err.ensures.value (c.checkpoint.ensures.at told)) in
-    let done = unless_err c.checkpoint.result c.is_err.result c.if-is_err.false c.is_err.ensures.value (c.checkpoint.ensures.done told) in
+    let closed = ring_closed v1 (unless_err c.empty_journal.result c.is_err.result c.if-is_err.false c.is_err.ensures.value (c.empty_journal.ensures.at told)) in
+    let done = unless_err c.empty_journal.result c.is_err.result c.if-is_err.false c.is_err.ensures.value (c.empty_journal.ensures.done told) in
     let over = from_cleared (g.H.Handler.holds h) (g.H.Handler.state h) (g.met.H.GroupHandler.carried h) v0.reads v1.reads b.held closed done in
     let m = g.H.Handler.state h v1.reads in
-    let first = went_in_place k part s v0 v1 (λ x y has. g.met.H.GroupHandler.alike s x y has) (λ x y has. g.met.H.GroupHandler.aside_alike h x y has) b.firm (g.met.H.Handler.stands_now h (cleared v0.reads) b.held) m over.1 (c.checkpoint.ensures.sent told)
-    (g.met.H.GroupHandler.aside_alike h v0.reads v1.reads (placed_home v0.reads v1.reads closed done)) (c.checkpoint.ensures.any_moment told) in
+    let first = went_in_place k part s v0 v1 (λ x y has. g.met.H.GroupHandler.alike s x y has) (λ x y has. g.met.H.GroupHandler.aside_alike h x y has) b.firm (g.met.H.Handler.stands_now h (cleared v0.reads) b.held) m over.1 (c.empty_journal.ensures.sent told)
+    (g.met.H.GroupHandler.aside_alike h v0.reads v1.reads (placed_home v0.reads v1.reads closed done)) (c.empty_journal.ensures.any_moment told) in
     turned_to k part c.answer.result s (g.H.Handler.state h2 v2.reads) (g.H.Handler.state h2 (cleared v2.reads)) v0 v2 (c.args.request.now ∷ [])
     (turned_then k part c.answer.result s m (g.H.Handler.state h2 v2.reads) v0 v1 v2 [] (c.args.request.now ∷ []) first (c.answer.ensures.did told))
     (both_ok c.answer.result (λ at shut. (to_cleared (g.H.Handler.holds h2) (g.H.Handler.state h2) (g.met.H.GroupHandler.carried h2) v2.reads at.1 shut).1) (c.answer.ensures.at told) (c.answer.ensures.closed told))
@@ -50,5 +50,5 @@ pub returns-clause-between : goal.returns-clause-between
 returns-clause-between g c told =
     let v2 = g.P.Device.view c.answer.new.port in
     let h2 = c.answer.new.server in
-    let none = unless_err c.checkpoint.result c.is_err.result c.if-is_err.false c.is_err.ensures.value c.checkpoint.ensures.empty in
-    both_ok c.answer.result (λ at shut. between (g.H.Handler.holds h2) (g.H.Handler.state h2) (g.met.H.GroupHandler.carried h2) c.checkpoint.new.self v2 none at.0 at.1 shut) (c.answer.ensures.at told) (c.answer.ensures.closed told)
+    let none = unless_err c.empty_journal.result c.is_err.result c.if-is_err.false c.is_err.ensures.value c.empty_journal.ensures.empty in
+    both_ok c.answer.result (λ at shut. between (g.H.Handler.holds h2) (g.H.Handler.state h2) (g.met.H.GroupHandler.carried h2) c.empty_journal.new.ring v2 none at.0 at.1 shut) (c.answer.ensures.at told) (c.answer.ensures.closed told)

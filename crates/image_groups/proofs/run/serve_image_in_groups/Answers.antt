@@ -1,9 +1,10 @@
 use Rattle.std.proofs.Common.{inl, inr, ℕ, [], refl, sym, ◌∙◌, ap, subst, append-nil, arith}
 use Rattle.std.specs.Prelude.{Err}
 use Rattle.image_runs.proofs.Common.{Rose, Status, behind}
+use Rattle.image_runs.proofs.Behind.{size_of_core}
 use Rattle.image_runs.proofs.Opened.{not_foreign}
 use Rattle.image_runs.proofs.Started.{placed_at, not_of_source, not_of_put}
-use Rattle.image_groups.proofs.Opened.{asked_groups, ends_opened, ends_unopened, judged_groups, ok_no_err}
+use Rattle.image_groups.proofs.Opened.{asked_groups, behind_opened, ends_opened, ends_unopened, judged_groups, ok_no_err}
 use Rattle.image_groups.proofs.run.serve_image_in_groups.Goals as goal
 
 pub returns-in-Ok-clause-read : goal.returns-in-Ok-clause-read
@@ -85,3 +86,14 @@ returns-in-Err-clause-untouched g c = c.open_core.ensures.untouched
 
 pub returns-in-Err-clause-spared : goal.returns-in-Err-clause-spared
 returns-in-Err-clause-spared g c told h = c.in-Err.ensures.spared told h
+
+pub returns-in-Ok-clause-behind : goal.returns-in-Ok-clause-behind
+returns-in-Ok-clause-behind g c told firm =
+    let old = g.P.Device.view c.args.port in
+    let mid = g.P.Device.view c.open_core.new.dev in
+    let core = c.in-Ok.core in
+    behind_opened core.volume.tables.geometry old mid (g.P.Device.view c.serve_in_groups.result.0) _ (g.met.P.Device.sound c.open_core.new.dev told)
+    (size_of_core core old.reads mid (c.in-Ok.ensures.at told) (c.in-Ok.ensures.state told)) (c.open_core.ensures.behind told firm) (c.serve_in_groups.ensures.ran.any_moment told)
+
+pub returns-in-Err-clause-behind : goal.returns-in-Err-clause-behind
+returns-in-Err-clause-behind g c told firm = ∣ c.open_core.ensures.behind told firm ∣₁

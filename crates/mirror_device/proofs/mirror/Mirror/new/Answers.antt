@@ -1,13 +1,14 @@
-use Rattle.std.proofs.Common.{sym, subst, arith}
-use Rattle.mirror_device.specs.Copying.{Copying}
-use Rattle.mirror_device.proofs.Beginning.{begins}
-use Rattle.mirror_device.proofs.CopySteps.{copy_begun, copy_sync_first}
+use Rattle.std.proofs.Common.{ℕ, List, ap, subst}
+use Rattle.std.specs.Prelude.{IfOk}
+use Rattle.image_device.specs.Image.{Image}
+use Rattle.mirror_device.specs.Copying.{IsLeftOfFirst}
+use Rattle.mirror_device.specs.Mirror.{IsShown, Start}
 use Rattle.mirror_device.proofs.mirror.Mirror.new.Goals as goal
 
-pub returns-then-second-clause-left : goal.returns-then-second-clause-left
-returns-then-second-clause-left g c told x f shown =
+pub returns-clause-left : goal.returns-clause-left
+returns-clause-left g c told =
     let view = g.P.Sides.view in
-    let v0 = view c.args.sides in
-    begins v0 (view c.begin.result.sides.sides) g.K.Began.start c.begin.result.serving (λ h. absurd (cc)) (λ j. (c.requires j).second_syncs) (g.met.P.Sides.sound c.args.sides told)
-    (subst (λ s. Copying v0 (view s)) (sym c.begin.ensures.sides)
-    (copy_sync_first v0 v0 (view c.sync.new.self) (copy_begun v0) (omega arith) (omega (arith, c.sync.ensures.uses.other_syncs)) (c.sync.ensures.settles told))) x f shown
+    subst
+    (λ (t : ℕ). IfOk c.after_reads.result (λ m. (x : Image) (f : List ℕ)
+    → IsShown (view m.sides.sides) g.K.Began.start m.serving t x f → IsLeftOfFirst (view c.args.sides) x f))
+    (ap (λ (s : Start). s.clock) c.requires) (c.after_reads.ensures.left told)

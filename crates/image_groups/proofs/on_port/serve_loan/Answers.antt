@@ -1,0 +1,20 @@
+use Rattle.std.proofs.Common.{sym}
+use Rattle.recovery.specs.Opening.{IsForeign, IsUntouched}
+use Rattle.serving.specs.Ran.{moments, taking}
+use Rattle.image_groups.specs.Served.{ImageRanInGroups}
+use Rattle.image_groups.proofs.Opened.{of_same, ran_alike}
+use Rattle.image_groups.proofs.on_port.serve_loan.Goals as goal
+
+pub returns-clause-ran : goal.returns-clause-ran
+returns-clause-ran g c =
+    let view = g.P.Device.view in
+    let r = c.serve_image_in_groups-lent.result.1 in
+    let source = taking g.S.Source.told g.S.Source.taken g.S.Source.left_bytes g.S.Source.ended c.args.source.now c.serve_image_in_groups-lent.new.source in
+    of_same (λ x y. ImageRanInGroups r g.R.Replies.voice g.R.Protocol.spelling c.args.placement.now.kind c.args.limit source (moments g.P.Device.told view x y))
+    _ _ _ _ c.new-lent.ensures (sym c.into_loan.ensures.port)
+    (ran_alike r g.R.Replies.voice g.R.Protocol.spelling c.args.placement.now.kind c.args.limit source _ _ _ _ _ c.serve_image_in_groups-lent.ensures.ran)
+
+pub returns-clause-untouched : goal.returns-clause-untouched
+returns-clause-untouched g c =
+    let view = g.P.Device.view in
+    of_same (λ x y. g.P.Device.told → IsForeign (view x).reads → IsUntouched (view x) (view y)) _ _ _ _ c.new-lent.ensures (sym c.into_loan.ensures.port) c.serve_image_in_groups-lent.ensures.untouched

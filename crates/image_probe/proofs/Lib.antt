@@ -1,0 +1,2 @@
+pub mod FirstReads
+pub mod StillCalls
