@@ -43,8 +43,8 @@ BYTES = bytes(range(1, 256)) + bytes(range(1, 256)) + b"\1\1"
 KINDS: Dict[str, Kind] = {
     "free": Kind("free", requests.GetFree().encode(), "free", 9, 7),
     "READ of 512 bytes": Kind(f"read 1 0 {READ}", requests.Read(0, READ_CAP).encode(1), "read", 1030, 515),
-    "WRITE of 512 bytes": Kind(f"write 1 0 {WRITE} {BYTES.hex()}", requests.Write(0, BYTES, WRITE_CAP).encode(1), "write",
-                               3, 3),
+    "WRITE of 512 bytes": Kind(f"write 1 0 {WRITE} {BYTES.hex()}", requests.Write(0, BYTES, WRITE_CAP).encode(1),
+                               "write", 3, 3),
 }
 
 
@@ -111,7 +111,8 @@ def against(folder: Path, image: Path, peer: Path) -> Rows:
 def long_lines(folder: Path) -> Rows:
     """Lines that write all of a block of eight sectors."""
     image = folder / "long.img"
-    subprocess.run([PROGRAM, image, "fresh", str(BLOCKS), "8", READ, WRITE, "low"], stdin=subprocess.DEVNULL, check=True)
+    subprocess.run([PROGRAM, image, "fresh", str(BLOCKS), "8", READ, WRITE, "low"], stdin=subprocess.DEVNULL,
+                   check=True)
     opened, line = text_of(["open 1"]), text_of([f"write 1 0 {WRITE} {'5a' * 4096}"])
     none, many = put(folder / "none.txt", opened), put(folder / "long.txt", opened + line * LONG_COUNT)
     words = [PROGRAM, image, "run", "low"]

@@ -335,7 +335,8 @@ def ahead_results(program: Program, image: Path) -> Iterator[Result]:
 # --- what a format leaves ---
 
 def format_results(recorder: Recorder, image: Path) -> Iterator[Result]:
-    """Two disks over a file that begins as a disk does and holds anything: which sectors are written, with what, and which are left."""
+    """Two disks over a file that begins as a disk does and holds anything: which sectors are written, with what, and
+    which are left."""
     yield from formatted_results(recorder, image, Size(8, 1, 8, 1), 18, {
         0: b"TSDISK01" + numbers(1, 1, 8, 1, 8), 1: b"\1", 132: caps_of(1), 135: b"\1",
     }, [2, 117, 119, 121, 123, 125, 127, 129, 131, 133, 134, 136, 137])

@@ -136,7 +136,8 @@ CHANGES: Sequence[Tuple[str, int, int, bytes]] = (
     ("a primary block that isn't live", BITMAP * SECTOR, 0, b"damaged primary 0\n"),
 )
 OPENING: Sequence[Sequence[str]] = (
-    ["run", "near"], ["serve", "near"], ["check"], ["info"], ["upgrade"], ["audit"], ["verify"], ["load", "00" * 32, "5", "near"],
+    ["run", "near"], ["serve", "near"], ["check"], ["info"], ["upgrade"], ["audit"], ["verify"],
+    ["load", "00" * 32, "5", "near"],
     ["shell", "inode", "0", W, "near"], ["copyfs", "inode", "0", W, "chain", "0", W, "near"],
 )
 

@@ -90,7 +90,7 @@ class Installed(InFolder):
         self.uninstall(prefix, make, environment)
 
     def uninstall(self, prefix: Path, make: List[str], environment: Dict[str, str]) -> None:
-        """What was installed goes, with what Python kept of it; what others put there stays, and nothing else is left."""
+        """What was installed goes, with what Python kept of it; what others put there stays, and no more is left."""
         of_others = [prefix / name for name in ("bin/other", "lib/tsd/python/tsd/other.py", "share/doc/tsd/notes")]
         for path in of_others:
             path.write_text("mine")
