@@ -46,6 +46,9 @@ taken 0
 held 0
 released 0
 taken 0
+nothing has come 0
+a reply has come 1
+taken 0
 equal 1
 not equal 0
 close session 0

@@ -4,6 +4,9 @@ disks whose groups and regions are full, empty, or hold few free blocks at their
 rank as docs/FORMAT.md gives it, without any groups.
 
 Each block that was taken is given back before the next request, so all requests to one disk meet the same free blocks.
+
+And which blocks the commands `shell` and `copyfs` take by each kind: a block is searched from the block that is to lead
+to it.
 """
 
 from __future__ import annotations
@@ -14,8 +17,10 @@ from array import array
 from pathlib import Path
 from typing import Dict, Iterator, List, NamedTuple, Set, Tuple
 
-from disk_model import PLACES, rank
+from disk_model import MOST_COUNT, PLACES, World, rank, seed_caps
 from endings import is_checked
+from file_text import CHAIN, INODE
+from image_reader import Fault, read_image
 from large_images import WRITE_CAP, LargeImage, numbers_of
 from parts import Context, Result, compared
 from program import Program
@@ -180,8 +185,104 @@ def large_results(context: Context, program: Program) -> Iterator[Result]:
     path.unlink()
 
 
+# Block 0 is the root of a tree, block 1 that of its copy, and block 2 leads to all that is to be live besides.
+TREE, COPY, FILLER = 0, 1, 2
+PRIMARIES = 3
+FILLED_BLOCKS = 16 * GROUP
+SEED = bytes(32)
+
+
+class FilledDisk:
+    """A disk of 16 groups, of which the free blocks are set by name."""
+
+    def __init__(self, program: Program, path: Path) -> None:
+        self.program, self.path = program, path
+        path.unlink(missing_ok=True)
+        self.caps = [pair[1].hex() for pair in seed_caps(SEED)]
+        words = ["format", FILLED_BLOCKS, 1, 4 * FILLED_BLOCKS, PRIMARIES, SEED.hex()]
+        program.run([path, *map(str, words)])
+
+    def world(self) -> World:
+        """The world for which the image stands."""
+        found = read_image(self.path.read_bytes())
+        assert not isinstance(found, Fault), found
+        return found
+
+    def free(self) -> Set[int]:
+        """The free blocks."""
+        return set(range(FILLED_BLOCKS)) - set(self.world().blocks)
+
+    def leave_free(self, wanted: Set[int]) -> None:
+        """Takes all free blocks but these, and gives back those of these that are live."""
+        lacking = len(self.free() - wanted)
+        counts = [MOST_COUNT] * (lacking // MOST_COUNT) + [1] * (lacking % MOST_COUNT)
+        # Blocks that are wanted may be taken too: the rest of them is given back below.
+        over = len(self.free() & wanted)
+        counts += [1] * over
+        cap = self.caps[FILLER]
+        lines = ["open 1", *(f"alloc 1 {FILLER} {cap} 0 {count}" for count in counts),
+                 *(f"delete 1 {FILLER} {cap} {block}" for block in sorted(wanted))]
+        self.program.run([self.path, "run", "low"], "".join(f"{line}\n" for line in lines).encode())
+
+    def shell(self, kind: str, place: str, lines: List[str]) -> bytes:
+        """The answers of the shell over the tree."""
+        words = ["shell", kind, str(TREE), self.caps[TREE], place]
+        return self.program.run([self.path, *words], "".join(f"{line}\n" for line in lines).encode()).out
+
+    def copy(self, kind: str, place: str) -> bytes:
+        """The line of a copy of the tree of inodes."""
+        words = ["copyfs", INODE, str(TREE), self.caps[TREE], kind, str(COPY), self.caps[COPY], place]
+        return self.program.run([self.path, *words]).out
+
+
+def taken_by_shell(disk: FilledDisk, place: str) -> Tuple[object, object]:
+    """A chain grows by a cluster, behind its last one in the second group: blocks are free before that and behind it,
+    in its group and in others."""
+    disk.leave_free({300, 301})
+    disk.shell(CHAIN, "low", ["mkfs", "put /a 01"])
+    last = max(disk.world().blocks.keys() & {300, 301})
+    free = {10, 270, 299, 340, GROUP * 15 + 3}
+    disk.leave_free(free)
+    before = set(disk.world().blocks)
+    said = disk.shell(CHAIN, place, [f"append /a {'02' * 500}"])
+    wanted = min(free, key=lambda block: rank(place, block, last))
+    return (b"ok\n", {wanted}), (said, set(disk.world().blocks) - before)
+
+
+def taken_from_root(place: str, free: Set[int], count: int, root: int) -> Set[int]:
+    """So many blocks one after another, the first from a root and each of the others from one that was taken: where the
+    first is free before all others, or all others of its group are, these are the first ones by rank."""
+    return set(heapq.nsmallest(count, free, key=lambda block: rank(place, block, root)))
+
+
+def taken_by_copy(disk: FilledDisk, kind: str, place: str) -> Tuple[object, object]:
+    """A file of three blocks is copied: blocks are free in the second group and in the last one, which a search by
+    zones goes to first."""
+    disk.leave_free(set(range(20, 60)))
+    disk.shell(INODE, "low", ["mkfs", f"put /a {'03' * 1400}"])
+    free = set(range(300, 320)) | set(range(GROUP * 15 + 20, GROUP * 15 + 40))
+    disk.leave_free(free)
+    before = set(disk.world().blocks)
+    said = disk.copy(kind, place)
+    taken = set(disk.world().blocks) - before
+    return (b"copied 1 1400\n", taken_from_root(place, free, max(len(taken), 3), COPY)), (said, taken)
+
+
+def tree_results(context: Context, program: Program) -> Iterator[Result]:
+    """The blocks that `shell` and `copyfs` take, for each kind. The first block of a copy is searched from its root, and
+    each other one from one that was taken, so that only a search by zones tells itself from the others there."""
+    path = context.folder / "trees.img"
+    for place in PLACES:
+        yield compared(f"the block that shell takes, {place}", *taken_by_shell(FilledDisk(program, path), place))
+        for kind in (INODE, CHAIN):
+            name = f"the blocks that copyfs takes for {kind}, {place}"
+            yield compared(name, *taken_by_copy(FilledDisk(program, path), kind, place))
+    path.unlink()
+
+
 def run(context: Context) -> Iterator[Result]:
-    """Small disks and large ones."""
+    """Small disks and large ones, and trees."""
     program = Program(context.program)
     yield from small_results(context, program)
+    yield from tree_results(context, program)
     yield from large_results(context, program)

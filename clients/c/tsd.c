@@ -371,7 +371,7 @@ static void end_of_stream(tsd_disk *disk) {
 /* --- frames --- */
 
 /* Takes what comes, or waits for a nap: for a reply, or where is_sending until something can be sent too. */
-static void wait_for_more(tsd_disk *disk, bool is_sending) {
+static void wait_so_long(tsd_disk *disk, bool is_sending, unsigned nap_ms) {
     struct pollfd ready = {.fd = disk->stream, .events = POLLIN};
     if (disk->start > 0) {
         memmove(disk->came, disk->came + disk->start, disk->filled - disk->start);
@@ -379,8 +379,7 @@ static void wait_for_more(tsd_disk *disk, bool is_sending) {
         disk->start = 0;
     }
     ready.events = (short)((disk->filled < MOST_CAME ? POLLIN : 0) | (is_sending ? POLLOUT : 0));
-    unsigned nap = disk->limit_ms < LONGEST_NAP_MS ? disk->limit_ms : LONGEST_NAP_MS;
-    int count = poll(&ready, 1, (int)nap);
+    int count = poll(&ready, 1, (int)nap_ms);
     if (count > 0 && (ready.revents & ~POLLOUT) != 0 && disk->filled < MOST_CAME) {
         ssize_t length = recv(disk->stream, disk->came + disk->filled, MOST_CAME - disk->filled, MSG_DONTWAIT);
         if (length > 0) {
@@ -397,11 +396,21 @@ static void wait_for_more(tsd_disk *disk, bool is_sending) {
     }
 }
 
+static void wait_for_more(tsd_disk *disk, bool is_sending) {
+    wait_so_long(disk, is_sending, disk->limit_ms < LONGEST_NAP_MS ? disk->limit_ms : LONGEST_NAP_MS);
+}
+
+/* Whether a whole frame is there. */
+static bool has_frame(const tsd_disk *disk) {
+    const uint8_t *left = disk->came + disk->start;
+    size_t count = disk->filled - disk->start;
+    return count >= LENGTH_BYTES && count >= LENGTH_BYTES + (size_t)(left[0] | left[1] << 8);
+}
+
 /* The body of the next frame, where it is there. */
 static bool next_body(tsd_disk *disk, const uint8_t **body, size_t *length) {
     const uint8_t *left = disk->came + disk->start;
-    size_t count = disk->filled - disk->start;
-    if (count < LENGTH_BYTES || count < LENGTH_BYTES + (size_t)(left[0] | left[1] << 8)) {
+    if (!has_frame(disk)) {
         return false;
     }
     *length = (size_t)(left[0] | left[1] << 8);
@@ -730,6 +739,18 @@ tsd_outcome tsd_take(tsd_disk *disk, tsd_answer *answer) {
         answer->geometry = (tsd_geometry){numbers[0], numbers[1], numbers[2], numbers[3]};
     }
     return TSD_OK;
+}
+
+bool tsd_has_come(tsd_disk *disk) {
+    put_held(disk);
+    if (!has_frame(disk) && disk->end.why == TSD_NOT_ENDED) {
+        wait_so_long(disk, false, 0);
+    }
+    return has_frame(disk) || disk->end.why != TSD_NOT_ENDED;
+}
+
+int tsd_stream(const tsd_disk *disk) {
+    return disk->stream;
 }
 
 unsigned tsd_under_way(const tsd_disk *disk) {

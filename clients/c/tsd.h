@@ -180,6 +180,10 @@ tsd_outcome tsd_release(tsd_disk *disk);
 /* The answer to the oldest request under way: not TSD_BUSY. Without one it is TSD_ENDED where the link has ended, and
    else TSD_BUSY. */
 tsd_outcome tsd_take(tsd_disk *disk, tsd_answer *answer);
+/* Sends what is held back, and tells whether a reply has come, or the link has ended: then tsd_take doesn't wait. */
+bool tsd_has_come(tsd_disk *disk);
+/* What to poll for POLLIN while tsd_has_come is false. Nothing else may be done with it. */
+int tsd_stream(const tsd_disk *disk);
 /* How many requests are under way. */
 unsigned tsd_under_way(const tsd_disk *disk);
 /* Sends a request and waits for its answer: TSD_BUSY where others are under way. */

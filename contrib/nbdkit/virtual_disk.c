@@ -1,8 +1,8 @@
-/* One thread has the disk and the tables: the others hand it jobs, and wait. It sends what all jobs want that lie
-   there, up to 64 requests, and takes their answers, which come in their order; meanwhile the next jobs come together.
-   So reads of blocks that are there, and writes of whole blocks that are there, are under way together, and writes are
-   committed together: as many as one batch of the disk's journal takes. All else is done alone: first what is under way
-   is answered.
+/* One thread has the disk and the tables: the others hand it jobs, and wait. It sends what all jobs want that lie there,
+   up to 64 requests, and takes the answers as they come, in the order of the requests. So reads of blocks that are
+   there, and writes of whole blocks that are there, are under way together, and what comes while the disk is at work
+   on some goes out to it meanwhile: those are committed together when it has done these. No more writes are under way
+   than one batch of the disk's journal takes. All else is done alone: first what is under way is answered.
 
    What a leaf had when the last of its writes or reads was answered is kept in a slot of the cache, while no write to
    that slot is under way: since the disk carries requests out in their order, that is what it has. A reader finds it
@@ -15,7 +15,9 @@
 #include "virtual_disk.h"
 
 #include <errno.h>
+#include <fcntl.h>
 #include <inttypes.h>
+#include <poll.h>
 #include <pthread.h>
 #include <semaphore.h>
 #include <stdarg.h>
@@ -23,11 +25,14 @@
 #include <stdio.h>
 #include <stdlib.h>
 #include <string.h>
+#include <unistd.h>
 
 #define MAGIC "TSDVDSK1"
 enum { HEADER = 64, NUMBER = 4, SESSION = 1, MOST_DEPTHS = 8, RING = 256 };
 /* How many sectors a batch of the disk's journal has room for (docs/FORMAT.md), and the bytes of each. */
 enum { BATCH = 113, SECTOR = 512 };
+/* After so many milliseconds without an answer it is looked whether the disk is silent for too long. */
+enum { NAP_MS = 100 };
 
 enum kind { READ, WRITE, TRIM, ZERO, FLUSH, EXTENTS };
 
@@ -86,6 +91,8 @@ struct vdisk {
     pthread_cond_t more;
     struct job *head, **tail;
     bool is_started, is_ending;
+    bool is_asleep; /* the thread waits for an answer or for a byte in this pipe */
+    int wake[2];
     pthread_t thread;
     atomic_uint writes; /* calls that write, and haven't returned */
 };
@@ -194,6 +201,37 @@ static void let_go(struct job *job) {
     }
 }
 
+/* Whether no job has come: then the thread may sleep, and the next job wakes it. */
+static bool begin_sleep(vdisk *v) {
+    pthread_mutex_lock(&v->lock);
+    v->is_asleep = v->head == NULL;
+    bool is_asleep = v->is_asleep;
+    pthread_mutex_unlock(&v->lock);
+    return is_asleep;
+}
+
+static void end_sleep(vdisk *v) {
+    uint8_t byte;
+    pthread_mutex_lock(&v->lock);
+    if (!v->is_asleep) {
+        while (read(v->wake[0], &byte, 1) < 0 && errno == EINTR) {
+        }
+    }
+    v->is_asleep = false;
+    pthread_mutex_unlock(&v->lock);
+}
+
+/* Wakes the thread, with the queue's lock. A byte stands in the pipe from then until it is awake. */
+static void wake_up(vdisk *v) {
+    if (v->is_asleep) {
+        v->is_asleep = false;
+        while (write(v->wake[1], "", 1) < 0 && errno == EINTR) {
+        }
+    } else {
+        pthread_cond_signal(&v->more);
+    }
+}
+
 /* The answer to the oldest request. */
 static void take(vdisk *v) {
     struct entry entry = v->ring[v->first];
@@ -222,6 +260,20 @@ static void take_all(vdisk *v) {
     }
 }
 
+/* Takes the answers that have come, or where there is none waits for one, or for a job. */
+static void take_some(vdisk *v) {
+    bool has_taken = false;
+    while (v->under_way > 0 && (v->ring[v->first].is_mark || tsd_has_come(v->disk))) {
+        take(v);
+        has_taken = true;
+    }
+    if (!has_taken && begin_sleep(v)) {
+        struct pollfd ready[] = {{.fd = tsd_stream(v->disk), .events = POLLIN}, {.fd = v->wake[0], .events = POLLIN}};
+        poll(ready, 2, NAP_MS);
+        end_sleep(v);
+    }
+}
+
 static void push(vdisk *v, struct entry entry) {
     v->ring[(v->first + v->under_way++) % RING] = entry;
     entry.job->left++;
@@ -229,9 +281,9 @@ static void push(vdisk *v, struct entry entry) {
 
 /* Sends a read or a write of a leaf that has this block. */
 static bool send_leaf(vdisk *v, uint32_t block, struct entry entry) {
-    bool is_batch_full = entry.from != NULL && v->writing >= BATCH * SECTOR / v->block_bytes;
-    if (is_batch_full || tsd_under_way(v->disk) == TSD_MOST_UNDER_WAY || v->under_way == RING) {
-        take_all(v);
+    while ((entry.from != NULL && v->writing >= BATCH * SECTOR / v->block_bytes) ||
+           tsd_under_way(v->disk) == TSD_MOST_UNDER_WAY || v->under_way == RING) {
+        take(v);
     }
     tsd_request request = {.code = entry.from != NULL ? TSD_WRITE : TSD_READ, .session = SESSION, .block = block,
                            .data = entry.from, .length = entry.from != NULL ? v->block_bytes : 0};
@@ -651,6 +703,7 @@ static void begin(vdisk *v, struct job *job) {
     let_go(job);
 }
 
+/* The next job; NULL where none has come and requests are under way, or all ends. */
 static struct job *next_job(vdisk *v) {
     pthread_mutex_lock(&v->lock);
     while (v->head == NULL && v->under_way == 0 && !v->is_ending) {
@@ -671,7 +724,7 @@ static void *serve(void *given) {
         if (job != NULL) {
             begin(v, job);
         } else if (v->under_way > 0) {
-            take_all(v);
+            take_some(v);
         } else {
             return NULL;
         }
@@ -685,7 +738,7 @@ static bool done(vdisk *v, struct job *job, vdisk_error *error) {
     pthread_mutex_lock(&v->lock);
     *v->tail = job;
     v->tail = &job->next;
-    pthread_cond_signal(&v->more);
+    wake_up(v);
     pthread_mutex_unlock(&v->lock);
     while (sem_wait(&job->done) != 0) {
     }
@@ -806,6 +859,12 @@ vdisk *vdisk_open(tsd_disk *disk, uint32_t root, const tsd_capability *cap, uint
     pthread_mutex_init(&v->cache_lock, NULL);
     pthread_mutex_init(&v->lock, NULL);
     pthread_cond_init(&v->more, NULL);
+    v->wake[0] = v->wake[1] = -1;
+    if (pipe2(v->wake, O_CLOEXEC) != 0) {
+        fail(error, errno, "no pipe can be made: %s", strerror(errno));
+        vdisk_close(v);
+        return NULL;
+    }
     if (!opened(v, size, cache, error)) {
         vdisk_close(v);
         return NULL;
@@ -823,7 +882,7 @@ bool vdisk_start(vdisk *v, vdisk_error *error) {
 void vdisk_close(vdisk *v) {
     pthread_mutex_lock(&v->lock);
     v->is_ending = true;
-    pthread_cond_signal(&v->more);
+    wake_up(v);
     pthread_mutex_unlock(&v->lock);
     if (v->is_started) {
         pthread_join(v->thread, NULL);
@@ -833,6 +892,11 @@ void vdisk_close(vdisk *v) {
             free(v->tables[depth][index]);
         }
         free(v->tables[depth]);
+    }
+    for (int end = 0; end < 2; end++) {
+        if (v->wake[end] >= 0) {
+            close(v->wake[end]);
+        }
     }
     free(v->slots);
     free(v->kept);

@@ -325,6 +325,13 @@ static int run_calls(const char *image, const char *file) {
     tsd_send(disk, &(tsd_request){.code = TSD_GET_FREE});
     said("released", tsd_release(disk), NULL, 0);
     said("taken", tsd_take(disk, &answer), NULL, 0);
+    said("nothing has come", tsd_has_come(disk), NULL, 0);
+    tsd_send(disk, &(tsd_request){.code = TSD_GET_FREE});
+    while (!tsd_has_come(disk)) {
+        poll(&(struct pollfd){.fd = tsd_stream(disk), .events = POLLIN}, 1, LINK_LIMIT_MS);
+    }
+    said("a reply has come", tsd_has_come(disk), NULL, 0);
+    said("taken", tsd_take(disk, &answer), NULL, 0);
     said("equal", tsd_capability_equal(&cap, &cap), NULL, 0);
     said("not equal", tsd_capability_equal(&cap, &other), NULL, 0);
     tsd_capability_wipe(&cap);

@@ -2,6 +2,7 @@
 //!
 //!     worked IMAGE CAPABILITY      the capability to write block 0 is the first word of the file CAPABILITY
 //!     worked --hub SOCKET CAPABILITY
+//!     worked --embed IMAGE CAPABILITY      in this process, with the feature `embedded`
 
 use std::error::Error as AnyError;
 
@@ -12,6 +13,8 @@ fn main() -> Result<(), Box<dyn AnyError>> {
     let (disk, cap) = match &words[..] {
         [image, cap] => (Disk::open(image)?, cap),
         [word, socket, cap] if word == "--hub" => (Disk::connect(socket)?, cap),
+        #[cfg(feature = "embedded")]
+        [word, image, cap] if word == "--embed" => (Disk::embed(image)?, cap),
         _ => return Err("usage: worked [--hub] IMAGE CAPABILITY".into()),
     };
     let cap = Capability::from_file(cap)?;

@@ -29,6 +29,17 @@ impl Disk {
         Options::new().open(image)
     }
 
+    /// Opens an image in this process, by the library: each request is one call of it, which is over when its reply is
+    /// there. Free blocks are taken by `near`.
+    ///
+    /// # Errors
+    /// [`LinkError::Embedded`] where the image can't be opened.
+    #[cfg(feature = "embedded")]
+    pub fn embed(image: impl AsRef<Path>) -> Result<Self, LinkError> {
+        let (stream, peer) = crate::peer::Peer::embed(image.as_ref())?;
+        Ok(Self::of(Link::new(stream, peer, std::time::Duration::from_secs(60))?))
+    }
+
     /// Joins the hub at a Unix socket.
     ///
     /// # Errors

@@ -113,6 +113,14 @@ pub enum LinkError {
     },
     /// A hub tells that it stops.
     HubStopped,
+    /// The library ended with another status than 0.
+    #[cfg(feature = "embedded")]
+    Embedded {
+        /// The number of `tsd_embed.h`.
+        status: i32,
+        /// Its words.
+        words: String,
+    },
     /// The program can't be started, the hub can't be reached, or a call of the system failed.
     System {
         /// What was tried.
@@ -205,6 +213,8 @@ impl fmt::Display for LinkError {
             Self::HubFull { words } => write!(out, "the hub has no session left{}", behind(words)),
             Self::HubIdle { words } => write!(out, "the hub closed the connection, which was idle{}", behind(words)),
             Self::HubStopped => out.write_str("the hub stopped"),
+            #[cfg(feature = "embedded")]
+            Self::Embedded { words, .. } => write!(out, "the disk in this process: {words}"),
             Self::System { what, words, .. } => write!(out, "{what}: {words}"),
         }
     }

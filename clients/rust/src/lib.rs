@@ -41,14 +41,20 @@
 //! # }
 //! ```
 //!
+//! **In this process.** With the feature `embedded` a disk is also opened by `Disk::embed`, with no program: the
+//! library `libtsd.a` is linked, and each request is a call of it.
+//!
 //! A disk is used by one thread at a time; each thread may join the hub by a connection of its own. The crate needs the
 //! standard library alone, of Linux, and stands outside the disk's proofs: it weakens none.
 
-#![forbid(unsafe_code)]
+#![cfg_attr(not(feature = "embedded"), forbid(unsafe_code))]
+#![deny(unsafe_code)]
 #![warn(missing_docs)]
 
 mod capability;
 mod disk;
+#[cfg(feature = "embedded")]
+mod embedded;
 mod error;
 mod frames;
 mod link;

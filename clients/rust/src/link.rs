@@ -163,6 +163,14 @@ impl Link {
     /// Puts a whole frame; where the other side takes nothing, replies are taken meanwhile. What became of a frame that
     /// can't be put is told when its reply is asked for.
     fn put(&mut self, text: &[u8]) {
+        if let Some(replies) = self.peer.apply(text) {
+            self.cutter.feed(replies);
+            // Where a reply is none the link has failed, which its taking tells.
+            if let Err(failure) = self.settle_all() {
+                let _ = self.fail(failure);
+            }
+            return;
+        }
         let mut left = text;
         while !left.is_empty() && self.failure.is_none() {
             match self.stream.write(left) {
@@ -199,6 +207,12 @@ impl Link {
             return Err(self.peer.ended(inside_frame, self.limit));
         }
         self.cutter.feed(&self.piece[..count]);
+        self.settle_all()?;
+        self.check_silence()
+    }
+
+    /// Gives the replies that are whole to the requests that wait for them.
+    fn settle_all(&mut self) -> Result<(), LinkError> {
         while let Some(body) = self.cutter.next() {
             let told = (body.len(), body.first().copied());
             match decode(body) {
@@ -207,7 +221,7 @@ impl Link {
                 Body::Other => return Err(no_reply(told)),
             }
         }
-        self.check_silence()
+        Ok(())
     }
 
     /// Bytes that make no whole reply are silence too.

@@ -10,6 +10,8 @@ use std::process::{Child, Command, ExitStatus, Stdio};
 use std::thread::sleep;
 use std::time::{Duration, Instant};
 
+#[cfg(feature = "embedded")]
+use crate::embedded::Embedded;
 use crate::error::LinkError;
 
 const MOST_WORDS: u64 = 4096;
@@ -22,6 +24,9 @@ pub(crate) enum Peer {
     Program { child: Child, words: UnixStream },
     /// A hub.
     Hub,
+    /// The library, and the other end of a socket on which nothing comes.
+    #[cfg(feature = "embedded")]
+    Library(Embedded),
 }
 
 impl Peer {
@@ -45,8 +50,32 @@ impl Peer {
         Ok((UnixStream::connect(socket).map_err(failed)?, Self::Hub))
     }
 
+    /// Opens an image by the library. The socket is at its end: only what the library does tells how it went.
+    #[cfg(feature = "embedded")]
+    pub(crate) fn embed(image: &Path) -> Result<(UnixStream, Self), LinkError> {
+        let library = Embedded::open(image)?;
+        let pair = UnixStream::pair().map_err(|error| LinkError::system("no socket", &error))?;
+        Ok((pair.0, Self::Library(library)))
+    }
+
+    /// The replies to a frame, of the library; none where it ended, and of any other peer.
+    pub(crate) fn apply(&mut self, frame: &[u8]) -> Option<&[u8]> {
+        match self {
+            #[cfg(feature = "embedded")]
+            Self::Library(library) => Some(library.apply(frame)),
+            _ => {
+                let _ = frame;
+                None
+            }
+        }
+    }
+
     /// How it ended, once nothing more comes from it. A program that doesn't end within the limit is killed.
     pub(crate) fn ended(&mut self, inside_frame: bool, limit: Duration) -> LinkError {
+        #[cfg(feature = "embedded")]
+        if let Self::Library(library) = self {
+            return library.ended(inside_frame);
+        }
         let Self::Program { child, words } = self else { return LinkError::Ended { inside_frame } };
         match wait(child, limit) {
             Ok(status) => LinkError::ProgramEnded { status: number_of(status), words: words_of(words), inside_frame },

@@ -55,6 +55,8 @@ pub fn end(error: &LinkError) -> String {
         LinkError::HubFull { words } => format!("hub-full {words}").trim_end().into(),
         LinkError::HubIdle { words } => format!("hub-idle {words}").trim_end().into(),
         LinkError::HubStopped => "hub-stopped".into(),
+        #[cfg(feature = "embedded")]
+        LinkError::Embedded { status, .. } => format!("library {status}"),
         LinkError::System { kind, .. } => format!("system {kind}"),
     }
 }

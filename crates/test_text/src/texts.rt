@@ -3,7 +3,7 @@
 use image_layout::{HeaderFault, ImageFault};
 use script_text::OutBuf;
 use tsd_model::Level;
-use tsd_serve::{Status, image_line, status_line};
+use tsd_words::{Status, image_line, status_line};
 
 #[test]
 fn texts_of_statuses(rt: HostRuntime) {
