@@ -6,14 +6,17 @@ import argparse
 import importlib
 import os
 import random
+import re
 import shutil
+import subprocess
 import sys
 import tempfile
 import time
 import traceback
 from collections import Counter
+from concurrent.futures import ThreadPoolExecutor, as_completed
 from pathlib import Path
-from typing import Iterator, List, Optional
+from typing import Iterator, List, Optional, Tuple
 
 from parts import FAILED, PASSED, SKIPPED, Context, Result, failed, skipped
 
@@ -39,6 +42,7 @@ def options(words: Optional[List[str]] = None) -> argparse.Namespace:
     parser.add_argument("--crashes", type=int, default=3000, help="how many crashes are tested (%(default)s)")
     parser.add_argument("--seed", type=int, help="what the random parts are drawn from; printed at the start")
     parser.add_argument("--only", choices=PARTS, action="append", help="this part alone; may be given again")
+    parser.add_argument("--jobs", type=int, default=1, help="how many parts run side by side (%(default)s)")
     return parser.parse_args(words)
 
 
@@ -121,6 +125,31 @@ def tried(names: List[str], given: argparse.Namespace) -> Counter:
     return progress.counts
 
 
+def tried_apart(name: str, given: argparse.Namespace) -> Tuple[str, Counter]:
+    """Tries a part in a process of its own: what that printed of it, and its counts."""
+    words = [sys.executable, str(TOP / "test"), "--program", str(given.program), "--seed", str(given.seed),
+             "--crashes", str(given.crashes), "--only", name]
+    done = subprocess.run(words, stdout=subprocess.PIPE, stderr=subprocess.STDOUT, text=True, errors="replace")
+    *lines, last = done.stdout.splitlines() or [""]
+    counts = Counter({word: int(number) for number, word in re.findall(r"(\d+) (passed|failed|skipped)", last)})
+    if done.returncode and not counts[FAILED]:
+        lines, counts = [*lines, last, f"{name}: ended with status {done.returncode}"], Counter({FAILED: 1})
+    # (the first line names the program and the seed)
+    return "\n".join(lines[1:]), counts
+
+
+def tried_side_by_side(names: List[str], given: argparse.Namespace) -> Counter:
+    """Tries so many parts at a time, those that take long first. What a part printed is printed when it has ended."""
+    counts: Counter = Counter()
+    with ThreadPoolExecutor(given.jobs) as pool:
+        first = sorted(names, key=lambda name: name not in LONG)
+        for done in as_completed([pool.submit(tried_apart, name, given) for name in first]):
+            text, found = done.result()
+            print(text, flush=True)
+            counts += found
+    return counts
+
+
 def main(words: Optional[List[str]] = None) -> int:
     """Runs ./test with these words; its exit status, which is 1 also where nothing at all could be tried."""
     given = options(words)
@@ -131,6 +160,7 @@ def main(words: Optional[List[str]] = None) -> int:
         print("0 passed, 1 failed")
         return 1
     print(f"program {given.program}, seed {given.seed}", flush=True)
-    counts = tried(given.only or list(PARTS), given)
+    names = given.only or list(PARTS)
+    counts = tried_side_by_side(names, given) if given.jobs > 1 else tried(names, given)
     print(closing(counts))
     return 1 if counts[FAILED] or not counts[PASSED] else 0

@@ -4,8 +4,8 @@
 //! standard streams; the closures that rank blocks are made here.
 //!
 //! What it promises: the contract of the top call over the objects that are made here. What the command line and a file
-//! that a word names are on a real machine is trusted. Tests alone show it: those of this crate, its stored run, and
-//! the script `tests/edge`, which runs the built program.
+//! that a word names are on a real machine is trusted. Tests alone show it: its stored run, and the script `tests/edge`,
+//! which runs the built program.
 #![tactic(auto)]
 
 mod asking;
@@ -15,14 +15,8 @@ mod line;
 mod opening;
 mod run;
 mod testing;
-#[cfg(test)]
-mod tests;
 mod usage;
-#[cfg(test)]
-mod usage_tests;
 mod words;
-#[cfg(test)]
-mod words_tests;
 
 use file_stations::InputSource;
 use image_files::{StandIns, Trouble};
