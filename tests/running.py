@@ -26,6 +26,9 @@ PARTS = (
     "packages", "judge_faults", "crashes", "crash_rows", "failing_calls", "kills", "mirror", "audit", "copies",
     "behind", "groups", "edge", "slips", "completions", "pages",
 )
+# The parts that take longest.
+LONG = ("random_runs", "clients", "failing_calls", "crashes", "embedding", "mirror", "copies", "file_crashes", "edge",
+        "large", "hubs", "files", "slips", "audit")
 TOP = Path(__file__).resolve().parent.parent
 PROGRAMS = (TOP / "dist/x86_64-linux/tsd", TOP / "crates/tsd_cli/out/tsd_cli")
 MEMORY_FOLDER = Path("/dev/shm")
