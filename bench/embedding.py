@@ -11,7 +11,7 @@ from typing import Dict, List
 
 from trials import PROGRAM, TOP, Place, Row, Rows, call, left_out
 
-ROUNDS = 3
+ROUNDS = 5
 COUNT = 20_000
 SEED = "00" * 31 + "07"
 STORES = (("LMDB", "lmdb", "-DWITH_LMDB", "-llmdb"), ("SQLite", "sqlite", "-DWITH_SQLITE", "-lsqlite3"))
@@ -48,7 +48,7 @@ def rows_at(folder: Path, tools: Path, where: str, stores: List[str]) -> Rows:
     runs: Dict[str, List[Dict[str, float]]] = {}
     for _ in range(ROUNDS):
         image.unlink(missing_ok=True)
-        cap = call([image, "format", 1000, 1, 1000, 1, SEED]).split()[2].decode()
+        cap = call([image, "format", 1000, 1, 1000, 1, SEED]).split()[3].decode()
         count = COUNT if where == "in memory" else COUNT // 20
         runs.setdefault("library", []).append(micros(tools / "host", "time", image, cap, count))
         runs.setdefault("pipe", []).append(micros(tools / "stores", "pipe", PROGRAM, image, cap, count))

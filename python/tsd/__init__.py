@@ -22,8 +22,9 @@ from tsd.disk import Disk, connect
 from tsd.disk import open_disk as open
 from tsd.errors import (
     AlreadyOpen, BadCount, BadRequest, BadSession, BadSize, Closed, Denied, DiskEnded, Ended, FreeBlock, Full, HubFull,
-    HubIdle, HubStopped, IsPrimary, Level, LinkError, LockTaken, NoMemory, NoPointer, NoReply, NoRun, NoSuchBlock,
-    NotOpen, NotPrimary, PointerExists, PointersFull, ProgramEnded, Refused, Silent, TsdError, Unknown, WrongProcess,
+    HubIdle, HubStopped, IsPrimary, Level, LibraryFailed, LinkError, LockTaken, NoMemory, NoPointer, NoReply, NoRun,
+    NoSuchBlock, NotOpen, NotPrimary, PointerExists, PointersFull, ProgramEnded, Refused, Silent, TsdError, Unknown,
+    WrongProcess,
 )
 from tsd.hub_words import Greeting
 from tsd.locks import Lock
@@ -38,9 +39,9 @@ __version__ = "0.2.0"
 __all__ = [
     "AlreadyOpen", "BadCount", "BadRequest", "BadSession", "BadSize", "Capability", "Closed", "Denied", "Disk",
     "DiskEnded", "Ended", "FreeBlock", "Full", "Greeting", "HubFull", "HubIdle", "HubStopped", "IsPrimary", "Level",
-    "LinkError", "Lock", "LockTaken", "NoMemory", "NoPointer", "NoReply", "NoRun", "NoSuchBlock", "NotOpen",
-    "NotPrimary", "Pair", "PointerExists", "PointersFull", "ProgramEnded", "Refused", "Session", "Silent", "TsdError",
-    "Unknown", "WrongProcess", "aio", "connect", "format_disk", "open",
+    "LibraryFailed", "LinkError", "Lock", "LockTaken", "NoMemory", "NoPointer", "NoReply", "NoRun", "NoSuchBlock",
+    "NotOpen", "NotPrimary", "Pair", "PointerExists", "PointersFull", "ProgramEnded", "Refused", "Session", "Silent",
+    "TsdError", "Unknown", "WrongProcess", "aio", "connect", "format_disk", "open",
 ]
 
 
