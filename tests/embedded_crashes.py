@@ -1,6 +1,6 @@
-"""Crashes of a host of the library, for tests/embedding.py. The host in C is compiled with clients/embed/tests/watching.c,
-which notes each write to the mapped image, each sync that was answered and each reply that was put. So each moment of a
-run is known as it is for a program over a file: a sector is loose from a write to it on until the next sync answers.
+"""Crashes of a host of the library, for tests/embedding.py. The host in C is linked with clients/embed/tests/watching.c,
+which notes each write to the mapped image, each sync that was done and each reply that was put. So each moment of a run
+is known as it is for a program over a file: a sector is loose from a write to it on until the next sync is done.
 
 At each moment images are made with all that is loose old, new, zeros, 0x01 or 0xff, and some with each loose sector on
 its own, also torn. Each stands where a prefix of the requests leads that holds every one whose reply was put, and none
@@ -31,7 +31,7 @@ from rows import CAPS, OPEN, SEED, SWEEP, alloc, chain, create, delete, write
 WAYS = ("each", "apply", "batch")
 WRAPPED = ("mmap", "munmap", "msync", "memcpy", "memmove", "tsd_c_apply", "tsd_c_batch")
 DONE = b"done, done\n"
-DRAWN_RUNS = 3
+DRAWN_RUNS = 2
 DRAWN_REQUESTS = 24
 # So many images a moment have each loose sector on its own.
 IMAGES_AT_A_MOMENT = 3
@@ -203,7 +203,8 @@ def planted_faults(watched: Watched, way: str) -> Iterator[Result]:
     before, requests = watched.image.read_bytes(), plain_requests()
     course = course_of(way, Disk.fresh(8, 1, READ_CAP, WRITE_CAP), ((READ_CAP, WRITE_CAP),), requests)
     events = watched.judged_run(way, watched.image, course, requests).events
-    names = ("a sync that is lost", "a reply before its sync", "two bodies swapped", "a gate before its bodies are firm")
+    names = ["a sync that is lost", "a reply before its sync", "two bodies swapped",
+             "a gate before its bodies are firm"]
     yield from planted(f"crashes, {way}", Recorded(events, course, before), names)
 
 

@@ -56,8 +56,8 @@ struct tsd_embed {
 
 /* --- syncs --- */
 
-/* Waits for a byte that asks for a sync, or that ends the syncer. The syncs of a request come soon one after another, so
-   it looks some times before it sleeps: a thread that sleeps takes longer to wake than a sync may take. */
+/* Waits for a byte that asks for a sync, or that ends the syncer. The syncs of a request come soon one after another,
+   so it looks some times before it sleeps: a thread that sleeps takes longer to wake than a sync may take. */
 static bool next_ask(int from, char *asked) {
     for (int looks = 0;;) {
         ssize_t count = read(from, asked, 1);
@@ -450,8 +450,8 @@ tsd_embed_status tsd_embed_format(const char *path, uint32_t blocks, uint32_t se
     sigset_t before;
     tsd_embed_status status = make_image(disk, path, bytes);
     if (status == TSD_EMBED_OK && (status = enter(disk, &before)) == TSD_EMBED_OK) {
-        status = tsd_c_format(disk->image, disk->bytes, disk->ask, disk->answer, blocks, sectors, slots, primaries, seed,
-                              SEED, (uint8_t *)lines, room, filled);
+        status = tsd_c_format(disk->image, disk->bytes, disk->ask, disk->answer, blocks, sectors, slots, primaries,
+                              seed, SEED, (uint8_t *)lines, room, filled);
         leave(disk, &before);
     }
     let_go(disk);

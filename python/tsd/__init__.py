@@ -8,7 +8,8 @@
         print(session.read(0, pair.read).rstrip(b"\\0"), disk.free())
 
 Blocks are numbers, contents are bytes, and capabilities are a type that never prints itself. Each refusal is an
-exception of its own, and no call waits forever. This package stands outside the disk's proofs, and weakens none.
+exception of its own, and no call of a program or a hub waits forever. This package stands outside the disk's proofs,
+and weakens none.
 """
 
 from __future__ import annotations

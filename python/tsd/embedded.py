@@ -40,9 +40,9 @@ def library_path() -> str:
     for path in (above / LIBRARY_NAME, above / "crates/tsd_c/out" / LIBRARY_NAME):
         if path.is_file():
             return str(path)
-    raise FileNotFoundError(errno.ENOENT, f"the disk's library isn't there: `tools/embed shared` makes it in a clone by a C "
-                            f"compiler, docs/EMBEDDING.md says how elsewhere, and {LIBRARY_VARIABLE} may name it",
-                            LIBRARY_NAME)
+    why = (f"the disk's library isn't there: `tools/embed shared` makes it in a clone, by a C compiler; "
+           f"docs/EMBEDDING.md says how elsewhere; {LIBRARY_VARIABLE} may name it")
+    raise FileNotFoundError(errno.ENOENT, why, LIBRARY_NAME)
 
 
 def loaded(path: str) -> ctypes.CDLL:
