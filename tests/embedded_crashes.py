@@ -1,6 +1,7 @@
-"""Crashes of a host of the library, for tests/embedding.py. The host in C is linked with clients/embed/tests/watching.c,
-which notes each write to the mapped image, each sync that was done and each reply that was put. So each moment of a run
-is known as it is for a program over a file: a sector is loose from a write to it on until the next sync is done.
+"""Crashes of a host of the library, for tests/embedding.py. The host in C is linked with
+clients/embed/tests/watching.c, which notes each write to the mapped image, each sync that was done and each reply that
+was put. So each moment of a run is known as it is for a program over a file: a sector is loose from a write to it on
+until the next sync is done.
 
 At each moment images are made with all that is loose old, new, zeros, 0x01 or 0xff, and some with each loose sector on
 its own, also torn. Each stands where a prefix of the requests leads that holds every one whose reply was put, and none
