@@ -6,8 +6,10 @@ from __future__ import annotations
 
 import asyncio
 import os
+import re
 import shutil
 import subprocess
+import sys
 import tempfile
 import threading
 import unittest
@@ -21,7 +23,6 @@ from case_table import make_disk
 import test_cases
 from tsd import embedded, requests
 
-OWNER_ALONE = 0o600
 IN_USE, NO_IMAGE, FAILED_SYNC = 27, 3, 4
 
 
@@ -102,6 +103,19 @@ class Embedded(InFolder):
                 tsd.open(self.image, embedded=True)
             self.assertIn(path, str(other.exception))
 
+    def test_an_installation(self) -> None:
+        self.make()
+        root = self.folder / "root"
+        subprocess.run([str(TOP / "tools/install"), "install", str(root)], env={**os.environ, "PROGRAM": PROGRAM},
+                       check=True, timeout=MOST_SECONDS)
+        [line] = re.findall(r"^cc .*-shared.*$", (root / "share/doc/tsd/EMBEDDING.md").read_text(), re.MULTILINE)
+        subprocess.run(line.replace("PREFIX", str(root)).split(), check=True, timeout=MOST_SECONDS)
+        script = "import sys, tsd\nprint(tsd.open(sys.argv[1], embedded=True).free(), tsd.__file__)"
+        environment = {**os.environ, "PYTHONPATH": str(root / "lib/tsd/python"), embedded.LIBRARY_VARIABLE: ""}
+        done = subprocess.run([sys.executable, "-c", script, str(self.image)], env=environment, capture_output=True,
+                              text=True, timeout=MOST_SECONDS)
+        self.assertEqual(f"63 {root}/lib/tsd/python/tsd/__init__.py\n", done.stdout, done.stderr)
+
     def test_what_it_has_not(self) -> None:
         self.make()
         for more in ({"place": "low"}, {"program": PROGRAM}):
@@ -133,8 +147,8 @@ class Embedded(InFolder):
                   "try: disk.close()\n"
                   "except tsd.LibraryFailed as error: print(error.status)\n")
         environment = {**os.environ, "SYNCS": "20", "PYTHONPATH": os.pathsep.join([str(TOP / "python")])}
-        done = subprocess.run([shutil.which("python3") or "python3", "-c", script, str(self.image)], env=environment,
-                              input=pair.write.reveal().hex(), capture_output=True, text=True, timeout=MOST_SECONDS)
+        done = subprocess.run([sys.executable, "-c", script, str(self.image)], env=environment, capture_output=True,
+                              input=pair.write.reveal().hex(), text=True, timeout=MOST_SECONDS)
         first, *rest = done.stdout.splitlines()
         told = "1 the disk's library: a sync of the image failed (status 4)"
         self.assertEqual([str(FAILED_SYNC), told, str(FAILED_SYNC)], rest, done.stderr)
