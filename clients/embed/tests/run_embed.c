@@ -13,6 +13,7 @@
 
 #include <errno.h>
 #include <pthread.h>
+#include <stdatomic.h>
 #include <stdbool.h>
 #include <stdio.h>
 #include <stdlib.h>
@@ -108,7 +109,7 @@ struct busy {
     tsd_embed *disk;
     const uint8_t *frames;
     size_t length;
-    volatile bool is_over;
+    atomic_bool is_over;
 };
 
 static void *keep_busy(void *given) {
