@@ -2,7 +2,7 @@
 
      stores pipe PROGRAM IMAGE CAPABILITY COUNT     microseconds of a request by `serve`, one at a time
      stores lmdb FOLDER COUNT                       of a get and a durable put of 512 bytes, a transaction each
-     stores sqlite FILE COUNT                       the same, by prepared statements; full sync, a rollback journal */
+     stores sqlite FILE COUNT                       the same, by prepared statements; write-ahead mode, full sync */
 #define _GNU_SOURCE
 #include <stdint.h>
 #include <stdio.h>
@@ -132,7 +132,8 @@ static void sqlite_times(const char *path, long count) {
     sqlite3_stmt *get, *put;
     static char bytes[BLOCK];
     need(sqlite3_open(path, &base) == SQLITE_OK, "sqlite");
-    static const char begin[] = "PRAGMA synchronous=FULL; CREATE TABLE v(k INTEGER PRIMARY KEY, b BLOB); BEGIN";
+    static const char begin[] = "PRAGMA journal_mode=WAL; PRAGMA synchronous=FULL; "
+                                "CREATE TABLE v(k INTEGER PRIMARY KEY, b BLOB); BEGIN";
     need(sqlite3_exec(base, begin, 0, 0, 0) == 0, "sqlite");
     need(sqlite3_prepare_v2(base, "INSERT OR REPLACE INTO v VALUES(?,?)", -1, &put, 0) == 0, "sqlite");
     need(sqlite3_prepare_v2(base, "SELECT b FROM v WHERE k=?", -1, &get, 0) == 0, "sqlite");

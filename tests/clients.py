@@ -20,6 +20,8 @@ NAME = "clients"
 SIDE_BY_SIDE = 2
 # These take longest, and so they go first.
 LONGEST = ("test_hub_fair", "test_install", "test_hub", "test_hub_outside", "test_puts", "test_processes", "test_shell")
+# It needs the library, so the part `embedding` runs it.
+EMBEDDED = "test_embedded"
 MOST_SECONDS = 900
 
 
@@ -53,7 +55,7 @@ def name_of(test: unittest.TestCase) -> str:
 
 def in_order(folder: Path) -> List[str]:
     """The files of tests, those first that take longest."""
-    names = sorted(path.stem for path in folder.glob("test_*.py"))
+    names = sorted(path.stem for path in folder.glob("test_*.py") if path.stem != EMBEDDED)
     return [name for name in LONGEST if name in names] + [name for name in names if name not in LONGEST]
 
 

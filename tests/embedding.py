@@ -2,7 +2,9 @@
 
 The cases of clients/cases.txt over it, in one call, a call for each request, and as one batch; the same images and
 replies as the program makes; what is refused; who has the image meanwhile; a host killed in mid-run a hundred times;
-the example of the client for Rust; and, where the tools are there, all in C under valgrind and the address sanitizer."""
+crashes at each moment of a host (embedded_crashes); each sync failing; the example of the client for Rust, and the
+tests of Python's (python/tests/test_embedded.py); and, where the tools are there, all in C under valgrind and the
+address sanitizer."""
 
 from __future__ import annotations
 
@@ -15,6 +17,8 @@ import time
 from pathlib import Path
 from typing import Iterator, List, NamedTuple, Tuple
 
+import clients
+import embedded_crashes
 from c_client import WORKED
 from case_table import SEED, Table, make_disk, read_table, written_out
 from disk_requests import cut_frames, frame, parse_line, parse_reply_body, reply_line, request_body
@@ -232,7 +236,8 @@ def tried_failures(context: Context, archive: str, table: Table) -> Iterator[Res
     wrapped = str(context.top / "clients/embed/tests/failing_syncs.c")
     said = build(context, archive, "failing", "-O1", "-Wl,--wrap=msync", wrapped)
     yield compared("compiled with syncs that fail", "", said)
-    case, image = max(table.cases, key=lambda one: sum("write" in step for step, _ in one.steps)), context.folder / "failing.img"
+    case = max(table.cases, key=lambda one: sum("write" in step for step, _ in one.steps))
+    image = context.folder / "failing.img"
     for way in ("apply", "each", "batch"):
         whole, wrong, failures = b"", [], 0
         for syncs in [MOST_SYNCS * 100, *range(MOST_SYNCS)]:
@@ -244,7 +249,8 @@ def tried_failures(context: Context, archive: str, table: Table) -> Iterator[Res
             failures += has_failed
             check = subprocess.run([str(context.program), str(image), "check"], capture_output=True, text=True,
                                    timeout=MOST_SECONDS)
-            if not (check.returncode == 0 and whole.startswith(replies) and (has_failed or (replies, told_by) == (whole, DONE))):
+            is_whole = (replies, told_by) == (whole, DONE)
+            if not (check.returncode == 0 and whole.startswith(replies) and (has_failed or is_whole)):
                 wrong.append((syncs, replies, told_by, check.stdout))
         name = f"each sync failing in turn, {way}"
         yield passed(name) if not wrong and failures > 1 else failed(name, f"{failures} {wrong}")
@@ -261,8 +267,8 @@ def tried_rust(context: Context, archive: str) -> Iterator[Result]:
                    "TSD_LIBRARY": archive}
     command = ["cargo", "run", "--quiet", "--offline", "--locked", "--features", "embedded", "--example", "worked"]
     for words, wanted in ((["--embed", str(image), str(cap)], WORKED), (["--embed", "none", str(cap)], "No such file")):
-        done = subprocess.run([*command, "--", *words], cwd=context.top / "clients/rust", env=environment, capture_output=True,
-                              text=True, timeout=MOST_SECONDS)
+        done = subprocess.run([*command, "--", *words], cwd=context.top / "clients/rust", env=environment,
+                              capture_output=True, text=True, timeout=MOST_SECONDS)
         found = done.stdout + done.stderr
         is_so = found == wanted if done.returncode == 0 else wanted != WORKED and wanted in found
         label = f"the client for Rust, over {words[1]}"
@@ -280,7 +286,8 @@ def run(context: Context) -> Iterator[Result]:
     host = Host(context, context.folder / "host", [], "")
     table = read_table(context.top)
     for tried in (tried_refusals(host), tried_format(host), tried_cases(host, table), tried_kills(host),
-                  tried_failures(context, archive, table), tried_rust(context, archive)):
+                  embedded_crashes.results(context, archive, FLAGS), tried_failures(context, archive, table),
+                  tried_rust(context, archive), clients.results_of(context, clients.EMBEDDED)):
         yield from tried
     checked = []
     if shutil.which("valgrind"):

@@ -28,10 +28,11 @@ LAST_BODY = FIRST_BODY + 112
 
 
 class Recorded(NamedTuple):
-    """A run and its course."""
+    """A run and its course, and the image that it begins with."""
 
     events: List[Event]
     course: Course
+    before: bytes = b""
 
 
 def plain_requests() -> List[Request]:
@@ -93,14 +94,14 @@ def record(recorder: Recorder, context: Context, requests: Sequence[Request]) ->
     return Recorded(recording.events, course)
 
 
-def caught(events: Sequence[Event], course: Course, first: int = 0) -> str:
-    """What the judge says of a run, looked at from a call on: the first difference, or nothing."""
-    medium = Medium(b"")
+def caught(events: Sequence[Event], recorded: Recorded, first: int = 0) -> str:
+    """What the judge says of a run with these calls, looked at from one on: the first difference, or nothing."""
+    medium = Medium(recorded.before)
     numbers = random.Random(42)
     for number, progress in moments(medium, events):
         for _ in range(IMAGES_AT_A_MOMENT if number >= first else 0):
             try:
-                judge_image(medium, some_choices(numbers, medium), progress, course)
+                judge_image(medium, some_choices(numbers, medium), progress, recorded.course)
             except Different as different:
                 return str(different)
     return ""
@@ -194,12 +195,12 @@ FAULTS: Dict[str, Callable[[Sequence[Event]], Iterator[List[Event]]]] = {
 
 def planted(what: str, recorded: Recorded, names: Sequence[str]) -> Iterator[Result]:
     """No fault in a recorded run, and each kind of fault at each place where it can be."""
-    said = caught(recorded.events, recorded.course)
+    said = caught(recorded.events, recorded)
     yield failed(f"{what}: no fault", said) if said else passed(f"{what}: no fault")
     for name in names:
         runs = list(FAULTS[name](recorded.events))
         missed = [number for number, events in enumerate(runs)
-                  if not caught(events, recorded.course, first_change(recorded.events, events))]
+                  if not caught(events, recorded, first_change(recorded.events, events))]
         text = f"{len(missed)} of {len(runs)} weren't caught: number {missed}"
         yield failed(f"{what}: {name}", text) if missed or not runs else passed(f"{what}: {name}: {len(runs)} caught")
 

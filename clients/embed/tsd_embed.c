@@ -8,6 +8,7 @@
 
 #include <errno.h>
 #include <fcntl.h>
+#include <poll.h>
 #include <pthread.h>
 #include <signal.h>
 #include <stdatomic.h>
@@ -16,7 +17,6 @@
 #include <string.h>
 #include <sys/file.h>
 #include <sys/mman.h>
-#include <sys/socket.h>
 #include <sys/stat.h>
 #include <unistd.h>
 
@@ -27,6 +27,8 @@ enum {
     OWNER_ALONE = 0600,
     MOST_PATH = 4096,
     SEED = 32,
+    END = 'E', /* the byte that ends the syncer, which no ask of the library has */
+    LOOKS = 50, /* how often the syncer looks for the next sync before it sleeps: some 10 microseconds */
     SHORT_REPLY = LENGTH_BYTES + 16, /* of a reply without data, blocks or targets */
     DATA_REPLY = LENGTH_BYTES + 1 + 4096,
     BLOCKS_REPLY = LENGTH_BYTES + 8 + 4 * 32,
@@ -46,40 +48,63 @@ struct tsd_embed {
     int file;
     uint8_t *image;
     size_t bytes;
-    int ours, theirs;   /* the two ends of the socket by which syncs are asked for and answered */
+    int ask, asked;     /* the ends of the pipe by which syncs are asked for */
+    int answered, answer; /* those of the pipe by which they are answered */
     pthread_t syncer;
     bool has_syncer;
 };
 
 /* --- syncs --- */
 
-static void *answer_syncs(void *given) {
-    tsd_embed *disk = given;
-    char asked;
-    for (;;) {
-        ssize_t count = read(disk->theirs, &asked, 1);
-        if (count < 0 && errno == EINTR) {
-            continue;
+/* Waits for a byte that asks for a sync, or that ends the syncer. The syncs of a request come soon one after another,
+   so it looks some times before it sleeps: a thread that sleeps takes longer to wake than a sync may take. */
+static bool next_ask(int from, char *asked) {
+    for (int looks = 0;;) {
+        ssize_t count = read(from, asked, 1);
+        if (count == 1) {
+            return *asked != END;
         }
-        if (count != 1) {
-            return NULL;
+        if (count == 0 || (errno != EINTR && errno != EAGAIN)) {
+            return false;
         }
-        char is_synced = msync(disk->image, disk->bytes, MS_SYNC) == 0;
-        while (write(disk->theirs, &is_synced, 1) < 0 && errno == EINTR) {
+        if (errno == EAGAIN && ++looks > LOOKS) {
+            struct pollfd one = {from, POLLIN, 0};
+            poll(&one, 1, -1);
         }
     }
 }
 
-static bool start_syncer(tsd_embed *disk) {
+static void put_byte(int to, char byte) {
+    while (write(to, &byte, 1) < 0 && errno == EINTR) {
+    }
+}
+
+static void *answer_syncs(void *given) {
+    tsd_embed *disk = given;
+    char asked;
+    while (next_ask(disk->asked, &asked)) {
+        put_byte(disk->answered, msync(disk->image, disk->bytes, MS_SYNC) == 0);
+    }
+    return NULL;
+}
+
+/* A pipe whose ends no program gets that this process starts. */
+static bool make_pipe(int *reading, int *writing) {
     int ends[2];
-    sigset_t all, before;
-    if (socketpair(AF_UNIX, SOCK_STREAM, 0, ends) != 0) {
+    if (pipe(ends) != 0) {
         return false;
     }
-    disk->ours = ends[0];
-    disk->theirs = ends[1];
-    fcntl(ends[0], F_SETFD, FD_CLOEXEC);
-    fcntl(ends[1], F_SETFD, FD_CLOEXEC);
+    *reading = ends[0];
+    *writing = ends[1];
+    return fcntl(ends[0], F_SETFD, FD_CLOEXEC) == 0 && fcntl(ends[1], F_SETFD, FD_CLOEXEC) == 0;
+}
+
+static bool start_syncer(tsd_embed *disk) {
+    sigset_t all, before;
+    if (!make_pipe(&disk->asked, &disk->ask) || !make_pipe(&disk->answer, &disk->answered) ||
+        fcntl(disk->asked, F_SETFL, O_NONBLOCK) != 0) {
+        return false;
+    }
     sigfillset(&all);
     pthread_sigmask(SIG_SETMASK, &all, &before);
     int error = pthread_create(&disk->syncer, NULL, answer_syncs, disk);
@@ -158,25 +183,18 @@ static bool sync_folder(const char *path) {
 
 /* Lets go of all that a disk has of the system, and frees it. errno stays. */
 static void let_go(tsd_embed *disk) {
-    int error = errno;
-    bool is_owner = disk->owner == getpid();
-    if (disk->ours >= 0) {
-        if (is_owner) {
-            shutdown(disk->ours, SHUT_RDWR); /* a child that lives has the end too, so closing alone ends nothing */
-        }
-        close(disk->ours);
-    }
-    if (is_owner && disk->has_syncer) {
+    int error = errno, files[] = {disk->ask, disk->asked, disk->answered, disk->answer, disk->file};
+    if (disk->owner == getpid() && disk->has_syncer) {
+        put_byte(disk->ask, END); /* a child that lives has the pipe too, so closing it ends nothing */
         pthread_join(disk->syncer, NULL);
-    }
-    if (disk->theirs >= 0) {
-        close(disk->theirs);
     }
     if (disk->image != NULL) {
         munmap(disk->image, disk->bytes);
     }
-    if (disk->file >= 0) {
-        close(disk->file);
+    for (size_t at = 0; at < sizeof files / sizeof *files; at++) {
+        if (files[at] >= 0) {
+            close(files[at]);
+        }
     }
     free(disk);
     errno = error;
@@ -185,7 +203,7 @@ static void let_go(tsd_embed *disk) {
 static tsd_embed *begin(void) {
     tsd_embed *disk = calloc(1, sizeof *disk);
     if (disk != NULL) {
-        disk->file = disk->ours = disk->theirs = -1;
+        disk->file = disk->ask = disk->asked = disk->answered = disk->answer = -1;
         disk->owner = getpid();
         atomic_flag_clear(&disk->inside);
     }
@@ -242,7 +260,7 @@ static tsd_embed_status hold(tsd_embed *disk) {
     if (disk->is_open) {
         return TSD_EMBED_OK;
     }
-    tsd_embed_status status = tsd_c_open(&disk->handle, disk->image, disk->bytes, disk->ours, disk->ours);
+    tsd_embed_status status = tsd_c_open(&disk->handle, disk->image, disk->bytes, disk->ask, disk->answer);
     disk->is_open = status == TSD_EMBED_OK;
     disk->has_failed = status == TSD_EMBED_DEVICE;
     return status;
@@ -253,7 +271,7 @@ static tsd_embed_status release(tsd_embed *disk) {
         return TSD_EMBED_OK;
     }
     disk->is_open = false;
-    tsd_embed_status status = tsd_c_close(&disk->handle, disk->image, disk->bytes, disk->ours, disk->ours);
+    tsd_embed_status status = tsd_c_close(&disk->handle, disk->image, disk->bytes, disk->ask, disk->answer);
     disk->has_failed = disk->has_failed || status == TSD_EMBED_DEVICE;
     return status;
 }
@@ -290,7 +308,7 @@ tsd_embed_status tsd_embed_apply(tsd_embed *disk, const void *frames, size_t len
     *filled = 0;
     status = hold(disk);
     if (status == TSD_EMBED_OK) {
-        status = tsd_c_apply(&disk->handle, disk->image, disk->bytes, disk->ours, disk->ours, frames, length, replies,
+        status = tsd_c_apply(&disk->handle, disk->image, disk->bytes, disk->ask, disk->answer, frames, length, replies,
                              room, filled);
         disk->has_failed = status == TSD_EMBED_DEVICE;
     }
@@ -308,7 +326,7 @@ tsd_embed_status tsd_embed_batch(tsd_embed *disk, const void *frames, size_t len
     *filled = 0;
     status = disk->has_failed ? TSD_EMBED_CLOSED : release(disk);
     if (status == TSD_EMBED_OK) {
-        status = tsd_c_batch(disk->image, disk->bytes, disk->ours, disk->ours, frames, length, replies, room, filled);
+        status = tsd_c_batch(disk->image, disk->bytes, disk->ask, disk->answer, frames, length, replies, room, filled);
         disk->has_failed = status == TSD_EMBED_DEVICE;
     }
     leave(disk, &before);
@@ -432,8 +450,8 @@ tsd_embed_status tsd_embed_format(const char *path, uint32_t blocks, uint32_t se
     sigset_t before;
     tsd_embed_status status = make_image(disk, path, bytes);
     if (status == TSD_EMBED_OK && (status = enter(disk, &before)) == TSD_EMBED_OK) {
-        status = tsd_c_format(disk->image, disk->bytes, disk->ours, disk->ours, blocks, sectors, slots, primaries, seed,
-                              SEED, (uint8_t *)lines, room, filled);
+        status = tsd_c_format(disk->image, disk->bytes, disk->ask, disk->answer, blocks, sectors, slots, primaries,
+                              seed, SEED, (uint8_t *)lines, room, filled);
         leave(disk, &before);
     }
     let_go(disk);

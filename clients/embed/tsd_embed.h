@@ -59,13 +59,13 @@ tsd_embed_status tsd_embed_batch(tsd_embed *disk, const void *frames, size_t len
 size_t tsd_embed_room(const void *frames, size_t length);
 
 /* Does what is left to be done, lets go of the image, and frees the disk; all that but the first is done on any status
-   but BUSY. In another process than the one that opened it nothing is done to the image, and the library's memory of the
-   disk stays until that process ends. Of NULL it is OK. */
+   but BUSY. In another process than the one that opened it nothing is done to the image, and the library's memory of
+   the disk stays until that process ends. Of NULL it is OK. */
 tsd_embed_status tsd_embed_close(tsd_embed *disk);
 
 /* Makes a disk in a file that is missing or empty, for its owner alone. The seed has 32 bytes that nobody can guess:
-   from them the capabilities are drawn. A line for each primary block is put into `lines`: its number, and its capabilities
-   to read and to write; 80 bytes for each are enough. The sizes are those of `tsd FILE format`. */
+   from them the capabilities are drawn. A line for each primary block is put into `lines`: its number, and its
+   capabilities to read and to write; 80 bytes for each are enough. The sizes are those of `tsd FILE format`. */
 tsd_embed_status tsd_embed_format(const char *path, uint32_t blocks, uint32_t sectors, uint32_t slots,
                                   uint32_t primaries, const uint8_t seed[32], char *lines, size_t room, size_t *filled);
 

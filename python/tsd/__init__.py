@@ -8,7 +8,8 @@
         print(session.read(0, pair.read).rstrip(b"\\0"), disk.free())
 
 Blocks are numbers, contents are bytes, and capabilities are a type that never prints itself. Each refusal is an
-exception of its own, and no call waits forever. This package stands outside the disk's proofs, and weakens none.
+exception of its own, and no call of a program or a hub waits forever. This package stands outside the disk's proofs,
+and weakens none.
 """
 
 from __future__ import annotations
@@ -22,8 +23,9 @@ from tsd.disk import Disk, connect
 from tsd.disk import open_disk as open
 from tsd.errors import (
     AlreadyOpen, BadCount, BadRequest, BadSession, BadSize, Closed, Denied, DiskEnded, Ended, FreeBlock, Full, HubFull,
-    HubIdle, HubStopped, IsPrimary, Level, LinkError, LockTaken, NoMemory, NoPointer, NoReply, NoRun, NoSuchBlock,
-    NotOpen, NotPrimary, PointerExists, PointersFull, ProgramEnded, Refused, Silent, TsdError, Unknown, WrongProcess,
+    HubIdle, HubStopped, IsPrimary, Level, LibraryFailed, LinkError, LockTaken, NoMemory, NoPointer, NoReply, NoRun,
+    NoSuchBlock, NotOpen, NotPrimary, PointerExists, PointersFull, ProgramEnded, Refused, Silent, TsdError, Unknown,
+    WrongProcess,
 )
 from tsd.hub_words import Greeting
 from tsd.locks import Lock
@@ -38,9 +40,9 @@ __version__ = "0.2.0"
 __all__ = [
     "AlreadyOpen", "BadCount", "BadRequest", "BadSession", "BadSize", "Capability", "Closed", "Denied", "Disk",
     "DiskEnded", "Ended", "FreeBlock", "Full", "Greeting", "HubFull", "HubIdle", "HubStopped", "IsPrimary", "Level",
-    "LinkError", "Lock", "LockTaken", "NoMemory", "NoPointer", "NoReply", "NoRun", "NoSuchBlock", "NotOpen",
-    "NotPrimary", "Pair", "PointerExists", "PointersFull", "ProgramEnded", "Refused", "Session", "Silent", "TsdError",
-    "Unknown", "WrongProcess", "aio", "connect", "format_disk", "open",
+    "LibraryFailed", "LinkError", "Lock", "LockTaken", "NoMemory", "NoPointer", "NoReply", "NoRun", "NoSuchBlock",
+    "NotOpen", "NotPrimary", "Pair", "PointerExists", "PointersFull", "ProgramEnded", "Refused", "Session", "Silent",
+    "TsdError", "Unknown", "WrongProcess", "aio", "connect", "format_disk", "open",
 ]
 
 

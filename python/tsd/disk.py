@@ -1,4 +1,4 @@
-"""A disk that is open: its own program, or a hub that was joined."""
+"""A disk that is open: by its own program, by a hub that was joined, or by the library in this process."""
 
 from __future__ import annotations
 
@@ -14,7 +14,7 @@ from tsd.arguments import PathWord, one_of, path_word, seconds
 from tsd.errors import BadRequest, Ended, LinkError, ProgramEnded, TsdError
 from tsd.hub_words import Greeting
 from tsd.image_header import geometry_of
-from tsd.link import Link
+from tsd.link import AnyLink, Link
 from tsd.locks import LIMIT
 from tsd.peers import ProgramPeer, SocketPeer
 from tsd.programs import PLACES, Program, image_word, program_words
@@ -25,6 +25,7 @@ Answer = TypeVar("Answer")
 LOG = logging.getLogger("tsd")
 SESSIONS = range(1, 65)
 GROUP, SERVE = "group", "serve"
+NEAR = "near"
 USAGE = 2
 
 
@@ -32,7 +33,7 @@ class Disk:
     """A disk that `open` or `connect` opened. As a context it closes itself. Several threads may use it; another
     process may not (WrongProcess)."""
 
-    def __init__(self, link: Link, geometry: Optional[Greeting] = None) -> None:
+    def __init__(self, link: AnyLink, geometry: Optional[Greeting] = None) -> None:
         """Of `open` and `connect`."""
         self._link = link
         self._geometry = geometry
@@ -86,22 +87,23 @@ class Disk:
 
     def close(self) -> None:
         """Ends the link, once the requests under way are answered. ProgramEnded where the program ended with another
-        status than 0; another LinkError where the link failed. Once more does nothing."""
+        status than 0; LibraryFailed where a sync failed; another LinkError where the link failed. Once more does
+        nothing."""
         if not self._link.close():
             return
         failure = self._link.failure
         if failure is not None and (self._link.lost or not is_good_end(failure)):
             raise failure
 
-    def _live_link(self) -> Link:
+    def _live_link(self) -> AnyLink:
         """The link to ask by."""
         self._link.check_process()
         return self._link
 
-    def _note_unknown(self, link: Link) -> None:
+    def _note_unknown(self, link: AnyLink) -> None:
         self._unknown += [request for request in link.take_lost() if request.CHANGES]
 
-    def _give_back(self, link: Link, number: int) -> None:
+    def _give_back(self, link: AnyLink, number: int) -> None:
         """A number of this link, which may be one of before, is free again."""
         with self._lock:
             if link is self._link:
@@ -155,8 +157,20 @@ def started(program: List[str], image: str, command: List[str], limit: float) ->
 WITHOUT_GROUP: Set[Tuple[str, ...]] = set()
 
 
+def opened_here(image: str, place: str, program: Program) -> Disk:
+    """Opens an image by the library in this process."""
+    from tsd.embedded import EmbeddedLink
+
+    if place != NEAR or program is not None:
+        raise ValueError(f"embedded takes blocks by {NEAR!r}, and has no program")
+    link = EmbeddedLink(image)
+    LOG.info("open: %r", link)
+    return Disk(link, geometry_of(image))
+
+
 def open_disk(
-    image: PathWord, place: str = "near", *, program: Program = None, limit: float = LIMIT, group: bool = True
+    image: PathWord, place: str = "near", *, program: Program = None, limit: float = LIMIT, group: bool = True,
+    embedded: bool = False,
 ) -> Disk:
     """Opens an image by `tsd IMAGE group PLACE`, or by `serve` where the program has no such command or `group` is
     false, for this process alone. By `group` requests that are under way together are committed together, so that a
@@ -164,8 +178,15 @@ def open_disk(
 
     The place says which free block is taken first: `low`, `near`, `spread` or `zone`. It waits until the image is open;
     ProgramEnded where it can't be opened. Where requests are under way and no reply comes for so many seconds as the
-    limit says, the disk has failed (Silent); the opening has to come within it too."""
+    limit says, the disk has failed (Silent); the opening has to come within it too.
+
+    With `embedded` the disk is opened by the library in this process (docs/EMBEDDING.md), with no program: each request
+    is carried out by the time its call returns, and is durable before its reply, as by `serve`. Blocks are taken by
+    `near`, and no limit holds. FileNotFoundError where there is no library, LibraryFailed where the image can't be
+    opened."""
     name, place, limit = path_word(image, "image"), one_of(place, "place", PLACES), seconds(limit)
+    if embedded:
+        return opened_here(name, place, program)
     words = program_words(program)
     if not group or tuple(words) in WITHOUT_GROUP:
         return started(words, name, [SERVE, place], limit)

@@ -293,6 +293,20 @@ class ProgramEnded(Ended):
         return f"the disk's program ended with status {self.status}{self._where()}{words}"
 
 
+class LibraryFailed(LinkError):
+    """A call of the library in this process failed, with a status of tsd_embed.h and its words."""
+
+    FIELDS = ("status", "words")
+
+    def __init__(self, status: int, words: str) -> None:
+        super().__init__(status, words)
+        self.status = status
+        self.words = words
+
+    def __str__(self) -> str:
+        return f"the disk's library: {self.words} (status {self.status})"
+
+
 class DiskEnded(LinkError):
     """A hub tells that its disk ended, with this status and these words."""
 

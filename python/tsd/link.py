@@ -38,28 +38,17 @@ class Waiting(NamedTuple):
     future: Future[Any]
 
 
-class Link:
-    """Requests and replies to a peer. Several threads may use it."""
+class AnyLink:
+    """What every link has: the process that opened it, and why it failed."""
 
-    def __init__(self, peer: Peer, limit: float, tells_unknown: bool = False) -> None:
-        """The limit is a number of seconds, above 0. Where the link fails each request under way gets the failure, or
-        where that is asked for Unknown, which has the request too."""
-        self._peer = peer
-        self._limit = limit
-        self._tells_unknown = tells_unknown
+    def __init__(self) -> None:
         self._process = os.getpid()
-        LINKS.add(self)
-        self._sending = threading.Lock()
         self._state = threading.Lock()
-        self._waiting: Deque[Waiting] = deque()
         self._failure: Optional[LinkError] = None
         self._lost = 0
         self._untold: List[Request[Any]] = []
         self._is_closed = False
-        self._has_answered = False
-        self._since = time.monotonic()
-        self._reader = threading.Thread(target=self._receive, name="tsd replies", daemon=True)
-        self._reader.start()
+        LINKS.add(self)
 
     @property
     def failure(self) -> Optional[LinkError]:
@@ -82,6 +71,37 @@ class Link:
         """WrongProcess in any other process than the one that opened it."""
         if os.getpid() != self._process:
             raise WrongProcess(self._process, os.getpid())
+
+    def ask(self, request: Request[Answer], session: int = 0) -> Future[Answer]:
+        """Sends a request: the future gets the answer, or the error. A LinkError is raised at once where the link has
+        failed before."""
+        raise NotImplementedError
+
+    def close(self) -> bool:
+        """No more requests. False where it was closed before."""
+        raise NotImplementedError
+
+    def forget(self) -> None:
+        """In a child of `fork`: gives back what the child has of it, and leaves the parent's as it is."""
+        raise NotImplementedError
+
+
+class Link(AnyLink):
+    """Requests and replies to a peer. Several threads may use it."""
+
+    def __init__(self, peer: Peer, limit: float, tells_unknown: bool = False) -> None:
+        """The limit is a number of seconds, above 0. Where the link fails each request under way gets the failure, or
+        where that is asked for Unknown, which has the request too."""
+        super().__init__()
+        self._peer = peer
+        self._limit = limit
+        self._tells_unknown = tells_unknown
+        self._sending = threading.Lock()
+        self._waiting: Deque[Waiting] = deque()
+        self._has_answered = False
+        self._since = time.monotonic()
+        self._reader = threading.Thread(target=self._receive, name="tsd replies", daemon=True)
+        self._reader.start()
 
     def ask(self, request: Request[Answer], session: int = 0) -> Future[Answer]:
         """Sends a request, and doesn't wait for its reply: the future gets the answer, or the error. A LinkError is
@@ -245,7 +265,7 @@ def give(waiting: Waiting, reply: Reply) -> None:
         raise error
 
 
-LINKS: weakref.WeakSet[Link] = weakref.WeakSet()
+LINKS: weakref.WeakSet[AnyLink] = weakref.WeakSet()
 
 
 def forget_all() -> None:

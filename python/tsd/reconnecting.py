@@ -8,7 +8,7 @@ import time
 
 from tsd.disk import Disk, joined
 from tsd.errors import Closed, DiskEnded, Ended, HubFull, HubIdle, HubStopped
-from tsd.link import Link
+from tsd.link import AnyLink
 
 LOG = logging.getLogger("tsd")
 FIRST_NAP, LONGEST_NAP = 0.02, 0.5
@@ -33,7 +33,7 @@ class ReconnectingDisk(Disk):
         self._is_closed = False
         super().__init__(*joined(path, limit, tells_unknown=True))
 
-    def _live_link(self) -> Link:
+    def _live_link(self) -> AnyLink:
         self._link.check_process()
         with self._joining:
             if self._is_closed:

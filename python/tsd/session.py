@@ -9,7 +9,7 @@ from typing import Callable, Iterator, List, Optional, Type, TypeVar
 from tsd import requests
 from tsd.capability import Capability
 from tsd.errors import NotOpen, TsdError
-from tsd.link import Link
+from tsd.link import AnyLink
 from tsd.locks import LIMIT, Lock
 from tsd.replies import MOST_TARGETS
 from tsd.requests import Request
@@ -24,7 +24,7 @@ class Session:
     is shown only with the request that it is given to.
     """
 
-    def __init__(self, link: Link, number: int, give_back: Callable[[int], None]) -> None:
+    def __init__(self, link: AnyLink, number: int, give_back: Callable[[int], None]) -> None:
         """Of `Disk.session`: a session that is open, and what is told when its number is free again."""
         self._link = link
         self._give_back = give_back

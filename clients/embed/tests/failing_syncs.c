@@ -1,4 +1,5 @@
-/* Linked with -Wl,--wrap=msync: the first syncs are done, as many as the variable SYNCS says, and each later one fails. */
+/* Linked with -Wl,--wrap=msync: the first syncs are done, as many as the variable SYNCS says, and each later one
+   fails. */
 #include <errno.h>
 #include <stdlib.h>
 #include <sys/mman.h>

@@ -6,12 +6,14 @@
      run_embed refused IMAGE                  what is refused, and that nothing was done
      run_embed counts IMAGE CAPABILITY FEW    writes 1, 2, 3 .. to block 0, FEW in each call, until it is killed; each
                                               number once it is answered
-     run_embed time IMAGE CAPABILITY COUNT    microseconds of requests, as lines of a name and a number */
+     run_embed time IMAGE CAPABILITY COUNT    microseconds of requests, as lines of a name and a number; the capability
+                                              is one to write */
 #define _DEFAULT_SOURCE
 #include "../tsd_embed.h"
 
 #include <errno.h>
 #include <pthread.h>
+#include <stdatomic.h>
 #include <stdbool.h>
 #include <stdio.h>
 #include <stdlib.h>
@@ -20,7 +22,7 @@
 #include <time.h>
 #include <unistd.h>
 
-enum { MOST = 1 << 26, HEAD = 26, CAP = 16, BLOCK = 512 };
+enum { MOST = 1 << 26, HEAD = 26, CAP = 16, BLOCK = 512, REFUSED = 8 };
 
 static void put_number(uint8_t *at, uint32_t number) {
     for (int byte = 0; byte < 4; byte++) {
@@ -107,7 +109,7 @@ struct busy {
     tsd_embed *disk;
     const uint8_t *frames;
     size_t length;
-    volatile bool is_over;
+    atomic_bool is_over;
 };
 
 static void *keep_busy(void *given) {
@@ -213,6 +215,16 @@ static double now(void) {
     return (double)time.tv_sec * 1e6 + (double)time.tv_nsec / 1e3;
 }
 
+/* Ends the program where a reply is a refusal: its time would be no request's. */
+static void need_granted(const uint8_t *replies, size_t filled) {
+    for (size_t at = 0; at < filled; at += 2 + (replies[at] | (size_t)replies[at + 1] << 8)) {
+        if (replies[at + 2] == REFUSED) {
+            fprintf(stderr, "a request was refused\n");
+            exit(1);
+        }
+    }
+}
+
 /* The microseconds of a request, of which `few` come in each call. */
 static double timed(tsd_embed *disk, const uint8_t *one, size_t length, size_t few, size_t count, bool batch) {
     uint8_t *asked = malloc(few * length + 64);
@@ -232,6 +244,7 @@ static double timed(tsd_embed *disk, const uint8_t *one, size_t length, size_t f
         }
     }
     double taken = now() - start;
+    need_granted(replies, filled);
     free(asked);
     free(replies);
     return taken / (double)count;
