@@ -46,9 +46,14 @@ pub trait Handler {
     /// The name of the reference through which it holds its disk, where it borrows that.
     ghost lender: { Self → ℕ };
 
-    /// Carries out a request. A crash at any moment leaves the state before or the one after. `Failed` comes only where
-    /// `faults` rose, and it is spent then; else they are as they were.
-    fn apply<D: Device>(&mut self, dev: &mut D, request: &Request) -> Result<Reply, Failed>
+    /// Carries out a request, and puts its reply into the room for it. A crash at any moment leaves the state before or
+    /// the one after. `Failed` comes only where `faults` rose, and it is spent then; else they are as they were.
+    fn apply<D: Device>(
+        &mut self,
+        dev: &mut D,
+        request: &Request,
+        into: &mut Reply,
+    ) -> Result<(), Failed>
         requires ready { is_ready self.old }
         requires at { D.told → FitsDevice (holds self.old) (D.view dev.old) }
         ensures lender { lender self.new ≡ lender self.old }
@@ -56,9 +61,9 @@ pub trait Handler {
         ensures ready { OnOk result (is_ready self.new) }
         ensures at { D.told → OnOk result (FitsDevice (holds self.new) (D.view dev.new)) }
         ensures spent { OnErr result (is_spent self.new) }
-        ensures form { IfOk result HasForm }
+        ensures form { OnOk result (HasForm into.new) }
         /// promise: The reply and the state after are those of the rules.
-        ensures given { D.told → IfOk result (λ r. rules.gives (state self.old (D.view dev.old).reads) request.now r
+        ensures given { D.told → OnOk result (rules.gives (state self.old (D.view dev.old).reads) request.now into.new
             (state self.new (D.view dev.new).reads)) }
         ensures sent { D.told → (D.view dev.new).sent ≡ (D.view dev.old).sent }
         /// promise (with sent): A crash at any moment leaves the state before or the one after; nothing is sent.
@@ -79,7 +84,7 @@ pub trait Handler {
         ensures before { D.told → work.bounded request.now → OnOk result ((D.view dev.new).writes
             ≤ (D.view dev.old).writes + work.before_answer (state self.old (D.view dev.old).reads)
             (work.debt (D.view dev.old).reads) request.now) }
-        ensures refused { IfOk result (λ r. is_refusal r ≡ true → dev.new ≡ dev.old) }
+        ensures refused { OnOk result (is_refusal into.new ≡ true → dev.new ≡ dev.old) }
         // Also where it failed, a crash at any moment leaves what no request touches as it was.
         ensures aside_kept { D.told → LeavesPart (aside self.old) (D.view dev.old) (D.view dev.new) }
         ensures works { CountsRise (D.view dev.old) (D.view dev.new) }
