@@ -17,10 +17,10 @@ ghost use Rattle.image_runs.specs.Server.{placed_on};
 ghost use Rattle.embedded_disk.specs.Calls.{AnsweredFrames, Applied, shown};
 
 use image_device::{Device, Failed, Port, Source};
-use image_runs::{open_core, serve_core};
+use image_runs::{open_core, serve_core_in};
 use place_policy::Placement;
 use request_frames::FrameCutter;
-use serving::INPUT_MAX;
+use serving::{INPUT_MAX, Intake};
 use std::alloc::Global;
 use tsd_core::Core;
 use tsd_map::FramesAtHand;
@@ -30,6 +30,9 @@ use tsd_words::Status;
 #[derive(Drop)]
 pub struct OpenDisk {
     core: Core,
+
+    /// Room for what comes in, which stays from call to call so that no call clears it.
+    intake: Intake,
 
     /// Whether a call on the device failed: then it may not be used again.
     failed: bool,
@@ -66,6 +69,7 @@ impl OpenDisk {
         let core = open_core(alloc, dev)?;
         Ok(OpenDisk {
             core,
+            intake: Intake::new(INPUT_MAX),
             failed: false,
         })
     }
@@ -125,13 +129,15 @@ impl OpenDisk {
     {
         match FrameCutter::new(alloc) {
             Ok(mut cutter) => {
-                let status = serve_core(
+                self.intake.renew(INPUT_MAX);
+                let status = serve_core_in(
                     &mut self.core,
                     placement,
                     &mut cutter,
                     source,
                     port,
                     INPUT_MAX,
+                    &mut self.intake,
                 );
                 self.failed = matches!(status, Status::DeviceFault);
                 status

@@ -42,5 +42,5 @@ pub use laws::{
 };
 pub use load::load_image;
 pub use opening::{open_core, open_volume};
-pub use run::serve_core;
+pub use run::{serve_core, serve_core_in};
 pub use upgrade::upgrade_image;

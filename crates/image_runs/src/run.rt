@@ -4,6 +4,7 @@ ghost use Rattle.std.specs.Prelude.{◌≡◌, ◌≢◌, ◌≤◌, [], true};
 ghost use Rattle.image_device.specs.Counts.{Rose};
 ghost use Rattle.image_device.specs.Runs.{LeavesPart};
 ghost use Rattle.image_world.specs.Behind.{behind};
+ghost use Rattle.serving.specs.Goes.{IsFresh};
 ghost use Rattle.serving.specs.Prompt.{IsOfPort, Promptly, mark};
 ghost use Rattle.serving.specs.Ran.{EndsOnce, Ran, moments, taking};
 ghost use Rattle.serving.specs.Voice.{spoken};
@@ -15,7 +16,7 @@ ghost use Rattle.image_runs.specs.Server.{disk_rules, disk_work, placed_on};
 use crate::server::CoreServer;
 use image_device::{Port, Source};
 use place_policy::Placement;
-use serving::{INPUT_MAX, Protocol, Replies, serve};
+use serving::{INPUT_MAX, Intake, Protocol, Replies, serve_in};
 use tsd_core::Core;
 use tsd_model::Request;
 use tsd_words::Status;
@@ -62,6 +63,48 @@ pub fn serve_core<S: Source, P: Port, R: Protocol<Request = Request> + Replies>(
     ensures no_device_fault { result ≢ Status.DeviceFault → (P.view port.new).faults ≡ (P.view port.old).faults }
     ensures no_put_fault { result ≢ Status.PutFault → (P.view port.new).put_faults ≡ (P.view port.old).put_faults }
 {
+    let mut intake = Intake::new(limit);
+    serve_core_in(core, placement, protocol, source, port, limit, &mut intake)
+}
+
+/// Serves the requests of an input by a core until it ends, as [`serve_core`] does, in the room of an intake that is
+/// there already.
+pub fn serve_core_in<S: Source, P: Port, R: Protocol<Request = Request> + Replies>(
+    core: &mut Core,
+    placement: &Placement,
+    protocol: &mut R,
+    source: &mut S,
+    port: &mut P,
+    limit: u64,
+    intake: &mut Intake,
+) -> Status
+    requires few { limit ≤ INPUT_MAX }
+    requires fresh { R.was_fed [] protocol.old }
+    requires room { IsFresh intake.old limit }
+    requires ready { IsCoreReady core.old }
+    requires at { P.told → IsCoreAt core.old (P.view port.old) }
+    /// promise: As for `serve_core`.
+    ensures ran { Ran result (spoken disk_rules R.voice) disk_work R.spelling
+        (placed_on placement.now.kind core.old (P.view port.old).reads)
+        (placed_on placement.now.kind core.new (P.view port.new).reads) limit
+        (taking S.told S.taken S.left_bytes S.ended source.old source.new) (due core.old.volume)
+        (moments P.told P.view port.old port.new) }
+    ensures prompt { P.told → Promptly result (spoken disk_rules R.voice) disk_work (IsOfPort P.view)
+        (placed_on placement.now.kind core.old (P.view port.old).reads) (mark (P.view port.old))
+        (mark (P.view port.new)) }
+    ensures ready { result ≢ Status.DeviceFault → IsCoreReady core.new }
+    ensures at { result ≢ Status.DeviceFault → P.told → IsCoreAt core.new (P.view port.new) }
+    ensures spent { result ≡ Status.DeviceFault → core.new.volume.is_spent ≡ true }
+    ensures closed { result ≡ Status.Done → P.told → IsQuiet (P.view port.new).reads }
+    ensures behind { P.told → LeavesPart (behind core.old.volume.tables.geometry) (P.view port.old) (P.view port.new) }
+    ensures once { EndsOnce (S.ends source.old) (S.ends source.new) }
+    ensures source_fault { result ≡ Status.SourceFault → Rose (S.faults source.old) (S.faults source.new) }
+    ensures device_fault { result ≡ Status.DeviceFault → Rose (P.view port.old).faults (P.view port.new).faults }
+    ensures put_fault { result ≡ Status.PutFault → Rose (P.view port.old).put_faults (P.view port.new).put_faults }
+    ensures no_source_fault { result ≢ Status.SourceFault → S.faults source.new ≡ S.faults source.old }
+    ensures no_device_fault { result ≢ Status.DeviceFault → (P.view port.new).faults ≡ (P.view port.old).faults }
+    ensures no_put_fault { result ≢ Status.PutFault → (P.view port.new).put_faults ≡ (P.view port.old).put_faults }
+{
     let mut server = CoreServer { core, placement };
-    serve(&mut server, protocol, source, port, limit)
+    serve_in(&mut server, protocol, source, port, limit, intake)
 }

@@ -34,5 +34,5 @@ pub use handler::Handler;
 pub use intake::{INPUT_MAX, Intake, Next};
 pub use protocol::{Ending, Fed, Protocol};
 pub use replies::Replies;
-pub use run::serve;
+pub use run::{serve, serve_in};
 pub use server::Server;

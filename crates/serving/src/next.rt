@@ -3,7 +3,7 @@
 ghost use Rattle.std.specs.Prelude.{◌≡◌, ◌≢◌, ◌≤◌, ◌<◌, ◌+◌, ◌-◌, ◌^◌, ◌++◌, []};
 ghost use Rattle.std.specs.Prelude.{ℕ, true, false, cond, List, length, min, take, ◌↔◌, IfOk, OnErr};
 ghost use Rattle.image_device.specs.Counts.{CountsEnd, CountsFault, Rose};
-ghost use Rattle.serving.specs.Goes.{SameCounts, unread, remaining, ends_left, IsNextAtEnd, Handed, Reads, IsFoundNext};
+ghost use Rattle.serving.specs.Goes.{IsFresh, SameCounts, unread, remaining, ends_left, IsNextAtEnd, Handed, Reads, IsFoundNext};
 ghost use Rattle.serving.specs.Input.{completed};
 ghost use Rattle.serving.specs.Ran.{IsAtEnd, taking};
 ghost use Rattle.serving.specs.declared.protocol.Ending.{Ending as EndingOf};
@@ -30,6 +30,18 @@ impl Intake {
             limit,
             over: false,
         }
+    }
+
+    /// Begins over another input, of which nothing was taken, in the same room. At most so many bytes are served.
+    pub fn renew(&mut self, limit: u64)
+        requires { limit ≤ INPUT_MAX }
+        ensures { IsFresh self.new limit }
+    {
+        self.from = 0;
+        self.to = 0;
+        self.taken = 0;
+        self.limit = limit;
+        self.over = false;
     }
 
     /// What comes next; a request is put into the room for it. That a request is handed out before more bytes are taken

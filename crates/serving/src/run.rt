@@ -3,6 +3,7 @@
 ghost use Rattle.std.specs.Prelude.{◌≡◌, ◌≢◌, ◌≤◌, [], ℕ, List};
 ghost use Rattle.image_device.specs.Counts.{Rose};
 ghost use Rattle.image_device.specs.Runs.{LeavesPart};
+ghost use Rattle.serving.specs.Goes.{IsFresh};
 ghost use Rattle.serving.specs.Handling.{FitsDevice};
 ghost use Rattle.serving.specs.Prompt.{IsOfPort, Promptly, mark};
 ghost use Rattle.serving.specs.Ran.{EndsOnce, Ran, moments, taking};
@@ -68,6 +69,46 @@ pub fn serve<S: Source, P: Port, R: Protocol, H: Server<R>>(
     ensures no_put_fault { result ≢ Status.PutFault → (P.view port.new).put_faults ≡ (P.view port.old).put_faults }
 {
     let mut intake = Intake::new(limit);
+    serve_in(server, protocol, source, port, limit, &mut intake)
+}
+
+/// Serves the requests of an input until it ends, as [`serve`] does, in the room of an intake that is there already: so
+/// a caller that serves many short inputs clears none for each.
+pub fn serve_in<S: Source, P: Port, R: Protocol, H: Server<R>>(
+    server: &mut H,
+    protocol: &mut R,
+    source: &mut S,
+    port: &mut P,
+    limit: u64,
+    intake: &mut Intake,
+) -> Status
+    requires few { limit ≤ INPUT_MAX }
+    requires fresh { R.was_fed [] protocol.old }
+    requires room { IsFresh intake.old limit }
+    requires ready { H.is_ready server.old }
+    requires at { P.told → FitsDevice (H.holds server.old) (P.view port.old) }
+    /// promise: As for `serve`.
+    ensures ran { Ran result H.service H.work R.spelling (H.state server.old (P.view port.old).reads)
+        (H.state server.new (P.view port.new).reads) limit
+        (taking S.told S.taken S.left_bytes S.ended source.old source.new)
+        (H.due server.old (P.view port.old).reads) (moments P.told P.view port.old port.new) }
+    ensures prompt { P.told → Promptly result H.service H.work (IsOfPort P.view) (H.state server.old
+        (P.view port.old).reads) (mark (P.view port.old)) (mark (P.view port.new)) }
+    ensures aside_kept { P.told → LeavesPart (H.aside server.old) (P.view port.old) (P.view port.new) }
+    ensures aside { H.aside server.new ≡ H.aside server.old }
+    ensures lender { H.lender server.new ≡ H.lender server.old }
+    ensures ready { result ≢ Status.DeviceFault → H.is_ready server.new }
+    ensures at { result ≢ Status.DeviceFault → P.told → FitsDevice (H.holds server.new) (P.view port.new) }
+    ensures spent { result ≡ Status.DeviceFault → H.is_spent server.new }
+    ensures closed { result ≡ Status.Done → P.told → H.is_closed (P.view port.new).reads }
+    ensures once { EndsOnce (S.ends source.old) (S.ends source.new) }
+    ensures source_fault { result ≡ Status.SourceFault → Rose (S.faults source.old) (S.faults source.new) }
+    ensures device_fault { result ≡ Status.DeviceFault → Rose (P.view port.old).faults (P.view port.new).faults }
+    ensures put_fault { result ≡ Status.PutFault → Rose (P.view port.old).put_faults (P.view port.new).put_faults }
+    ensures no_source_fault { result ≢ Status.SourceFault → S.faults source.new ≡ S.faults source.old }
+    ensures no_device_fault { result ≢ Status.DeviceFault → (P.view port.new).faults ≡ (P.view port.old).faults }
+    ensures no_put_fault { result ≢ Status.PutFault → (P.view port.new).put_faults ≡ (P.view port.old).put_faults }
+{
     let mut request = R::blank();
     loop {
         match intake.next::<S, R>(protocol, source, &mut request) {

@@ -1,6 +1,4 @@
-use Rattle.std.specs.Prelude.{Result, Ok, IfOk, OnOk}
-use Rattle.serving.specs.Handling.{FitsDevice}
-use Rattle.std.proofs.Common.{◌≡◌, ◌≤◌, ◌+◌, ◌++◌, take, inl, inr, refl, sym, ◌∙◌, ap, subst, arith}
+use Rattle.std.proofs.Common.{◌≡◌, ◌+◌, ◌++◌, take, inl, inr, refl, sym, ◌∙◌, ap, subst, arith}
 use Rattle.image_device.specs.Runs.{LeavesOnly}
 use Rattle.image_device.proofs.Outcomes.{where_err, unless_err}
 use Rattle.serving.proofs.Aside.{aside_put, aside_then}

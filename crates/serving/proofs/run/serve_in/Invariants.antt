@@ -4,7 +4,7 @@ use Rattle.serving.specs.Goes.{Goes, Handed, ends_left, remaining}
 use Rattle.serving.specs.Handling.{FitsDevice}
 use Rattle.serving.specs.Prompt.{IsOfPort}
 use Rattle.serving.specs.Ran.{Came, IsAtEnd}
-use Rattle.serving.proofs.run.serve.Given as goal
+use Rattle.serving.proofs.run.serve_in.Given as goal
 
 abbrev pub invariant-loop-server : goal.invariant-loop-server
 invariant-loop-server g l =

@@ -6,20 +6,20 @@ use Rattle.serving.proofs.Inputs.{came_first, came_then, handed_first, asked_sto
 use Rattle.serving.proofs.Steps.{served_of, ends_now, goes_first, goes_next, ends_stopped, ends_done, ends_close_fault, ends_longer, prompt_done, prompt_stopped, ran_of}
 use Rattle.serving.specs.Prompt.{IsOfPort}
 use Rattle.serving.specs.Ran.{taking, moments}
-use Rattle.serving.proofs.run.serve.Goals as goal
+use Rattle.serving.proofs.run.serve_in.Goals as goal
 
 ok_not_err : {T E : Type 0} (r : Result T E) (x : T) (why : E) → r ≡ Ok x → r ≡ Err why → ⊥
 ok_not_err r x why ok err = cc
 
 pub loop-server-init : goal.loop-server-init
 loop-server-init g c = record {
-  limit = c.new-intake.ensures.limit;
+  limit = c.requires.room.limit;
   lender = refl;
   aside = refl;
   aside_kept = λ told. part_stays (g.H.Server.aside c.args.server.now) (g.P.Device.view c.args.port.now) (g.met.P.Device.sound c.args.port.now told) (c.requires.at told).0;
   ready = c.requires.ready;
   at = c.requires.at;
-  once = omega (arith, c.new-intake.ensures.ends);
+  once = omega (arith, c.requires.room.ends);
   source_faults = refl;
   faults = refl;
   put_faults = refl;
@@ -27,7 +27,7 @@ loop-server-init g c = record {
     [],
     [],
     came_first g.S.Source.told _ _,
-    handed_first g.R.Protocol.spelling _ _ c.new-intake.result c.requires.fresh g.met.R.Protocol.lawful.none c.new-intake.ensures.taken c.new-intake.ensures.held c.new-intake.ensures.over,
+    handed_first g.R.Protocol.spelling _ _ c.args.intake.now c.requires.fresh g.met.R.Protocol.lawful.none c.requires.room.taken c.requires.room.held c.requires.room.over,
     λ told.
         let at = c.requires.at told in
         goes_first g.H.Server.service g.met.H.Server.counted g.H.Server.work (IsOfPort g.P.Device.view) _ _ (g.P.Device.view c.args.port.now) (g.met.P.Device.sound c.args.port.now told) at.0 (g.met.H.Server.stands_now c.args.server.now _ at.1) (g.met.H.Server.rests_now c.args.server.now _ at.1),
