@@ -15,6 +15,7 @@ mod followed;
 mod followed_tests;
 mod held;
 mod image_file;
+mod joined;
 mod mark;
 mod names;
 mod sectors;
