@@ -68,6 +68,8 @@ impl<F: Sectors> Followed<F> {
     /// Reads a sector. Where it isn't held, and others were read in a row before it or the row before was longer than
     /// one, it is read with as many behind it. Where that fails it is read alone, and only its own failure is told.
     pub fn read(&mut self, sector: u32, into: &mut [u8; 512]) -> Result<(), Trouble>
+        /// promise (with rests): Of a file that tells its bytes the sector is read that it has, with what was written
+        /// and waits laid over it.
         ensures bytes { F.told → OnOk result (IsPart (overlaid self.old.file.waiting (F.content self.old.file.file))
             (512 * sector) into.new) }
         ensures kept { OnErr result (into.new ≡ into.old) }
@@ -93,6 +95,7 @@ impl<F: Sectors> Followed<F> {
 
     /// Writes a sector: it waits where it goes on behind those that do, or lies among them; else they are sent first.
     pub fn write(&mut self, sector: u32, from: &[u8; 512]) -> Result<(), Trouble>
+        /// promise: After Ok the sector reads as the new bytes, and all else as before, whether it waits or not.
         ensures written { F.told → OnOk result (IsWritten (512 * sector) from.now
             (overlaid self.old.file.waiting (F.content self.old.file.file))
             (overlaid self.new.file.waiting (F.content self.new.file.file))) }
@@ -128,9 +131,12 @@ impl<F: Sectors> Followed<F> {
 
     /// Sends what waits, and has all that was written on the medium.
     pub fn sync(&mut self) -> Result<(), Trouble>
+        /// promise (with out): After Ok nothing waits, and the file has what was written.
         ensures same { F.told → OnOk result (overlaid self.new.file.waiting (F.content self.new.file.file)
             ≡ overlaid self.old.file.waiting (F.content self.old.file.file)) }
         ensures out { OnOk result (self.new.file.waiting.count ≡ 0) }
+        /// promise (with fails): **A write that failed isn't passed by**: after it, and after a sync that failed, each
+        /// call fails, so that a write which was answered Ok and is then lost is told.
         ensures lost { OnErr result (self.new.file.lost ≢ None) }
         ensures fails { self.old.file.lost ≢ None → IsErr result }
     {
