@@ -44,6 +44,7 @@ class Size(NamedTuple):
 
 EIGHT, TWICE, TIGHT = Size(8, 1, 32, 1), Size(8, 1, 32, 2), Size(8, 1, 5, 1)
 MANY, MORE = Size(64, 1, 256, 1), Size(600, 1, 2400, 1)
+FAR = Size(64, 8, 256, 1)
 
 
 class Row(NamedTuple):
@@ -250,6 +251,17 @@ def writes_between(recording: Recording) -> List[int]:
     return counts
 
 
+def calls_between(recording: Recording) -> List[int]:
+    """By how many calls they were."""
+    counts = [0]
+    for event in recording.events:
+        if event.kind == WRITE:
+            counts[-1] += 1
+        elif event.kind == PUT:
+            counts.append(0)
+    return counts
+
+
 def write_results(recorder: Recorder, program: Program, image: Path) -> Iterator[Result]:
     """A record takes three writes; where all eight are held, the ninth first puts them in place, by a write of the one
     sector and of eight gates; the end of a run puts the last one in place. What is refused or only looks writes
@@ -265,11 +277,22 @@ def write_results(recorder: Recorder, program: Program, image: Path) -> Iterator
     recording = recorder.run(image, ["run", "near"], lines_of("open 1/delete 1 0 W 1/free", MANY))
     yield compared("what is answered to a deletion", replies_of("ok/gone 40/free 63"), recording.out)
     yield compared("how often a deletion and four steps write", [0, 4, 20], writes_between(recording)[:3])
+    yield from row_results(recorder, program, image)
+
+
+def row_results(recorder: Recorder, program: Program, image: Path) -> Iterator[Result]:
+    """Sectors in a row are written by one call: of a record of eight bodies those, its descriptor, and its gate; where
+    all eight records are held, before that their homes, and each of eight gates, which have other sectors between."""
+    image.unlink()
+    program.run([image, *FAR.words()])
+    text = lines_of("/".join(["open 1", *[f"write 1 0 W {'01' * 8 * SECTOR}"] * 9]), FAR)
+    recording = recorder.run(image, ["run", "near"], text)
+    yield compared("how many sectors nine writes of eight write", [0] + [10] * 8 + [26, 9], writes_between(recording))
+    yield compared("by how many calls", [0] + [3] * 8 + [12, 2], calls_between(recording))
 
 
 # --- how often the disk is read ---
 
-FAR = Size(64, 8, 256, 1)
 # The sectors of counts, bits and slots follow sector 133; then come those of the blocks.
 FIRST_OF_FAR, FIRST_OF_MANY = 134 + 1 + 1 + 4, 134 + 1 + 1 + 4
 
@@ -336,7 +359,8 @@ def ahead_results(program: Program, image: Path) -> Iterator[Result]:
 
 def format_results(recorder: Recorder, image: Path) -> Iterator[Result]:
     """Two disks over a file that begins as a disk does and holds anything: which sectors are written, with what, and
-    which are left."""
+    which are left. Twelve calls write them: the format gate twice, the header, eight gates, and in one call the row of
+    all tables and primary blocks."""
     yield from formatted_results(recorder, image, Size(8, 1, 8, 1), 18, {
         0: b"TSDISK01" + numbers(1, 1, 8, 1, 8), 1: b"\1", 132: caps_of(1), 135: b"\1",
     }, [2, 117, 119, 121, 123, 125, 127, 129, 131, 133, 134, 136, 137])
@@ -356,7 +380,7 @@ def caps_of(primaries: int) -> bytes:
 
 
 def formatted_results(
-    recorder: Recorder, image: Path, size: Size, writes: int, said: Dict[int, bytes], zeros: List[int]
+    recorder: Recorder, image: Path, size: Size, sectors: int, said: Dict[int, bytes], zeros: List[int]
 ) -> Iterator[Result]:
     """One of them: these sectors begin so, these have zeros, and all others are as they were."""
     end, rubbish = 160, b"\xee" * SECTOR
@@ -366,8 +390,9 @@ def formatted_results(
     recording = recorder.run(image, size.words())
     kinds = [event.kind for event in recording.events]
     name = f"a format of {size.blocks} blocks of {size.sectors}"
-    yield compared(f"{name}: writes, syncs and puts", (0, writes, 3, 1),
-                   (recording.status, kinds.count(WRITE), kinds.count(SYNC), kinds.count(PUT)))
+    yield compared(f"{name}: sectors written, writes, syncs and puts", (0, sectors, 12, 3, 1),
+                   (recording.status, writes_between(recording)[0], kinds.count(WRITE), kinds.count(SYNC),
+                    kinds.count(PUT)))
     data = image.read_bytes()
     wanted = {**dict.fromkeys(zeros, b""), **said}
     for sector in range(end):

@@ -42,6 +42,8 @@ CERTIFICATE = b"block 0 depth 0 parent -"
 PIECE = 7
 # A scene of many calls gets no more time than this.
 MOST_SECONDS_OF_A_ROW = 40
+# So many bytes of a write are done before it fails: in its first sector, or in its third where it has as many.
+HALVES = (200, 1300)
 KIND_WORDS = {WRITE: "write", SYNC: "sync", READ: "read", PUT: "put", INPUT: "input"}
 FAULT_STATUS = {WRITE: 4, SYNC: 4, READ: 4, PUT: 6, INPUT: 5}
 FAULT_TEXT = {4: b"tsd: device fault\n", 5: b"tsd: input fault\n", 6: b"tsd: output fault\n"}
@@ -182,7 +184,7 @@ def trials(recording: Recording, kind: str, scene: Scene) -> Dict[str, List[Tria
     groups["fails from there on"] = [Trial(kind, number, True, causes[number % len(causes)]) for number in numbers]
     some = numbers[::3]
     if kind == WRITE:
-        groups["fails half done"] = [Trial(kind, number, False, "EIO@200") for number in some]
+        groups["fails half done"] = [Trial(kind, number, False, f"EIO@{done}") for number in some for done in HALVES]
     if kind in (WRITE, READ, PUT, INPUT):
         groups["is short"] = [Trial(kind, number, False, "short=1") for number in some]
     groups["is interrupted"] = [Trial(kind, number, False, "EINTR") for number in some]

@@ -17,7 +17,7 @@ from disk_model import Disk, Request
 from image_reader import FIRST_BODY, JOURNAL, SWEEP_FLAG, Fault, gate_sector, read_image
 from judging import NOT_FORMATTED, Course, Different, Standing, course_of_requests, judge_image
 from parts import Context, Result, compared, failed, passed, skipped
-from recording import PUT, SYNC, WRITE, Event, NoRecorder, Recorder
+from recording import PUT, SYNC, WRITE, Event, NoRecorder, Recorder, by_sectors
 
 NAME = "judge_faults"
 READ_CAP, WRITE_CAP = b"\xaa" * 16, b"\xbb" * 16
@@ -91,7 +91,7 @@ def record(recorder: Recorder, context: Context, requests: Sequence[Request]) ->
     course = course_of_requests(before, disk, ((READ_CAP, WRITE_CAP),), requests, frames=False, formats=True)
     if recording.out != course.out() or recording.status:
         raise Different(f"the run itself: {recording.status} {recording.error!r}\n{recording.out!r}\n{course.out()!r}")
-    return Recorded(recording.events, course)
+    return Recorded(by_sectors(recording.events), course)
 
 
 def caught(events: Sequence[Event], recorded: Recorded, first: int = 0) -> str:

@@ -10,6 +10,7 @@ from pathlib import Path
 from typing import Dict, List, NamedTuple, Sequence
 
 READ, WRITE, SYNC, TRUNCATE, PUT, INPUT, TELL = "RWSTPIE"
+SECTOR = 512
 WITH_BYTES = WRITE + PUT + TELL
 NOTE = struct.Struct("<c3xiqqQ")
 MOST_SECONDS = 120
@@ -47,6 +48,21 @@ class Recording(NamedTuple):
     out: bytes
     error: bytes
     events: List[Event]
+
+
+def by_sectors(events: Sequence[Event]) -> List[Event]:
+    """The same calls, with each write of several sectors as one of each of them: a stop may leave any of them done."""
+    cut: List[Event] = []
+    for event in events:
+        starts = range(0, event.length, SECTOR) if event.kind == WRITE and not event.error else ()
+        if len(starts) < 2 or event.offset % SECTOR:
+            cut.append(event)
+            continue
+        for start in starts:
+            piece = event.data[start:start + SECTOR]
+            done = min(max(event.answer - start, 0), len(piece))
+            cut.append(Event(WRITE, 0, event.offset + start, done, len(piece), piece))
+    return cut
 
 
 class NoRecorder(Exception):

@@ -37,6 +37,14 @@ impl Image {
         }
     }
 
+    /// Hands what was written and waits to the system.
+    fn send(&mut self) -> Result<(), Trouble> {
+        match self {
+            Image::Open(file) => file.send(),
+            Image::Lost(_) => Ok(()),
+        }
+    }
+
     /// Has all that was written on the medium.
     fn sync(&mut self) -> Result<(), Trouble> {
         match self {
@@ -45,28 +53,33 @@ impl Image {
         }
     }
 
-    /// The number of sectors.
-    fn end(&self) -> Result<u64, Trouble>
+    /// The number of sectors, with those that were written and waited.
+    fn end(&mut self) -> Result<u64, Trouble>
         ensures { IfOk result (λ end. end ≤ 2 ^ 32) }
     {
+        self.send()?;
         match self {
             Image::Open(file) => file.file().end(),
             Image::Lost(trouble) => Err(*trouble),
         }
     }
 
-    /// What it is kept in, where the system may show of it what the medium doesn't hold: where it could be written, to
-    /// a file or a device.
+    /// What it is kept in, where a write or a sync failed and the system may show of it what the medium doesn't hold:
+    /// where it could be written, to a file or a device.
     fn doubt(&self) -> Option<Kind> {
         match self {
-            Image::Open(file) if file.file().is_written() => Some(file.file().kind()),
+            Image::Open(file) if file.lost().is_some() && file.file().is_written() => {
+                Some(file.file().kind())
+            }
             _ => None,
         }
     }
 }
 
-/// An image in a file, read and written by offset, and read ahead where reads follow one another. It counts the calls
-/// that failed and the syncs that were answered Ok, each up to the greatest `u64`.
+/// An image in a file, read and written by offset: read ahead where reads follow one another, and written by one call
+/// where sectors do, for which a write waits until it is sent. It counts the calls that failed and the syncs that were
+/// answered Ok, each up to the greatest `u64`. A write that was answered Ok and then can't be sent is told and counted
+/// by the next call, and each call fails from then on.
 #[derive(Drop)]
 pub struct FileSide {
     image: Image,
@@ -124,6 +137,7 @@ impl FileSide {
             Ok(()) => Ok(()),
             Err(trouble) => {
                 note(&mut self.trouble, trouble);
+                self.unsure = self.image.doubt();
                 self.faults = self.faults.saturating_add(1);
                 Err(Failed)
             }
@@ -137,6 +151,31 @@ impl FileSide {
         ensures syncs { self.new.syncs ≡ self.old.syncs }
     {
         match self.image.write(sector, from) {
+            Ok(()) => Ok(()),
+            Err(trouble) => {
+                note(&mut self.trouble, trouble);
+                self.unsure = self.image.doubt();
+                self.faults = self.faults.saturating_add(1);
+                Err(Failed)
+            }
+        }
+    }
+
+    /// Hands what waits to the system, before a reply is put. Where that fails the next call on the image tells it.
+    pub fn pass_on(&mut self)
+        ensures faults { self.new.faults ≡ self.old.faults }
+        ensures syncs { self.new.syncs ≡ self.old.syncs }
+    {
+        let _told_later = self.image.send();
+    }
+
+    /// Hands what waits to the system, at the end of a run.
+    pub fn send(&mut self) -> Result<(), Failed>
+        ensures faults { CountsFault result self.old.faults self.new.faults }
+        ensures later { self.old.faults ≤ self.new.faults }
+        ensures syncs { self.new.syncs ≡ self.old.syncs }
+    {
+        match self.image.send() {
             Ok(()) => Ok(()),
             Err(trouble) => {
                 note(&mut self.trouble, trouble);
@@ -180,6 +219,7 @@ impl FileSide {
             Ok(end) => Ok(end),
             Err(trouble) => {
                 note(&mut self.trouble, trouble);
+                self.unsure = self.image.doubt();
                 self.faults = self.faults.saturating_add(1);
                 Err(Failed)
             }

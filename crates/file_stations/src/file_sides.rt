@@ -68,9 +68,19 @@ impl<'a, O, C, E, F> FileSides<'a, O, C, E, F> {
 }
 
 impl<O, C: Clock, E: Write, F: Write> FileSides<'_, O, C, E, F> {
-    /// Wipes what is told of long work, before anything else is written.
-    pub fn wipe(&mut self) {
+    /// Ends: wipes what is told of long work, before anything else is written, and hands what waits to the system. Tells
+    /// of the first image and of the second whether that failed: it does where a write did that was answered Ok.
+    pub fn finish(&mut self) -> (Result<(), Failed>, Result<(), Failed>) {
         self.progress.wipe();
+        let first = self.first.send();
+        if first.is_err() {
+            self.first_failed();
+        }
+        let second = self.second.send();
+        if second.is_err() {
+            self.second_failed();
+        }
+        (first, second)
     }
 
     /// After a call on the first image that failed: where it is the first one, tells why, and marks the second image,
@@ -235,8 +245,11 @@ impl<O: Write, C: Clock, E: Write, F: Write> Sides for FileSides<'_, O, C, E, F>
         }
     }
 
+    /// What was written is handed to the system before.
     fn put(&mut self, piece: &[u8]) -> Result<usize, Failed> {
         self.progress.wipe();
+        self.first.pass_on();
+        self.second.pass_on();
         self.outlet.put(piece)
     }
 

@@ -54,9 +54,11 @@ impl<O, C, E> FileStation<O, C, E> {
 }
 
 impl<O, C: Clock, E: Write> FileStation<O, C, E> {
-    /// Wipes what is told of long work, before anything else is written.
-    pub fn wipe(&mut self) {
+    /// Ends: wipes what is told of long work, before anything else is written, and hands what waits to the system. That
+    /// fails where a write does that was answered Ok.
+    pub fn finish(&mut self) -> Result<(), Failed> {
         self.progress.wipe();
+        self.image.send()
     }
 }
 
@@ -98,8 +100,10 @@ impl<O: Write, C: Clock, E: Write> Port for FileStation<O, C, E> {
     ghost use Rattle.image_device.specs.Calls.{Puts};
     ghost use Rattle.std.specs.Prelude.{◌≡◌, ◌<◌, ◌≤◌, length, IfOk, OnOk, OnErr};
 
+    /// What was written is handed to the system before.
     fn put(&mut self, piece: &[u8]) -> Result<usize, Failed> {
         self.progress.wipe();
+        self.image.pass_on();
         self.outlet.put(piece)
     }
 }

@@ -1,10 +1,11 @@
-//! A file that is read ahead where reads follow one another.
+//! A file that is read ahead where reads follow one another, and written by rows of sectors.
 
-ghost use Rattle.std.specs.Prelude.{◌≡◌, ◌*◌, OnOk, OnErr};
+ghost use Rattle.std.specs.Prelude.{◌≡◌, ◌≢◌, ◌*◌, None, OnOk, OnErr, IsErr};
 ghost use Rattle.image_files.specs.Bytes.{IsPart, IsWritten};
-ghost use Rattle.image_files.specs.Held.{Holds};
+ghost use Rattle.image_files.specs.Held.{Holds, overlaid};
 
 use crate::held::{Held, MOST};
+use crate::joined::Joined;
 use crate::sectors::Sectors;
 use crate::trouble::Trouble;
 use std::alloc::Global;
@@ -12,12 +13,14 @@ use std::alloc::Global;
 /// The most sectors that a block has: so many are read at once where the rows of reads before were as long.
 const MOST_OF_BLOCK: usize = 8;
 
-/// A file with sectors that were read before they were asked for. What is written over them is held from then on, and a
+/// A file with sectors that were read before they were asked for, and others that were written and wait for more behind
+/// them, which all go out by one call. What is written over sectors that were read ahead is held from then on, and a
 /// write or a sync that fails forgets them all: so what is held is what the file has, as long as no other process
-/// writes it. Its lock keeps out those that ask for it; it is advisory, and binds nobody else.
+/// writes it. Its lock keeps out those that ask for it; it is advisory, and binds nobody else. What still waits when it
+/// is let go is lost: it is sent before.
 #[derive(Drop)]
 pub struct Followed<F: Sectors> {
-    file: F,
+    file: Joined<F>,
     held: Held,
 
     /// The sector behind the one that was asked for last.
@@ -29,16 +32,18 @@ pub struct Followed<F: Sectors> {
     /// How many were in the row before, at most 8: where blocks have several sectors, as many as they have.
     usual: usize,
 
-    ghost agrees: { F.told → Holds held (F.content file) },
+    ghost agrees: { F.told → Holds held (overlaid file.waiting (F.content file.file)) },
 }
 
 impl<F: Sectors> Followed<F> {
     /// A file of which nothing was read yet.
     pub fn new(alloc: Global, file: F) -> Followed<F>
-        ensures { result.file ≡ file }
+        ensures file { result.file.file ≡ file }
+        ensures none { result.file.waiting.count ≡ 0 }
+        ensures whole { result.file.lost ≡ None }
     {
         Followed {
-            file,
+            file: Joined::new(alloc, file),
             held: Held::none(alloc),
             next: 0,
             row: 0,
@@ -46,20 +51,38 @@ impl<F: Sectors> Followed<F> {
         }
     }
 
-    /// The file.
+    /// The file. What waits isn't yet in it.
     pub fn file(&self) -> &F
-        ensures { result.now ≡ self.now.file }
+        ensures { result.now ≡ self.now.file.file }
     {
-        &self.file
+        self.file.file()
+    }
+
+    /// Why a write or a sync failed, where one did: each call fails from then on.
+    pub fn lost(&self) -> Option<Trouble>
+        ensures { result ≡ self.now.file.lost }
+    {
+        self.file.lost()
     }
 
     /// Reads a sector. Where it isn't held, and others were read in a row before it or the row before was longer than
     /// one, it is read with as many behind it. Where that fails it is read alone, and only its own failure is told.
     pub fn read(&mut self, sector: u32, into: &mut [u8; 512]) -> Result<(), Trouble>
-        ensures bytes { F.told → OnOk result (IsPart (F.content self.old.file) (512 * sector) into.new) }
+        /// promise (with rests): Of a file that tells its bytes the sector is read that it has, with what was written
+        /// and waits laid over it.
+        ensures bytes { F.told → OnOk result (IsPart (overlaid self.old.file.waiting (F.content self.old.file.file))
+            (512 * sector) into.new) }
         ensures kept { OnErr result (into.new ≡ into.old) }
-        ensures rests { F.told → F.content self.new.file ≡ F.content self.old.file }
+        ensures rests { F.told → overlaid self.new.file.waiting (F.content self.new.file.file)
+            ≡ overlaid self.old.file.waiting (F.content self.old.file.file) }
+        ensures fails { self.old.file.lost ≢ None → IsErr result × (self.new ≡ self.old) }
     {
+        if let Some(trouble) = self.file.lost() {
+            return Err(trouble);
+        }
+        if self.file.copy_waiting(sector, into) {
+            return Ok(());
+        }
         self.follow(sector);
         if self.held.copy(sector, into) {
             return Ok(());
@@ -70,33 +93,64 @@ impl<F: Sectors> Followed<F> {
         Ok(())
     }
 
-    /// Writes a sector.
+    /// Writes a sector: it waits where it goes on behind those that do, or lies among them; else they are sent first.
     pub fn write(&mut self, sector: u32, from: &[u8; 512]) -> Result<(), Trouble>
-        ensures { F.told → OnOk result (IsWritten (512 * sector) from.now (F.content self.old.file)
-            (F.content self.new.file)) }
+        /// promise: After Ok the sector reads as the new bytes, and all else as before, whether it waits or not.
+        ensures written { F.told → OnOk result (IsWritten (512 * sector) from.now
+            (overlaid self.old.file.waiting (F.content self.old.file.file))
+            (overlaid self.new.file.waiting (F.content self.new.file.file))) }
+        ensures lost { OnErr result (self.new.file.lost ≢ None) }
+        ensures fails { self.old.file.lost ≢ None → IsErr result }
     {
-        let done = self.file.write(sector, from);
-        match done {
-            Ok(()) => self.held.renew(sector, from),
-            Err(_) => self.held.forget(),
+        match self.file.write(sector, from.as_slice()) {
+            Ok(()) => {
+                self.held.renew(sector, from);
+                Ok(())
+            }
+            Err(trouble) => {
+                self.held.forget();
+                Err(trouble)
+            }
         }
-        done
     }
 
-    /// Has all that was written on the medium.
-    pub fn sync(&mut self) -> Result<(), Trouble>
-        ensures { F.told → OnOk result (F.content self.new.file ≡ F.content self.old.file) }
+    /// Sends what waits, so that it no longer hangs on this process.
+    pub fn send(&mut self) -> Result<(), Trouble>
+        ensures same { F.told → OnOk result (overlaid self.new.file.waiting (F.content self.new.file.file)
+            ≡ overlaid self.old.file.waiting (F.content self.old.file.file)) }
+        ensures out { OnOk result (self.new.file.waiting.count ≡ 0) }
+        ensures lost { OnErr result (self.new.file.lost ≢ None) }
+        ensures fails { self.old.file.lost ≢ None → IsErr result }
     {
-        let done = self.file.sync();
-        if done.is_err() {
+        if let Err(trouble) = self.file.send() {
             self.held.forget();
+            return Err(trouble);
         }
-        done
+        Ok(())
+    }
+
+    /// Sends what waits, and has all that was written on the medium.
+    pub fn sync(&mut self) -> Result<(), Trouble>
+        /// promise (with out): After Ok nothing waits, and the file has what was written.
+        ensures same { F.told → OnOk result (overlaid self.new.file.waiting (F.content self.new.file.file)
+            ≡ overlaid self.old.file.waiting (F.content self.old.file.file)) }
+        ensures out { OnOk result (self.new.file.waiting.count ≡ 0) }
+        /// promise (with fails): **A write that failed isn't passed by**: after it, and after a sync that failed, each
+        /// call fails, so that a write which was answered Ok and is then lost is told.
+        ensures lost { OnErr result (self.new.file.lost ≢ None) }
+        ensures fails { self.old.file.lost ≢ None → IsErr result }
+    {
+        if let Err(trouble) = self.file.sync() {
+            self.held.forget();
+            return Err(trouble);
+        }
+        Ok(())
     }
 
     /// Notes that a sector is asked for, and reads it with those behind it where that is worth it.
     fn follow(&mut self, sector: u32)
-        ensures { F.told → F.content self.new.file ≡ F.content self.old.file }
+        ensures { F.told → overlaid self.new.file.waiting (F.content self.new.file.file)
+            ≡ overlaid self.old.file.waiting (F.content self.old.file.file) }
     {
         if sector == self.next {
             self.row = self.row.saturating_add(1).min(MOST);

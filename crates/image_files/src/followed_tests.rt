@@ -1,4 +1,4 @@
-//! Tests of what is read ahead, over a file in memory that notes how it is read.
+//! Tests of what is read ahead, and of rows that are written, over a file in memory that notes its calls.
 
 use crate::followed::Followed;
 use crate::sectors::{SECTOR, Sectors};
@@ -6,11 +6,12 @@ use crate::trouble::Trouble;
 use std::cell::Cell;
 use std::test::Fail;
 
-/// A file in memory. Of each read it notes where it began and how many sectors it had.
+/// A file in memory. Of each read and each write it notes where it began and how many sectors it had.
 #[derive(Drop)]
 struct Noted {
     bytes: Vec<u8>,
     reads: Vec<(u32, usize)>,
+    writes: Vec<(u32, usize)>,
     fails: Cell<bool>,
 }
 
@@ -24,6 +25,7 @@ impl Noted {
         Ok(Noted {
             bytes,
             reads: Vec::new(rt.alloc()),
+            writes: Vec::new(rt.alloc()),
             fails: Cell::new(false),
         })
     }
@@ -48,12 +50,20 @@ impl Sectors for Noted {
         }
     }
 
-    fn write(&mut self, sector: u32, from: &[u8; 512]) -> Result<(), Trouble> {
-        let start = sector as usize * SECTOR;
-        if self.fails.get() || start + SECTOR > self.bytes.len() {
+    fn refusal(&self) -> Option<Trouble> {
+        None
+    }
+
+    fn write(&mut self, sector: u32, from: &[u8]) -> Result<(), Trouble> {
+        if self.writes.push((sector, from.len() / SECTOR)).is_err() || self.fails.get() {
             return Err(Trouble::PastEnd);
         }
-        self.bytes[start..start + SECTOR].copy_from_slice(from);
+        let start = sector as usize * SECTOR;
+        let end = start.saturating_add(from.len());
+        if end > self.bytes.len() {
+            return Err(Trouble::PastEnd);
+        }
+        self.bytes[start..end].copy_from_slice(from);
         Ok(())
     }
 
@@ -72,6 +82,11 @@ fn byte_of(file: &mut Followed<Noted>, sector: u32) -> Option<u8> {
         Ok(()) if bytes.iter().all(|byte| *byte == bytes[0]) => Some(bytes[0]),
         _ => None,
     }
+}
+
+/// The first byte that a file has in a sector.
+fn first_byte(file: &Followed<Noted>, sector: usize) -> Option<u8> {
+    file.file().bytes.get(sector * SECTOR).copied()
 }
 
 /// Reads blocks of so many sectors, each from its first sector on, and tells whether they are what the file has there.
@@ -130,22 +145,85 @@ fn what_was_read_ahead_is_written(rt: HostRuntime) -> Result<(), Fail> {
     Ok(())
 }
 
-/// What was read ahead is forgotten where a write or a sync fails, and a read that fails is told.
+/// Once a write or a sync failed each call fails, also where the file goes on; a write may be answered Ok before.
 #[test]
-fn a_failure_forgets_all(rt: HostRuntime) -> Result<(), Fail> {
-    for is_write in [false, true] {
+fn after_a_failure_each_call_fails(rt: HostRuntime) -> Result<(), Fail> {
+    for turn in 0..3 {
         let mut file = Followed::new(rt.alloc(), Noted::new(&rt)?);
         assert!(rt; reads_blocks(&mut file, 8, &[2, 4]));
         file.file().fails.set(true);
         assert_eq!(rt; byte_of(&mut file, 39), Some(39));
-        let done = if is_write {
-            file.write(39, &[0; SECTOR])
-        } else {
-            file.sync()
+        assert!(rt; file.write(39, &[0; SECTOR]).is_ok());
+        let done = match turn {
+            0 => file.write(41, &[0; SECTOR]),
+            1 => file.send(),
+            _ => file.sync(),
         };
         assert!(rt; done.is_err());
+        file.file().fails.set(false);
         assert_eq!(rt; byte_of(&mut file, 39), None);
+        assert!(rt; file.write(39, &[0; SECTOR]).is_err());
+        assert!(rt; file.send().is_err());
+        assert!(rt; file.sync().is_err());
     }
+    Ok(())
+}
+
+/// Sectors that follow one another are written by one call, also where one is written again among them; a gap ends the
+/// row. Before that they are read as they were written.
+#[test]
+fn a_row_is_written_by_one_call(rt: HostRuntime) -> Result<(), Fail> {
+    let mut file = Followed::new(rt.alloc(), Noted::new(&rt)?);
+    for (sector, byte) in [
+        (8, 78),
+        (9, 70),
+        (10, 80),
+        (11, 81),
+        (9, 79),
+        (12, 82),
+        (10, 99),
+    ] {
+        assert!(rt; file.write(sector, &[byte; SECTOR]).is_ok());
+    }
+    assert!(rt; file.file().writes.is_empty());
+    for (sector, wanted) in [
+        (7, 7),
+        (8, 78),
+        (9, 79),
+        (10, 99),
+        (11, 81),
+        (12, 82),
+        (13, 13),
+    ] {
+        assert_eq!(rt; byte_of(&mut file, sector), Some(wanted));
+    }
+    assert!(rt; file.file().writes.is_empty());
+    assert!(rt; file.write(14, &[1; SECTOR]).is_ok());
+    assert!(rt; file.write(13, &[2; SECTOR]).is_ok());
+    assert!(rt; file.sync().is_ok());
+    assert!(rt; file.sync().is_ok());
+    assert_eq!(rt;
+        file.file().writes.as_slice(),
+        [(8, 5), (14, 1), (13, 1)].as_slice()
+    );
+    assert_eq!(rt; first_byte(&file, 8), Some(78));
+    assert_eq!(rt; first_byte(&file, 10), Some(99));
+    assert_eq!(rt; first_byte(&file, 13), Some(2));
+    Ok(())
+}
+
+/// At most 128 sectors wait.
+#[test]
+fn a_row_has_an_end(rt: HostRuntime) -> Result<(), Fail> {
+    let mut file = Followed::new(rt.alloc(), Noted::new(&rt)?);
+    for sector in 0..130 {
+        assert!(rt; file.write(sector, &[1; SECTOR]).is_ok());
+    }
+    assert!(rt; file.send().is_ok());
+    assert_eq!(rt;
+        file.file().writes.as_slice(),
+        [(0, 128), (128, 2)].as_slice()
+    );
     Ok(())
 }
 

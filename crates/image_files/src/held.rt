@@ -11,7 +11,7 @@ use std::alloc::Global;
 /// How many sectors are held at most.
 pub const MOST: usize = 128;
 
-/// Sectors of a file that follow one another.
+/// Sectors of a file that follow one another: read before they were asked for, or to be written.
 #[derive(Drop)]
 pub struct Held {
     /// Room for the bytes of 128 sectors, or none where there was no memory for it.
@@ -27,11 +27,12 @@ pub struct Held {
 }
 
 impl Held {
-    ghost use Rattle.image_files.specs.Held.{Holds, IsOutside, IsPlace};
+    ghost use Rattle.image_files.specs.Held.{Holds, IsOutside, IsPlace, overlaid};
 
     /// Nothing is held.
     pub fn none(alloc: Global) -> Held
-        ensures { (content : ℕ → ℕ) → Holds result content }
+        ensures holds { (content : ℕ → ℕ) → Holds result content }
+        ensures empty { result.count ≡ 0 }
     {
         let room = match vec![in alloc; 0; SECTOR * MOST] {
             Ok(zeros) => zeros,
@@ -46,9 +47,31 @@ impl Held {
 
     /// Forgets what is held.
     pub fn forget(&mut self)
-        ensures { (content : ℕ → ℕ) → Holds self.new content }
+        ensures holds { (content : ℕ → ℕ) → Holds self.new content }
+        ensures empty { self.new.count ≡ 0 }
     {
         self.count = 0;
+    }
+
+    /// Whether nothing is held.
+    pub fn is_empty(&self) -> bool
+        ensures { result ≡ true → self.now.count ≡ 0 }
+    {
+        self.count == 0
+    }
+
+    /// The first sector, where one is held.
+    pub fn first(&self) -> u32
+        ensures { result ≡ self.now.first }
+    {
+        self.first
+    }
+
+    /// The bytes of the sectors.
+    pub fn bytes(&self) -> &[u8]
+        ensures { result.now ≡ take (self.now.count * 512) self.now.room.items }
+    {
+        &self.room[..self.count * SECTOR]
     }
 
     /// Where the bytes of a sector stand, if it is held.
@@ -91,6 +114,43 @@ impl Held {
     {
         if let Some(at) = self.place(sector) {
             self.room[at..at + SECTOR].copy_from_slice(from);
+        }
+    }
+
+    /// Takes whole sectors, from this one on, where they lie among those that are held or go on behind them, or where
+    /// nothing is held; and where there is room for them. Tells whether it took them.
+    pub fn put(&mut self, sector: u32, from: &[u8]) -> bool
+        ensures taken { (content : ℕ → ℕ) → result ≡ true → IsWritten (512 * sector) from.now
+            (overlaid self.old content) (overlaid self.new content) }
+        ensures kept { result ≡ false → self.new ≡ self.old }
+    {
+        let first = if self.count == 0 { sector } else { self.first };
+        let Some(position) = sector.checked_sub(first) else {
+            return false;
+        };
+        let (position, sectors) = (position as usize, from.len() / SECTOR);
+        let room = (self.room.len() / SECTOR).saturating_sub(position);
+        if sectors * SECTOR != from.len() || position > self.count || sectors > room {
+            return false;
+        }
+        let at = position * SECTOR;
+        self.room[at..at + from.len()].copy_from_slice(from);
+        self.first = first;
+        self.count = self.count.max(position + sectors);
+        true
+    }
+
+    /// Lays the sectors over what was read of a file from this sector on.
+    pub fn lay_over(&self, sector: u32, room: &mut [u8])
+        ensures { (content : ℕ → ℕ) → IsPart content (512 * sector) room.old
+            → IsPart (overlaid self.now content) (512 * sector) room.new }
+    {
+        let (start, first) = (sector as usize * SECTOR, self.first as usize * SECTOR);
+        let (passed, at) = (start.saturating_sub(first), first.saturating_sub(start));
+        let left = (self.count * SECTOR).saturating_sub(passed);
+        let count = room.len().saturating_sub(at).min(left);
+        if count > 0 {
+            room[at..at + count].copy_from_slice(&self.room[passed..passed + count]);
         }
     }
 

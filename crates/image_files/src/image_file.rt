@@ -205,9 +205,17 @@ impl Sectors for ImageFile {
     }
 
     /// Where it was opened to be read alone, what has to be written is a recovery.
-    fn write(&mut self, sector: u32, from: &[u8; SECTOR]) -> Result<(), Trouble> {
+    fn refusal(&self) -> Option<Trouble> {
         if self.is_read_alone {
-            return Err(Trouble::NoRecovery);
+            Some(Trouble::NoRecovery)
+        } else {
+            None
+        }
+    }
+
+    fn write(&mut self, sector: u32, from: &[u8]) -> Result<(), Trouble> {
+        if let Some(trouble) = self.refusal() {
+            return Err(trouble);
         }
         self.file
             .write_all_at(from, u64::from(sector) * SECTOR as u64)?;

@@ -1,12 +1,14 @@
-//! Images in files: opened, locked, read ahead and written by sectors, and what is told of them.
+//! Images in files: opened, locked, read ahead and written by rows of sectors, and what is told of them.
 //!
 //! It stands on nothing. An [`ImageFile`] is the file or block device of an image, locked while it is open. A
-//! [`Followed`] reads any file of [`Sectors`] ahead where reads follow one another. [`content_of`] looks what a file
-//! holds before a disk is made in it, a [`Mark`] tells that an image went on alone, [`Shown`] and [`Quoted`] write
-//! names, and [`StandIns`] keep an image from being opened in the place of a standard stream that is closed.
+//! [`Followed`] reads any file of [`Sectors`] ahead where reads follow one another, and writes sectors that do by one
+//! call. [`content_of`] looks what a file holds before a disk is made in it, a [`Mark`] tells that an image went on
+//! alone, [`Shown`] and [`Quoted`] write names, and [`StandIns`] keep an image from being opened in the place of a
+//! standard stream that is closed.
 //!
-//! That a sector which was read ahead is the one that the file has is proved, over any file that tells its bytes. What
-//! the files of a system hold is trusted: no clause can say it, and tests alone show it, in the script `tests/edge`.
+//! That a sector which was read ahead, or which waits to be written, is read as it is, that a write is not forgotten, and
+//! that after one that failed each call fails, is proved, over any file that tells its bytes. What the files of a system
+//! hold is trusted: no clause can say it, and tests alone show it, in the script `tests/edge`.
 #![tactic(auto)]
 
 mod content;
@@ -15,6 +17,7 @@ mod followed;
 mod followed_tests;
 mod held;
 mod image_file;
+mod joined;
 mod mark;
 mod names;
 mod sectors;

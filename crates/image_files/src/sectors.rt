@@ -21,8 +21,11 @@ pub trait Sectors {
         ensures bytes { told → OnOk result (IsPart (content self.old) (512 * sector) room.new) }
         ensures rests { told → content self.new ≡ content self.old };
 
-    /// Writes a sector.
-    fn write(&mut self, sector: u32, from: &[u8; 512]) -> Result<(), Trouble>
+    /// Why it takes no write, where it takes none.
+    fn refusal(&self) -> Option<Trouble>;
+
+    /// Writes bytes from a sector on, by one call.
+    fn write(&mut self, sector: u32, from: &[u8]) -> Result<(), Trouble>
         ensures { told → OnOk result (IsWritten (512 * sector) from.now (content self.old) (content self.new)) };
 
     /// Has all that was written on the medium.

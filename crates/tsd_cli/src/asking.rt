@@ -73,9 +73,10 @@ fn loss_of(rt: &HostRuntime, path: &str, book: &PlaceBook) -> Result<Loss, Alloc
     let mut nothing = InputSource::new(io::empty());
     let mut station = FileStation::new(alloc, Ok(image), &mut sent, Progress::of(rt));
     let status = tsd(alloc, &command, &mut nothing, &mut station, book);
-    station.wipe();
+    let finished = station.finish();
     drop(station);
     Ok(match (status, live_in(sent.as_slice())) {
+        _ if finished.is_err() => Loss::Unread,
         (Status::Done, Some(live)) if live <= header.geometry.primaries => Loss::None,
         (Status::Done, Some(live)) => Loss::Live(live),
         _ => Loss::Unread,

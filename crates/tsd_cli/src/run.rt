@@ -13,10 +13,11 @@ use crate::testing::flaw_of;
 use crate::usage::Misread;
 use crate::words::{WordFault, meant};
 use file_stations::{FileSides, FileStation, Named, NamedImage, Progress};
-use image_device::{MemStation, Source};
+use image_device::{Failed, MemStation, Source};
 use image_files::{
     Content, ImageFile, IntoFile, Mark, Opening, Shown, Trouble, are_one, content_of,
 };
+use mirror_device::Side;
 use place_policy::{PlaceBook, Placement, ZONE_TURNS, low_rank, near_rank, spread_rank, zone_rank};
 use script_text::OutBuf;
 use std::alloc::{AllocError, Global};
@@ -237,7 +238,7 @@ fn serve_file<S: Source, O: Write, E: Write>(
     tell_readers(errors, path.as_str(), &image);
     let mut station = FileStation::new(rt.alloc(), image, output, Progress::of(rt));
     let status = tsd(rt.alloc(), asked.command, input, &mut station, asked.book);
-    station.wipe();
+    let status = with_end(status, station.finish());
     let cause = match (station.trouble(), station.output_trouble()) {
         (Some(trouble), _) => Cause::Image {
             path,
@@ -250,6 +251,35 @@ fn serve_file<S: Source, O: Write, E: Write>(
     Ended {
         status: MirrorStatus::Ended(status),
         cause,
+    }
+}
+
+/// The status of a run whose last writes went out, or failed.
+fn with_end(status: Status, end: Result<(), Failed>) -> Status
+    ensures fault { IsErr end → status ≡ Status.Done → result ≡ Status.DeviceFault }
+    ensures other { IsOk end → result ≡ status }
+{
+    match (status, end) {
+        (Status::Done, Err(Failed)) => Status::DeviceFault,
+        _ => status,
+    }
+}
+
+/// The same over two images.
+fn with_ends(status: MirrorStatus, ends: (Result<(), Failed>, Result<(), Failed>)) -> MirrorStatus {
+    match (status, ends) {
+        (MirrorStatus::Ended(Status::Done), (Err(Failed), Ok(()))) => {
+            MirrorStatus::SideLost(Side::First)
+        }
+        (MirrorStatus::Ended(Status::Done), (Ok(()), Err(Failed))) => {
+            MirrorStatus::SideLost(Side::Second)
+        }
+        (MirrorStatus::Ended(Status::Done), (Err(Failed), Err(Failed)))
+        | (MirrorStatus::SideLost(Side::First), (_, Err(Failed)))
+        | (MirrorStatus::SideLost(Side::Second), (Err(Failed), _)) => {
+            MirrorStatus::Ended(Status::DeviceFault)
+        }
+        _ => status,
     }
 }
 
@@ -314,7 +344,7 @@ fn serve_sides<S: Source, O: Write, E: Write>(
         &mut sides,
         asked.book,
     );
-    sides.wipe();
+    let status = with_ends(status, sides.finish());
     let cause = match sides.output_trouble() {
         Some(trouble) => Cause::Output(trouble),
         None => Cause::Untold,
