@@ -176,7 +176,7 @@ impl<P: Sides, K: Began> Device for Mirror<P, K> {
     ghost use Rattle.image_device.specs.Calls.{Rests, Settles, Touches, Uses};
     ghost use Rattle.image_device.specs.Counts.{CountsFault};
     ghost use Rattle.image_device.specs.Runs.{IsFirm};
-    ghost use Rattle.mirror_device.specs.Mirror.{mirror_view, OneCall};
+    ghost use Rattle.mirror_device.specs.Mirror.{mirror_view, LostRest, OneCall};
     ghost use Rattle.mirror_device.specs.MirrorLaws.{mirror_sound};
 
     ghost told = { P.told };
@@ -196,6 +196,8 @@ impl<P: Sides, K: Began> Device for Mirror<P, K> {
         ensures faults { CountsFault result (⟦<Mirror<P, K> as Device>⟧.view self.old).faults
             (⟦<Mirror<P, K> as Device>⟧.view self.new).faults }
         ensures one_call { OneCall result self.old.serving self.new.serving (P.view self.old.sides.sides)
+            (P.view self.new.sides.sides) }
+        ensures lost_rest { P.told → LostRest self.new.serving (P.view self.old.sides.sides)
             (P.view self.new.sides.sides) }
     {
         match self.serving {
@@ -236,6 +238,8 @@ impl<P: Sides, K: Began> Device for Mirror<P, K> {
         ensures faults { CountsFault result (⟦<Mirror<P, K> as Device>⟧.view self.old).faults
             (⟦<Mirror<P, K> as Device>⟧.view self.new).faults }
         ensures one_call { OneCall result self.old.serving self.new.serving (P.view self.old.sides.sides)
+            (P.view self.new.sides.sides) }
+        ensures lost_rest { P.told → LostRest self.new.serving (P.view self.old.sides.sides)
             (P.view self.new.sides.sides) }
     {
         self.writes = self.writes.saturating_add(1);
@@ -281,6 +285,8 @@ impl<P: Sides, K: Began> Device for Mirror<P, K> {
         ensures faults { CountsFault result (⟦<Mirror<P, K> as Device>⟧.view self.old).faults
             (⟦<Mirror<P, K> as Device>⟧.view self.new).faults }
         ensures one_call { OneCall result self.old.serving self.new.serving (P.view self.old.sides.sides)
+            (P.view self.new.sides.sides) }
+        ensures lost_rest { P.told → LostRest self.new.serving (P.view self.old.sides.sides)
             (P.view self.new.sides.sides) }
     {
         match self.serving {
