@@ -204,7 +204,7 @@ impl<P: Sides, K: Began> Device for Mirror<P, K> {
             (⟦<Mirror<P, K> as Device>⟧.view self.new).faults }
         ensures one_call { OneCall result self.old.serving self.new.serving (P.view self.old.sides.sides)
             (P.view self.new.sides.sides) }
-        /// promise: A side that is lost is written no more and synced no more, by the call that loses it neither.
+        // A side that is lost is written no more and synced no more, by the call that loses it neither.
         ensures lost_rest { P.told → LostRest self.new.serving (P.view self.old.sides.sides)
             (P.view self.new.sides.sides) }
     {
@@ -247,7 +247,7 @@ impl<P: Sides, K: Began> Device for Mirror<P, K> {
             (⟦<Mirror<P, K> as Device>⟧.view self.new).faults }
         ensures one_call { OneCall result self.old.serving self.new.serving (P.view self.old.sides.sides)
             (P.view self.new.sides.sides) }
-        /// promise: A side that is lost is written no more and synced no more, by the call that loses it neither.
+        // A side that is lost is written no more and synced no more, by the call that loses it neither.
         ensures lost_rest { P.told → LostRest self.new.serving (P.view self.old.sides.sides)
             (P.view self.new.sides.sides) }
     {
@@ -295,7 +295,7 @@ impl<P: Sides, K: Began> Device for Mirror<P, K> {
             (⟦<Mirror<P, K> as Device>⟧.view self.new).faults }
         ensures one_call { OneCall result self.old.serving self.new.serving (P.view self.old.sides.sides)
             (P.view self.new.sides.sides) }
-        /// promise: A side that is lost is written no more and synced no more, by the call that loses it neither.
+        // A side that is lost is written no more and synced no more, by the call that loses it neither.
         ensures lost_rest { P.told → LostRest self.new.serving (P.view self.old.sides.sides)
             (P.view self.new.sides.sides) }
     {
