@@ -224,10 +224,11 @@ module _ {told : Type 0} {f g : FilesView} {old : DiskView} (start : AtStart tol
   t_dir = source_dir told f old start.source
 
   module _ {X : Type 0} {new : DiskView} {result : Result X FsRefusal} (goes : MakesSteps told into old new (copy_steps t) result) where
-    part_left : told → (w : World) → IsPartly into old (copy_steps t) w → IsPartOfCopy f g old w
-    part_left h w partly = record {
+    part_left : told → CanHold g.kind t → (w : World) → IsPartly into old (copy_steps t) w → IsPartOfCopy f g old w
+    part_left h holds w partly = record {
       source = source_left start.sound start.source start.apart goes h w partly;
       target = by partly.front partly.parts partly.tree;
+      held = inl holds;
       left = record { valid = partly.left.valid; geometry = partly.left.geometry; others = partly.left.others };
     }
       where
@@ -238,8 +239,8 @@ module _ {told : Type 0} {f g : FilesView} {old : DiskView} (start : AtStart tol
             let make = first_make t a rest partly.back (t_dir h) parts in
             inr (length (a ∷ rest), omega arith, tree ∙ (after_make (tree_under g old) a rest make ∙ partial_of t (a ∷ rest) partly.back parts))
 
-    crash_so : told → LeavesWorldsOnly old new (IsPartOfCopy f g old)
-    crash_so h = leaves_more old new (IsPartly into old (copy_steps t)) (IsPartOfCopy f g old) (part_left h) (goes.runs.crash h)
+    crash_so : told → CanHold g.kind t → LeavesWorldsOnly old new (IsPartOfCopy f g old)
+    crash_so h holds = leaves_more old new (IsPartly into old (copy_steps t)) (IsPartOfCopy f g old) (part_left h holds) (goes.runs.crash h)
 
     stays_so : told → OnAnswer result (SourceStays f g old new)
     stays_so h = both result (source_stays start.sound start.source start.apart goes h) (goes.others h)
@@ -258,7 +259,7 @@ module _ {told : Type 0} {f g : FilesView} {old : DiskView} (start : AtStart tol
       ok = record { target = made h ∙ whole t (t_dir h) (tree_listed_at f.kind old.world f.root (start.source.valid h).valid.raw.sized.lawful); tidy = (tidy h).0; count = count h; holds = holds h };
       err = tt;
       stays = as_ok Copied Copied (SourceStays f g old new) c c (stays_so goes h);
-      crash = crash_so goes h;
+      crash = crash_so goes h (holds h);
       valid = as_ok Copied Copied (IsValidNow new) c c (goes.runs.valid h);
       led = as_ok Copied Copied (IsLedTo old new) c c (goes.runs.led h);
     };
@@ -296,7 +297,7 @@ module _ {told : Type 0} {f g : FilesView} {old : DiskView} (start : AtStart tol
       ok = tt;
       err = answered_by f g old new e (λ ne. (refused_here goes h ne ((tidy h).1 ne), holds h));
       stays = as_err X Copied (SourceStays f g old new) e (stays_so goes h);
-      crash = crash_so goes h;
+      crash = crash_so goes h (holds h);
       valid = as_err X Copied (IsValidNow new) e (goes.runs.valid h);
       led = as_err X Copied (IsLedTo old new) e (goes.runs.led h);
     };
@@ -318,6 +319,7 @@ module _ {told : Type 0} {f g : FilesView} {old : DiskView} (start : AtStart tol
     look_left h = leaves_more old new (λ w. w ≡ old.world) (IsPartOfCopy f g old) (λ w e. record {
       source = ap (λ v. tree_at f.kind v f.root) e;
       target = inl (ap (λ v. tree_at g.kind v g.root) e);
+      held = inr e;
       left = record { valid = subst IsValid (sym e) (start.source.valid h).valid; geometry = ap (λ v. v.geometry) e; others = subst (λ v. OthersStay g.root old.world v) (sym e) (record { records = refl; bytes = λ b live away. refl; pairs = λ x y live away. refl; apart = λ b live away. away }) };
     }) (looks.runs.crash h)
 

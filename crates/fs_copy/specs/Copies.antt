@@ -28,11 +28,12 @@ copy_refusal e = no.Into e
 -- ---- where the disk tells its world
 
 -- What a crash at any moment of a copy leaves: the source's tree as it is, and under the target's root what was there
--- before, or the tree after some of the steps.
+-- before, or the tree after some of the steps. Where the target can't hold the tree, nothing has changed.
 pub record IsPartOfCopy (f g : FilesView) (old : DiskView) (w : World) : Type 0 where
   pub source : tree_at f.kind w f.root ≡ tree_under f old
   pub target : (tree_at g.kind w g.root ≡ tree_under g old)
       ⊎ ((j : ℕ) × (1 ≤ j) × (tree_at g.kind w g.root ≡ partial (tree_under f old) j))
+  pub held : CanHold g.kind (tree_under f old) ⊎ (w ≡ old.world)
   pub left : IsLeft g old w
 
 -- The step that comes next is refused, in the world as it is now; the target has the tree after those before it, and no

@@ -66,10 +66,11 @@ pub fn copy_tree<K: Blocks, A: Files, B: Files>(
     /// promise: After Ok the target's root has the source's tree; a refusal leaves the tree after the steps before it;
     /// `Nested` comes exactly where the target's layout has no directories and the tree has one, and then nothing has
     /// changed.
+    /// promise: A crash leaves the source's tree, and under the target's root what was there before or the tree after
+    /// some of the steps; where the target's layout can't hold the tree, it leaves all as it was.
     ensures copies { K.told → CopiesTree (A.view from.old) (B.view into.old) (K.view disk.old) (K.view disk.new)
         result }
-    /// promise: A crash leaves the source's tree, and under the target's root what was there before or the tree after
-    /// some of the steps.
+    /// promise: `Device` comes only where the disk's count of faults rose; each other answer leaves that as it was.
     ensures runs { CopyRuns (K.view disk.old) (K.view disk.new) result }
     ensures from_same { A.view from.new ≡ A.view from.old }
     ensures into_mounted { OnOk result (B.view into.new ≡ mounted_now (B.view into.old)) }

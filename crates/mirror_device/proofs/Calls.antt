@@ -25,8 +25,8 @@ is_same sector = grind (arith, nat_tests)
 
 -- a call that changed nothing
 pub rests_none : (side : Side) (es new : List LogEntry) (p p' : ℕ) → new ≡ es → SideRests side (history_view es p) (history_view new p')
-rests_none First es new p p' is = subst (λ l. SideRests First (history_view es p) (history_view l p')) (sym is) (record { reads = refl; loose = refl; others = refl; sent = refl; time = elapses_same es p p' (IsItemNow (history_view es p)) })
-rests_none Second es new p p' is = subst (λ l. SideRests Second (history_view es p) (history_view l p')) (sym is) (record { reads = refl; loose = refl; others = refl; sent = refl; time = elapses_same es p p' (IsItemNow (history_view es p)) })
+rests_none First es new p p' is = subst (λ l. SideRests First (history_view es p) (history_view l p')) (sym is) (record { reads = refl; loose = refl; writes = refl; others = refl; sent = refl; time = elapses_same es p p' (IsItemNow (history_view es p)) })
+rests_none Second es new p p' is = subst (λ l. SideRests Second (history_view es p) (history_view l p')) (sym is) (record { reads = refl; loose = refl; writes = refl; others = refl; sent = refl; time = elapses_same es p p' (IsItemNow (history_view es p)) })
 
 -- a write that failed, and a sync that did
 within_now : (side : Side) (sector : ℕ) (v : SidesView) (i : Item) → IsItemNow v i → IsItemWithin side (λ n. n == sector) v i
@@ -55,7 +55,7 @@ touches_rests side sector old new call = record {
 }
 
 pub settles_rests : (side : Side) (old new : SidesView) → SideRests side old new → SideSettles side old new
-settles_rests side old new call = record { reads = call.reads; loose = λ n h. (λ j. call.loose j n) ∙ h; others = call.others; sent = call.sent; time = call.time }
+settles_rests side old new call = record { reads = call.reads; loose = λ n h. (λ j. call.loose j n) ∙ h; writes = call.writes; others = call.others; sent = call.sent; time = call.time }
 
 pub syncs_uses : (side : Side) (old new : SidesView) → SideUses side old new → SideSyncs side old new
 syncs_uses side old new u = record { clock = u.clock; faults = u.faults; syncs = omega (arith, u.syncs); other_faults = u.other_faults; other_syncs = u.other_syncs; put_faults = u.put_faults }
@@ -124,6 +124,10 @@ module _ (es : List LogEntry) (p : ℕ) (sector : ℕ) (box : Box (List ℕ)) wh
   fine_at First = ap (λ z. z.first.faults) (after_push es begun (Write First sector box))
   fine_at Second = ap (λ z. z.second.faults) (after_push es begun (Write Second sector box))
 
+  write_at : (side : Side) → (side_of side (history_view (es ++ Write side sector box ∷ []) p)).writes ≡ raised (side_of side (history_view es p)).writes
+  write_at First = ap (λ z. z.first.writes) (after_push es begun (Write First sector box))
+  write_at Second = ap (λ z. z.second.writes) (after_push es begun (Write Second sector box))
+
   module _ (side : Side) (new : List LogEntry) (p' : ℕ) (is : new ≡ es ++ Write side sector box ∷ []) (count : p' ≡ p) where
     moved : (P : SidesView → Type 0) → P (history_view (es ++ Write side sector box ∷ []) p) → P (history_view new p')
     moved P done = subst (λ q. P (history_view new q)) (sym count) (subst (λ l. P (history_view l p)) (sym is) done)
@@ -143,6 +147,9 @@ module _ (es : List LogEntry) (p : ℕ) (sector : ℕ) (box : Box (List ℕ)) wh
     pub write_fine : (side_of side (history_view new p')).faults ≡ (side_of side (history_view es p)).faults
     write_fine = moved (λ v. (side_of side v).faults ≡ (side_of side (history_view es p)).faults) (fine_at side)
 
+    pub write_counts : (side_of side (history_view new p')).writes ≡ raised (side_of side (history_view es p)).writes
+    write_counts = moved (λ v. (side_of side v).writes ≡ raised (side_of side (history_view es p)).writes) (write_at side)
+
 -- a sync that is done
 module _ (es : List LogEntry) (p : ℕ) where
   is_now : (i : Item) → IsNow (after es begun) i → IsItemNow (history_view es p) i
@@ -156,6 +163,7 @@ module _ (es : List LogEntry) (p : ℕ) where
   settles_at First = let e = after_push es begun (Sync First) in record {
     reads = ap (λ z. z.first.reads) e;
     loose = λ n h. ap (λ z. z.first.loose n) e;
+    writes = ap (λ z. z.first.writes) e;
     others = ap (λ z. z.second) e;
     sent = ap (λ z. z.sent) e;
     time = elapses_push es p p (Sync First) (IsItemNow (history_view es p)) (λ i now. now) is_now;
@@ -163,6 +171,7 @@ module _ (es : List LogEntry) (p : ℕ) where
   settles_at Second = let e = after_push es begun (Sync Second) in record {
     reads = ap (λ z. z.second.reads) e;
     loose = λ n h. ap (λ z. z.second.loose n) e;
+    writes = ap (λ z. z.second.writes) e;
     others = ap (λ z. z.first) e;
     sent = ap (λ z. z.sent) e;
     time = elapses_push es p p (Sync Second) (IsItemNow (history_view es p)) (λ i now. now) is_now;
@@ -283,6 +292,10 @@ module _ (es : List LogEntry) (p : ℕ) (sector : ℕ) (box : Box (List ℕ)) wh
   poked_syncs_at First = ap (λ z. z.first.syncs) (after_push es begun (Poke First sector box))
   poked_syncs_at Second = ap (λ z. z.second.syncs) (after_push es begun (Poke Second sector box))
 
+  poked_writes_at : (side : Side) → (side_of side (history_view (es ++ Poke side sector box ∷ []) p)).writes ≡ (side_of side (history_view es p)).writes
+  poked_writes_at First = ap (λ z. z.first.writes) (after_push es begun (Poke First sector box))
+  poked_writes_at Second = ap (λ z. z.second.writes) (after_push es begun (Poke Second sector box))
+
   poked_others_at : (side : Side) → side_of (other side) (history_view (es ++ Poke side sector box ∷ []) p) ≡ side_of (other side) (history_view es p)
   poked_others_at First = ap (λ z. z.second) (after_push es begun (Poke First sector box))
   poked_others_at Second = ap (λ z. z.first) (after_push es begun (Poke Second sector box))
@@ -309,6 +322,9 @@ module _ (es : List LogEntry) (p : ℕ) (sector : ℕ) (box : Box (List ℕ)) wh
 
     pub poked_syncs : (side_of side (history_view new p')).syncs ≡ (side_of side (history_view es p)).syncs
     poked_syncs = poked_to (λ v. (side_of side v).syncs ≡ (side_of side (history_view es p)).syncs) (poked_syncs_at side)
+
+    pub poked_writes : (side_of side (history_view new p')).writes ≡ (side_of side (history_view es p)).writes
+    poked_writes = poked_to (λ v. (side_of side v).writes ≡ (side_of side (history_view es p)).writes) (poked_writes_at side)
 
     pub poked_others : side_of (other side) (history_view new p') ≡ side_of (other side) (history_view es p)
     poked_others = poked_to (λ v. side_of (other side) v ≡ side_of (other side) (history_view es p)) (poked_others_at side)

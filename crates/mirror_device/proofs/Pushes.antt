@@ -95,6 +95,7 @@ blames_at : (side : Side) (es : List LogEntry) (p p' faults : ℕ) → SideRests
 blames_at First es p p' faults = record {
   reads = ap (λ z. z.first.reads) (after_push es begun (Fail First faults));
   loose = ap (λ z. z.first.loose) (after_push es begun (Fail First faults));
+  writes = ap (λ z. z.first.writes) (after_push es begun (Fail First faults));
   others = ap (λ z. z.second) (after_push es begun (Fail First faults));
   sent = ap (λ z. z.sent) (after_push es begun (Fail First faults));
   time = elapses_push es p p' (Fail First faults) (IsItemNow (history_view es p)) (λ i now. now) (λ i now. record { first = now.first; second = now.second; sent = now.sent });
@@ -102,6 +103,7 @@ blames_at First es p p' faults = record {
 blames_at Second es p p' faults = record {
   reads = ap (λ z. z.second.reads) (after_push es begun (Fail Second faults));
   loose = ap (λ z. z.second.loose) (after_push es begun (Fail Second faults));
+  writes = ap (λ z. z.second.writes) (after_push es begun (Fail Second faults));
   others = ap (λ z. z.first) (after_push es begun (Fail Second faults));
   sent = ap (λ z. z.sent) (after_push es begun (Fail Second faults));
   time = elapses_push es p p' (Fail Second faults) (IsItemNow (history_view es p)) (λ i now. now) (λ i now. record { first = now.first; second = now.second; sent = now.sent });

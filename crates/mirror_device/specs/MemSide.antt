@@ -13,6 +13,7 @@ side_view d = record {
   loose = (station_view d.station).loose;
   faults = d.faults;
   syncs = d.syncs;
+  writes = d.writes;
 }
 
 -- the sectors as the last sync held them
@@ -21,7 +22,7 @@ synced_side d = synced_reads d.station
 
 -- a side never written
 abbrev pub blank_side : SideView
-blank_side = record { reads = λ n. zeros; loose = λ n. false; faults = 0; syncs = 0 }
+blank_side = record { reads = λ n. zeros; loose = λ n. false; faults = 0; syncs = 0; writes = 0 }
 
 -- a sector was written
 abbrev pub written : ℕ → List ℕ → SideView → SideView
@@ -30,6 +31,7 @@ written sector bytes v = record {
   loose = loosened sector v.loose;
   faults = v.faults;
   syncs = v.syncs;
+  writes = raised v.writes;
 }
 
 -- a sector was set from outside
@@ -39,12 +41,25 @@ poked sector bytes v = record {
   loose = firmed sector v.loose;
   faults = v.faults;
   syncs = v.syncs;
+  writes = v.writes;
 }
 
 -- a sync answered Ok
 abbrev pub settled : SideView → SideView
-settled v = record { reads = v.reads; loose = λ n. false; faults = v.faults; syncs = raised v.syncs }
+settled v = record {
+  reads = v.reads;
+  loose = λ n. false;
+  faults = v.faults;
+  syncs = raised v.syncs;
+  writes = v.writes;
+}
 
 -- a call failed, which raised the count to this
 abbrev pub blamed : ℕ → SideView → SideView
-blamed faults v = record { reads = v.reads; loose = v.loose; faults = max v.faults faults; syncs = v.syncs }
+blamed faults v = record {
+  reads = v.reads;
+  loose = v.loose;
+  faults = max v.faults faults;
+  syncs = v.syncs;
+  writes = v.writes;
+}

@@ -129,6 +129,16 @@ pub record StayCounts (old new : SideView) : Type 0 where
   pub faults : new.faults ≡ old.faults
   pub syncs : new.syncs ≡ old.syncs
 
+-- no write and no sync of a side answered Ok
+pub record IsLeftAlone (old new : SideView) : Type 0 where
+  pub writes : new.writes ≡ old.writes
+  pub syncs : new.syncs ≡ old.syncs
+
+-- A side that is lost after a call was neither written nor synced by it, not by the call that lost it either.
+pub record LostRest (c' : Serving) (old new : SidesView) : Type 0 where
+  pub first : c' ≡ Second → IsLeftAlone old.first new.first
+  pub second : c' ≡ First → IsLeftAlone old.second new.second
+
 -- a call failed on the side that is left
 abbrev pub LeftFailed : Serving → SidesView → SidesView → Type 0
 LeftFailed Both old new = ⊥

@@ -12,6 +12,7 @@ pub(crate) struct MemSide {
     pub(crate) station: MemStation,
     pub(crate) faults: u64,
     pub(crate) syncs: u64,
+    pub(crate) writes: u64,
     /// Above every sector that was ever written.
     pub(crate) end: u64,
     ghost willing: { failing_of station ≡ [] },
@@ -22,17 +23,19 @@ pub(crate) struct MemSide {
 impl MemSide {
     ghost use Rattle.std.specs.Prelude.{true, replicate, OnOk, OnErr};
     ghost use Rattle.mirror_device.specs.MemSide.{blank_side, poked, settled, side_view, synced_side, written};
-    ghost use Rattle.image_device.specs.Image.{put_at, IsImage};
+    ghost use Rattle.image_device.specs.Image.{put_at, zeros, IsImage};
     ghost use Rattle.image_device.specs.MemStation.{IsUnused};
 
     /// A side of zeros.
     pub(crate) fn new(alloc: Global) -> MemSide
-        ensures { side_view result ≡ blank_side }
+        ensures blank { side_view result ≡ blank_side }
+        ensures synced { synced_side result ≡ (λ n. zeros) }
     {
         MemSide {
             station: MemStation::new(alloc, Vec::new(alloc)),
             faults: 0,
             syncs: 0,
+            writes: 0,
             end: 0,
         }
     }
@@ -53,7 +56,9 @@ impl MemSide {
         ensures synced { synced_side self.new ≡ synced_side self.old }
     {
         self.end = self.end.max(sector as u64 + 1);
-        self.station.write(sector, from)
+        self.station.write(sector, from)?;
+        self.writes = self.writes.saturating_add(1);
+        Ok(())
     }
 
     /// Makes all firm, or leaves all as it was.
@@ -93,6 +98,7 @@ impl MemSide {
             station,
             faults: _,
             syncs: _,
+            writes: _,
             end: _,
         } = self;
         FuseStation::new(station, 0, pick).into_image()

@@ -34,7 +34,7 @@ pub struct MemSides {
 impl MemSides {
     ghost use Rattle.std.specs.Prelude.{ℕ, true, [], replicate, OnOk, OnErr};
     ghost use Rattle.image_device.specs.History.{firmed};
-    ghost use Rattle.image_device.specs.Image.{put_at, IsImage};
+    ghost use Rattle.image_device.specs.Image.{put_at, zeros, IsImage};
     ghost use Rattle.image_device.specs.MemStation.{station_view, IsUnused, failing_of as station_failing};
     ghost use Rattle.mirror_device.specs.SidesView.{other, side_of, IsItemNow};
     ghost use Rattle.mirror_device.specs.SideCalls.{SidesElapse};
@@ -45,8 +45,11 @@ impl MemSides {
     /// Two disks of zeros, with nothing sent. Their calls and the puts are numbered together from 0,
     /// and those in `fail` fail.
     pub fn new(alloc: Global, fail: Vec<u64>) -> MemSides
+        /// promise (with second, synced, sent): Two disks of zeros, in memory, of which nothing was written: a loose
+        /// sector that a crash before the first sync leaves as the last sync held it reads as zeros.
         ensures first { (mem_view result).first ≡ blank_side }
         ensures second { (mem_view result).second ≡ blank_side }
+        ensures synced { (s : Side) → synced_of s result ≡ (λ n. zeros) }
         ensures sent { (mem_view result).sent ≡ [] }
         ensures clock { (mem_view result).clock ≡ 0 }
         ensures put_faults { (mem_view result).put_faults ≡ 0 }
@@ -96,6 +99,7 @@ impl MemSides {
         ensures others { side_of (other side) (mem_view self.new) ≡ side_of (other side) (mem_view self.old) }
         ensures faults { (side_of side (mem_view self.new)).faults ≡ (side_of side (mem_view self.old)).faults }
         ensures syncs { (side_of side (mem_view self.new)).syncs ≡ (side_of side (mem_view self.old)).syncs }
+        ensures writes { (side_of side (mem_view self.new)).writes ≡ (side_of side (mem_view self.old)).writes }
         ensures sent { (mem_view self.new).sent ≡ (mem_view self.old).sent }
         ensures put_faults { (mem_view self.new).put_faults ≡ (mem_view self.old).put_faults }
         ensures time { SidesElapse (mem_view self.old) (mem_view self.new) (IsItemNow (mem_view self.old)) }
@@ -142,7 +146,8 @@ impl Sides for MemSides {
     ghost use Rattle.image_device.specs.Counts.{raised, CountsFault};
     ghost use Rattle.image_device.specs.Image.{zeros};
     ghost use Rattle.mirror_device.specs.SidesView.{other, side_of};
-    ghost use Rattle.mirror_device.specs.SideCalls.{IncludesPut, IsSideFirm, SideRests, SideSettles, SideSyncs};
+    ghost use Rattle.mirror_device.specs.SideCalls.{CountsWrite, IncludesPut, IsSideFirm, SideRests, SideSettles};
+    ghost use Rattle.mirror_device.specs.SideCalls.{SideSyncs};
     ghost use Rattle.mirror_device.specs.SideCalls.{SidesAppend, SidesPut, SideTouches, SideUses};
     ghost use Rattle.mirror_device.specs.MemSides.{is_failing, mem_sound, mem_view, synced_of, IsCalled, IsRecorded};
 
@@ -176,6 +181,8 @@ impl Sides for MemSides {
     fn write(&mut self, side: Side, sector: u32, from: &[u8; 512]) -> Result<(), Failed>
         ensures written { OnOk result ((side_of side (mem_view self.new)).reads sector ≡ from.now) }
         ensures loose { OnOk result ((side_of side (mem_view self.new)).loose sector ≡ true) }
+        ensures counted { CountsWrite result (side_of side (mem_view self.old)).writes
+            (side_of side (mem_view self.new)).writes }
         ensures touches { SideTouches side sector (mem_view self.old) (mem_view self.new) }
         ensures uses { SideUses side (mem_view self.old) (mem_view self.new) }
         ensures faults { CountsFault result (side_of side (mem_view self.old)).faults

@@ -29,10 +29,10 @@ impl<P: Sides, K: Began> Mirror<P, K> {
     ghost use Rattle.mirror_device.specs.Mirror.{start_at, SidesReadAlike, IsSideLost, LeftIsSound, NoneIsSound};
     ghost use Rattle.mirror_device.specs.Mirror.{CountsAgree};
     ghost use Rattle.mirror_device.specs.Sending.{IsIdleSince, SendsLate, StartsAt};
-    ghost use Rattle.mirror_device.specs.Copying.{CopyCounts, Copying, IsBrokenOff, IsLeftOfFirst};
+    ghost use Rattle.mirror_device.specs.Copying.{CopyCounts, CopyWrites, Copying, IsBrokenOff, IsLeftOfFirst};
     ghost use Rattle.image_device.specs.Image.{Image};
     ghost use Rattle.image_device.specs.Runs.{IsFirm};
-    ghost use Rattle.std.specs.Prelude.{◌≤◌, ◌↔◌, ℕ, List, IsTrue, IfOk, IfErr};
+    ghost use Rattle.std.specs.Prelude.{◌≤◌, ◌↔◌, ℕ, List, IsTrue, IfOk, IfErr, MatchResult};
 
     /// Copies the first side to the second, and serves both as one. A fault of the second side before
     /// the copying is done makes it lost; so does a count of it that stands at the greatest `u64`.
@@ -58,6 +58,11 @@ impl<P: Sides, K: Began> Mirror<P, K> {
         ensures writes { IfOk result (λ m. (⟦<Mirror<P, K> as Device>⟧.view m).writes ≡ 0) }
         ensures put_faults { IfOk result (λ m. (⟦<Mirror<P, K> as Device>⟧.view m).put_faults
             ≡ (P.view sides).put_faults) }
+
+        // Whatever it answers, of the second side no more sectors are written than differ, and of the first none.
+        /// promise: The copying writes no more sectors of the second side than differ, and none of the first.
+        ensures differing { P.told → MatchResult result (λ m. CopyWrites (P.view sides) (P.view m.sides.sides))
+            (λ rest. CopyWrites (P.view sides) (P.view rest)) }
 
         // Where it gives the sides back, the first one failed and is as it was, no sync of the second one was answered
         // Ok, and nothing was sent.
@@ -88,6 +93,8 @@ impl<P: Sides, K: Began> Mirror<P, K> {
         ensures writes { IfOk result (λ m. (⟦<Mirror<P, K> as Device>⟧.view m).writes ≡ 0) }
         ensures put_faults { IfOk result (λ m. (⟦<Mirror<P, K> as Device>⟧.view m).put_faults
             ≡ (P.view sides).put_faults) }
+        ensures differing { P.told → MatchResult result (λ m. CopyWrites (P.view sides) (P.view m.sides.sides))
+            (λ rest. CopyWrites (P.view sides) (P.view rest)) }
         ensures given_back { P.told → IfErr result (λ rest. Copying (P.view sides) (P.view rest)) }
         ensures counts { IfErr result (λ rest. CopyCounts (P.view sides) (P.view rest)) }
         ensures cause { IfErr result (λ rest. IsBrokenOff (P.view sides) (P.view rest)) }
@@ -176,7 +183,7 @@ impl<P: Sides, K: Began> Device for Mirror<P, K> {
     ghost use Rattle.image_device.specs.Calls.{Rests, Settles, Touches, Uses};
     ghost use Rattle.image_device.specs.Counts.{CountsFault};
     ghost use Rattle.image_device.specs.Runs.{IsFirm};
-    ghost use Rattle.mirror_device.specs.Mirror.{mirror_view, OneCall};
+    ghost use Rattle.mirror_device.specs.Mirror.{mirror_view, LostRest, OneCall};
     ghost use Rattle.mirror_device.specs.MirrorLaws.{mirror_sound};
 
     ghost told = { P.told };
@@ -196,6 +203,9 @@ impl<P: Sides, K: Began> Device for Mirror<P, K> {
         ensures faults { CountsFault result (⟦<Mirror<P, K> as Device>⟧.view self.old).faults
             (⟦<Mirror<P, K> as Device>⟧.view self.new).faults }
         ensures one_call { OneCall result self.old.serving self.new.serving (P.view self.old.sides.sides)
+            (P.view self.new.sides.sides) }
+        // A side that is lost is written no more and synced no more, by the call that loses it neither.
+        ensures lost_rest { P.told → LostRest self.new.serving (P.view self.old.sides.sides)
             (P.view self.new.sides.sides) }
     {
         match self.serving {
@@ -236,6 +246,9 @@ impl<P: Sides, K: Began> Device for Mirror<P, K> {
         ensures faults { CountsFault result (⟦<Mirror<P, K> as Device>⟧.view self.old).faults
             (⟦<Mirror<P, K> as Device>⟧.view self.new).faults }
         ensures one_call { OneCall result self.old.serving self.new.serving (P.view self.old.sides.sides)
+            (P.view self.new.sides.sides) }
+        // A side that is lost is written no more and synced no more, by the call that loses it neither.
+        ensures lost_rest { P.told → LostRest self.new.serving (P.view self.old.sides.sides)
             (P.view self.new.sides.sides) }
     {
         self.writes = self.writes.saturating_add(1);
@@ -281,6 +294,9 @@ impl<P: Sides, K: Began> Device for Mirror<P, K> {
         ensures faults { CountsFault result (⟦<Mirror<P, K> as Device>⟧.view self.old).faults
             (⟦<Mirror<P, K> as Device>⟧.view self.new).faults }
         ensures one_call { OneCall result self.old.serving self.new.serving (P.view self.old.sides.sides)
+            (P.view self.new.sides.sides) }
+        // A side that is lost is written no more and synced no more, by the call that loses it neither.
+        ensures lost_rest { P.told → LostRest self.new.serving (P.view self.old.sides.sides)
             (P.view self.new.sides.sides) }
     {
         match self.serving {

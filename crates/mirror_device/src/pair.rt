@@ -23,7 +23,8 @@ impl Pair {
 
     /// Two sides of zeros.
     pub(crate) fn new(alloc: Global) -> Pair
-        ensures { pair_view result ≡ begun }
+        ensures begun { pair_view result ≡ begun }
+        ensures synced { (s : Side) → synced_on s result ≡ (λ n. zeros) }
     {
         Pair {
             first: MemSide::new(alloc),

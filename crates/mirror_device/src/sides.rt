@@ -4,6 +4,7 @@ ghost use Rattle.std.specs.Prelude.{OnOk, OnErr, IfOk};
 ghost use Rattle.image_device.specs.Counts.{raised, CountsFault};
 ghost use Rattle.image_device.specs.Image.{zeros};
 ghost use Rattle.mirror_device.specs.SidesView.{side_of, SidesAreSound, SidesView};
+ghost use Rattle.mirror_device.specs.SideCalls.{CountsWrite};
 ghost use Rattle.mirror_device.specs.SideCalls.{IncludesPut, IsSideFirm, SideRests, SideSettles, SideSyncs};
 ghost use Rattle.mirror_device.specs.SideCalls.{SidesAppend, SidesPut, SideTouches, SideUses};
 
@@ -34,6 +35,8 @@ pub trait Sides {
     fn write(&mut self, side: Side, sector: u32, from: &[u8; 512]) -> Result<(), Failed>
         ensures written { told → OnOk result ((side_of side (view self.new)).reads sector ≡ from.now) }
         ensures loose { told → OnOk result ((side_of side (view self.new)).loose sector ≡ true) }
+        ensures counted { told → CountsWrite result (side_of side (view self.old)).writes
+            (side_of side (view self.new)).writes }
         ensures touches { told → SideTouches side sector (view self.old) (view self.new) }
         ensures uses { SideUses side (view self.old) (view self.new) }
         ensures faults { CountsFault result (side_of side (view self.old)).faults

@@ -37,6 +37,7 @@ impl Twins {
     pub(crate) fn new(alloc: Global) -> Twins
         ensures entries { log_entries result ≡ [] }
         ensures put_faults { result.put_faults ≡ 0 }
+        ensures synced { (s : Side) → synced_on s result.pair ≡ (λ n. zeros) }
     {
         Twins {
             alloc,

@@ -1,6 +1,6 @@
 use Rattle.image_device.proofs.Outcomes.{unless_err}
 use Rattle.mirror_device.specs.Twins.{log_entries}
-use Rattle.mirror_device.proofs.Calls.{poked_faults, poked_loose, poked_others, poked_reads, poked_sent, poked_syncs, pokes}
+use Rattle.mirror_device.proofs.Calls.{poked_faults, poked_loose, poked_others, poked_reads, poked_sent, poked_syncs, poked_writes, pokes}
 use Rattle.mirror_device.proofs.mem_sides.MemSides.poke.Goals as goal
 
 pub returns-clause-reads : goal.returns-clause-reads
@@ -32,6 +32,12 @@ returns-clause-syncs c =
     let m = c.args.self.now.twins in
     let kept = unless_err c.poke.result c.is_err.result c.if-is_err.false c.is_err.ensures.value c.poke.ensures.kept in
     poked_syncs (log_entries m) m.put_faults c.args.sector kept.0 c.args.side _ _ kept.2 c.poke.ensures.put_faults
+
+pub returns-clause-writes : goal.returns-clause-writes
+returns-clause-writes c =
+    let m = c.args.self.now.twins in
+    let kept = unless_err c.poke.result c.is_err.result c.if-is_err.false c.is_err.ensures.value c.poke.ensures.kept in
+    poked_writes (log_entries m) m.put_faults c.args.sector kept.0 c.args.side _ _ kept.2 c.poke.ensures.put_faults
 
 pub returns-clause-time : goal.returns-clause-time
 returns-clause-time c =

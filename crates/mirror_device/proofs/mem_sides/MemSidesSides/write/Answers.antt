@@ -1,6 +1,6 @@
 use Rattle.image_device.proofs.Outcomes.{unless_err}
 use Rattle.mirror_device.specs.Twins.{log_entries}
-use Rattle.mirror_device.proofs.Calls.{loose, touches, write_fine, write_uses, written}
+use Rattle.mirror_device.proofs.Calls.{loose, touches, write_counts, write_fine, write_uses, written}
 use Rattle.mirror_device.proofs.mem_sides.MemSidesSides.write.Goals as goal
 
 pub returns-clause-written : goal.returns-clause-written
@@ -14,6 +14,12 @@ returns-clause-loose c =
     let m = c.args.self.now.twins in
     let kept = unless_err c.write.result c.is_err.result c.if-is_err.false c.is_err.ensures.value c.write.ensures.kept in
     loose (log_entries m) m.put_faults c.args.sector kept.0 c.args.side _ _ kept.2 c.write.ensures.put_faults
+
+pub returns-clause-counted : goal.returns-clause-counted
+returns-clause-counted c =
+    let m = c.args.self.now.twins in
+    let kept = unless_err c.write.result c.is_err.result c.if-is_err.false c.is_err.ensures.value c.write.ensures.kept in
+    write_counts (log_entries m) m.put_faults c.args.sector kept.0 c.args.side _ _ kept.2 c.write.ensures.put_faults
 
 pub returns-clause-touches : goal.returns-clause-touches
 returns-clause-touches c =
