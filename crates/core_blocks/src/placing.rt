@@ -1,6 +1,6 @@
 //! Requests carried out with free blocks taken in some order.
 
-ghost use Rattle.std.specs.Prelude.{◌≡◌, true, OnOk, OnErr, IfOk};
+ghost use Rattle.std.specs.Prelude.{◌≡◌, ◌≤◌, ◌+◌, ◌||◌, true, false, OnOk, OnErr, IfOk};
 ghost use Rattle.image_device.specs.Counts.{CountsFault};
 ghost use Rattle.image_device.specs.Runs.{LeavesPart};
 ghost use Rattle.image_world.specs.Behind.{behind};
@@ -9,8 +9,10 @@ ghost use Rattle.tsd_model.specs.Run.{IsAnswer};
 ghost use Rattle.volume_laws.specs.Moments.{LeavesEither};
 ghost use Rattle.volume_laws.specs.Writes.{Works};
 ghost use Rattle.tsd_core.specs.Core.{IsCoreReady, IsCoreAt, state_on};
-ghost use Rattle.tsd_core.specs.Work.{SameSize};
-ghost use Rattle.tsd_core.specs.Applying.{IsToldAnswer, next_world};
+ghost use Rattle.disk_laws.specs.Reclaiming.{is_sweep};
+ghost use Rattle.tsd_model.specs.ReplyForm.{is_refusal};
+ghost use Rattle.tsd_core.specs.Work.{SameSize, write_limit};
+ghost use Rattle.tsd_core.specs.Applying.{IsToldAnswer, asks_nothing, next_world};
 
 use image_device::{Device, Failed};
 use place_policy::Placement;
@@ -45,6 +47,13 @@ pub trait Placing {
         // Also where it failed, a crash at any moment leaves what lies behind the image as it was.
         ensures behind { D.told → LeavesPart (behind core.old.volume.tables.geometry) (D.view dev.old)
             (D.view dev.new) }
+        // What is refused makes no call, nor what is answered from memory; and a request writes so much at most.
+        /// promise: A request that is refused makes no call of the device, nor do `Begin`, `End`, `GetFree` and `List`.
+        ensures asks_nothing { IfOk result (λ r. (is_refusal r || asks_nothing request.now) ≡ true
+            → dev.new ≡ dev.old) }
+        /// promise: At most so many writes for one request as `Core::apply` has.
+        ensures limit { is_sweep request.now ≡ false → (D.view dev.new).writes ≤ (D.view dev.old).writes
+            + write_limit core.old.volume request.now }
         ensures works { Works (D.view dev.old) (D.view dev.new) }
         ensures faults { CountsFault result (D.view dev.old).faults (D.view dev.new).faults };
 }
