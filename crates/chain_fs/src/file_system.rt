@@ -6,6 +6,7 @@ ghost use Rattle.fs_trees.specs.declared.refusal.FsRefusal.TheVariants as no;
 use fs_client::{BlockSet, Client};
 use fs_port::{Blocks, Files};
 use fs_trees::{FsRefusal, Name, Path};
+use fs_walks::{Place, Walks};
 use std::alloc::Global;
 use tsd_model::{Cap, Data, NoMemory};
 
@@ -149,6 +150,31 @@ impl Files for ChainFs {
         if self.mounted {
             chain_reading::name_after(&self.client, disk, path, after)
         } else {
+            Err(FsRefusal::NotThisFs)
+        }
+    }
+}
+
+impl Walks for ChainFs {
+    ghost use Rattle.chain_fs.specs.View.{leads_at};
+
+    ghost leads = { leads_at };
+
+    fn read_on<K: Blocks>(
+        &mut self,
+        disk: &mut K,
+        path: &Path,
+        start: u64,
+        place: Option<Place>,
+        into: &mut Data,
+    ) -> Result<Option<Place>, FsRefusal> {
+        if self.mounted {
+            match chain_reading::read_on(&self.client, disk, path, start, place, into) {
+                Ok(next) => Ok(Some(next)),
+                Err(refusal) => Err(refusal),
+            }
+        } else {
+            *into = Data::new();
             Err(FsRefusal::NotThisFs)
         }
     }

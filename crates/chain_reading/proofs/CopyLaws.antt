@@ -1,5 +1,5 @@
 -- Bytes of a file from an offset on, part by part.
-use Rattle.std.proofs.Common.{◌≡◌, ℕ, zero, suc, ◌+◌, ◌-◌, ◌*◌, ◌≤◌, List, [], ◌∷◌, ◌++◌, length, refl, sym, ◌∙◌, ap, arith, append-nil, append_assoc, Some, None, Ok}
+use Rattle.std.proofs.Common.{◌≡◌, ◌⊎◌, inl, inr, ⊎_elim, ℕ, zero, suc, ◌+◌, ◌-◌, ◌*◌, ◌<◌, ◌≤◌, min, List, [], ◌∷◌, ◌++◌, length, refl, sym, ◌∙◌, ap, arith, append-nil, append_assoc, length-append, length-drop, length-take, Some, None, Ok}
 use Rattle.chain_reading.proofs.Common.{take, drop, Cluster, Link, chain_bytes, cluster_at, flat_map-append, DiskView, state_of, Stays, HoldsWrite, Client, Looked, OnlyLooks, IsFileAhead}
 use Rattle.chain_reading.proofs.WalkLaws.{link_of}
 use Rattle.chain_reading.proofs.SizeLaws.{IsCounted, count_on, more_bytes}
@@ -44,10 +44,17 @@ full_already start xs ys new is full =
 
 -- ---- the walk
 
+le_or_lt : (a b : ℕ) → (a ≤ b) ⊎ (b < a)
+le_or_lt zero b = inl (omega arith)
+le_or_lt (suc a) zero = inr (omega arith)
+le_or_lt (suc a) (suc b) = ⊎_elim (λ h. inl (omega (arith, h))) (λ h. inr (omega (arith, h))) (le_or_lt a b)
+
 -- the bytes of the clusters before a block, from the start on, were added
 pub record IsCopied (c : Client) (now : DiskView) (ls : List Link) (i b before start : ℕ) (into : List ℕ) : Type 0 where
   pub counted : IsCounted c now ls i b before
   pub copied : into ≡ take 4096 (drop start (chain_bytes counted.before))
+  -- no more than what was asked for stands before the block
+  pub near : before ≤ start + 4096
 
 pub record Copying (told : Type 0) (c : Client) (first now : DiskView) (block i b before start : ℕ) (into : List ℕ) : Type 0 where
   pub looks : OnlyLooks {X = Unit {0}} told first now (Ok tt)
@@ -70,9 +77,23 @@ module _ (c : Client) (now : DiskView) (ls : List Link) (i b before start more :
       full_already start (chain_bytes (copied.counted.before ++ link_of b cl ∷ [])) (chain_bytes first.0) result now_copied full
       ∙ ap (λ xs. take 4096 (drop start xs)) (sym (ap chain_bytes all ∙ flat_map-append (λ l. take l.cluster.used l.cluster.body) (copied.counted.before ++ link_of b cl ∷ []) first.0))
 
-  pub copy_on : (new : DiskView) (d : ℕ) → cl.next ≡ Some d → Looked now new → Stays now new → HoldsWrite (state_of new) c.session b → IsCopied c new ls (i + 1) d (before + more) start result
+  -- where there is room for more, no more bytes stand before the next cluster than were asked for
+  near_on : (length result ≡ 4096 → ⊥) → before + more ≤ start + 4096
+  near_on room =
+      let cut = ap length now_copied ∙ length-take 4096 (drop start (chain_bytes (copied.counted.before ++ link_of b cl ∷ []))) in
+      let long = length-drop start (chain_bytes (copied.counted.before ++ link_of b cl ∷ [])) in
+      let all = ap length (more_bytes copied.counted.before b cl) ∙ length-append (chain_bytes copied.counted.before) (take cl.used cl.body) in
+      by_sizes (length result) (length (chain_bytes (copied.counted.before ++ link_of b cl ∷ []))) (cut ∙ ap (λ n. min 4096 n) long) (let sum : length (chain_bytes (copied.counted.before ++ link_of b cl ∷ [])) ≡ before + more = omega (arith, all, part, copied.counted.bytes) in sum) room
+    where
+      by_sizes : (n k : ℕ) → n ≡ min 4096 (k - start) → k ≡ before + more → (n ≡ 4096 → ⊥) → before + more ≤ start + 4096
+      by_sizes n k is sum other = elim (le_or_lt k (start + 4096)) [
+        | inl le ↦ omega (arith, le, sum)
+        | inr lt ↦ absurd (other (omega (arith, is, lt)))
+      ]
+
+  pub copy_on : (new : DiskView) (d : ℕ) → (length result ≡ 4096 → ⊥) → cl.next ≡ Some d → Looked now new → Stays now new → HoldsWrite (state_of new) c.session b → IsCopied c new ls (i + 1) d (before + more) start result
   unfolding count_on
-  copy_on new d next seen stays held = record {
+  copy_on new d room next seen stays held = record {
     counted = record {
       before = copied.counted.before ++ link_of b cl ∷ [];
       walked = (count_on c now new ls i b d before more cl copied.counted at next part seen stays held).walked;
@@ -80,12 +101,14 @@ module _ (c : Client) (now : DiskView) (ls : List Link) (i b before start more :
       bytes = (count_on c now new ls i b d before more cl copied.counted at next part seen stays held).bytes;
     };
     copied = now_copied;
+    near = near_on room;
   }
 
 pub copy_starts : (c : Client) (v : DiskView) (block start : ℕ) (into : List ℕ) (ls : List Link) → into ≡ [] → IsFileAhead c v block ls → IsCopied c v ls 0 block 0 start into
 copy_starts c v block start into ls empty file = record {
   counted = record { before = []; walked = walk_starts c v block ls file.ahead; count = refl; bytes = refl };
   copied = empty ∙ sym (none_cut start);
+  near = omega arith;
 }
   where
     none_cut : (k : ℕ) → ◌≡◌ {A = List ℕ} (take 4096 (drop k [])) []

@@ -2,6 +2,7 @@ pub mod Common
 pub mod WalkLaws
 pub mod SizeLaws
 pub mod CopyLaws
+pub mod PlaceLaws
 pub mod ListLaws
 pub mod SearchLaws
 pub mod KnownLaws

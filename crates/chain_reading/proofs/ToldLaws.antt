@@ -9,7 +9,7 @@ use Rattle.chain_reading.proofs.KnownLaws.{is_known, tree_known, root_is_listed,
 use Rattle.chain_reading.proofs.NextLaws.{next_name}
 
 -- the bytes of a file from an offset on
-pub part_told : (told : Type 0) (c : Client) (old mid new : DiskView) (p : Path) (first start : ℕ) (part : List ℕ) (result : Result (Unit {0}) FsRefusal) → told → is_there (tree_under c old) ≡ true → Looked old mid → ◌≡◌ {A = Option FsRefusal} (no_file_found (tree_under c old) p) None → IsFileOf c mid p first
+pub part_told : {X : Type 0} (told : Type 0) (c : Client) (old mid new : DiskView) (p : Path) (first start : ℕ) (part : List ℕ) (result : Result X FsRefusal) → told → is_there (tree_under c old) ≡ true → Looked old mid → ◌≡◌ {A = Option FsRefusal} (no_file_found (tree_under c old) p) None → IsFileOf c mid p first
     → ((ls : List Link) → IsFileAhead c mid first ls → OnOk result (part ≡ take 4096 (drop start (chain_bytes ls)))) → IfErr result (λ e. e ≡ no.Device) → OnlyLooks told mid new result → Answers (mounted_by c) old new (ask.Cat p) result (λ _. TellsPart start part)
 part_told told c old mid new p first start part (Err e) t there seen none file gives only looks = record { ok = tt; err = λ ne. absurd (ne only) }
 part_told told c old mid new p first start part (Ok x) t there seen none file gives only looks = record {

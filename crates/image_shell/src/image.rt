@@ -29,7 +29,7 @@ use tsd_words::Status;
 /// The status is NotImage where the image stands for no world, RootDenied where the capability doesn't attain write at
 /// the root, NoMemory where none was found, DeviceFault where that count rose, or else how the loop ended: Done,
 /// SourceFault or PutFault where that count rose, or TooLong.
-pub fn serve_shell_image<F: Files, L: Placing, Y: TreeLayout, S: Source, P: Port>(
+pub fn serve_shell_image<F: Walks, L: Placing, Y: TreeLayout, S: Source, P: Port>(
     alloc: Global,
     files: &mut F,
     root: u32,
@@ -66,7 +66,7 @@ pub fn serve_shell_image<F: Files, L: Placing, Y: TreeLayout, S: Source, P: Port
 }
 
 /// The same, where the world at the start is named.
-fn serve_from<F: Files, L: Placing, K: Started, Y: TreeLayout, S: Source, P: Port>(
+fn serve_from<F: Walks, L: Placing, K: Started, Y: TreeLayout, S: Source, P: Port>(
     alloc: Global,
     files: &mut F,
     root: u32,

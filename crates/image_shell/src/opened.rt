@@ -23,7 +23,7 @@ use tsd_model::{Cap, Level, Reply, Request, Shown};
 use tsd_words::Status;
 
 /// Tests the level at the root, opens a session, mounts the tree, and serves.
-pub fn serve_opened<F: Files, L: Placing, K: Started, Y: TreeLayout, S: Source, P: Port>(
+pub fn serve_opened<F: Walks, L: Placing, K: Started, Y: TreeLayout, S: Source, P: Port>(
     files: &mut F,
     root: u32,
     cap: &Cap,
@@ -104,7 +104,7 @@ pub fn mount_on<F: Files, D: Device, L: Placing, K: Started>(
 }
 
 /// Mounts the tree and serves.
-pub fn serve_begun<F: Files, L: Placing, K: Started, Y: TreeLayout, S: Source, P: Port>(
+pub fn serve_begun<F: Walks, L: Placing, K: Started, Y: TreeLayout, S: Source, P: Port>(
     files: &mut F,
     core: &mut Core,
     placement: &L,

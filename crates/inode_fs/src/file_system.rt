@@ -6,6 +6,7 @@ use crate::marks::Marks;
 use fs_client::Client;
 use fs_port::{Blocks, Files};
 use fs_trees::{FsRefusal, Name, Path};
+use fs_walks::{Place, Walks};
 use std::alloc::Global;
 use tsd_model::{Cap, Data, NoMemory};
 
@@ -146,6 +147,27 @@ impl Files for InodeFs {
             inode_walks::name_after(&self.client, disk, path, after)
         } else {
             Err(FsRefusal::NotThisFs)
+        }
+    }
+}
+
+impl Walks for InodeFs {
+    ghost use Rattle.inode_fs.specs.View.{leads_at};
+
+    ghost leads = { leads_at };
+
+    /// An inode names the blocks of its file, so that any of them is found from there: no place is needed.
+    fn read_on<K: Blocks>(
+        &mut self,
+        disk: &mut K,
+        path: &Path,
+        start: u64,
+        _place: Option<Place>,
+        into: &mut Data,
+    ) -> Result<Option<Place>, FsRefusal> {
+        match self.read_part(disk, path, start, into) {
+            Ok(()) => Ok(None),
+            Err(refusal) => Err(refusal),
         }
     }
 }

@@ -7,3 +7,4 @@ pub mod Start
 pub mod Carried
 pub mod Speaking
 pub mod Told
+pub mod Places

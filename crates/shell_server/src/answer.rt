@@ -21,6 +21,7 @@ use fs_fields::is_name;
 use fs_port::{Files, FsRefusal, Path};
 use fs_trees::name::PATH_MAX;
 use fs_trees::{Name, ShellAsk};
+use fs_walks::Walks;
 use image_device::Port;
 use script_text::OutBuf;
 use shell_text::{print_data_head, print_data_part};
@@ -158,7 +159,7 @@ pub fn answer_bad<F: Files, P: Port, L: Placing, K: Started>(
 }
 
 /// Sends the bytes of a file, part by part.
-pub fn answer_cat<F: Files, P: Port, L: Placing, K: Started>(
+pub fn answer_cat<F: Walks, P: Port, L: Placing, K: Started>(
     files: &mut F,
     core: &mut Core,
     placement: &L,
@@ -178,7 +179,7 @@ pub fn answer_cat<F: Files, P: Port, L: Placing, K: Started>(
 }
 
 /// Sends the bytes of a file of this size, part by part. A disk that tells its world has all of them.
-fn send_file<F: Files, P: Port, L: Placing, K: Started>(
+fn send_file<F: Walks, P: Port, L: Placing, K: Started>(
     files: &mut F,
     core: &mut Core,
     placement: &L,
@@ -201,10 +202,11 @@ fn send_file<F: Files, P: Port, L: Placing, K: Started>(
         Err(why) => return Err(why),
     }
     let mut part = Data::new();
+    let mut place = None;
     let mut start: u64 = 0;
     while start < size {
-        match part_on::<F, P, L, K>(files, core, placement, port, path, start, &mut part) {
-            Ok(()) => {}
+        match part_on::<F, P, L, K>(files, core, placement, port, path, start, place, &mut part) {
+            Ok(next) => place = next,
             Err(FsRefusal::Device) => return Err(Status::DeviceFault),
             Err(_) => return send_end(port),
         }
@@ -219,7 +221,7 @@ fn send_file<F: Files, P: Port, L: Placing, K: Started>(
 }
 
 /// AnswersByLine an ask whole.
-pub fn answer_ask<F: Files, P: Port, L: Placing, K: Started>(
+pub fn answer_ask<F: Walks, P: Port, L: Placing, K: Started>(
     files: &mut F,
     core: &mut Core,
     placement: &L,

@@ -1,17 +1,19 @@
 //! A file or a directory read, part by part.
 
-ghost use Rattle.std.specs.Prelude.{◌≡◌, IsTrue};
+ghost use Rattle.std.specs.Prelude.{◌≡◌, ◌+◌, IfOk, IfSome, IsTrue};
 ghost use Rattle.fs_trees.specs.Names.{is_path};
 ghost use Rattle.fs_trees.specs.declared.ask.ShellAsk.TheVariants as ask;
 ghost use Rattle.fs_port.specs.Files.{TellsNext, TellsPart, TellsSize};
 ghost use Rattle.serving.specs.Handling.{FitsDevice};
 ghost use Rattle.shell_server.specs.Carried.{IsLooked};
 ghost use Rattle.shell_server.specs.Kept.{AreReady, FitsShell};
+ghost use Rattle.shell_server.specs.Places.{disk_state};
 
 use crate::started::Started;
 use core_blocks::{CoreBlocks, Placing};
 use fs_port::{Files, FsRefusal, Path};
 use fs_trees::Name;
+use fs_walks::{Place, Walks};
 use image_device::Device;
 use tsd_core::Core;
 use tsd_model::Data;
@@ -34,24 +36,30 @@ pub fn size_on<F: Files, D: Device, L: Placing, K: Started>(
     files.size(&mut blocks, path)
 }
 
-/// The bytes of a file from an offset on, at most 4,096.
-pub fn part_on<F: Files, D: Device, L: Placing, K: Started>(
+/// The bytes of a file from an offset on, at most 4,096. Where a place is given, that is where they begin; the answer is
+/// the place behind them.
+pub fn part_on<F: Walks, D: Device, L: Placing, K: Started>(
     files: &mut F,
     core: &mut Core,
     placement: &L,
     dev: &mut D,
     path: &Path,
     start: u64,
+    place: Option<Place>,
     into: &mut Data,
-) -> Result<(), FsRefusal>
+) -> Result<Option<Place>, FsRefusal>
     requires ready { AreReady (F.view files.old) core.old }
     requires at { D.told → FitsDevice (FitsShell K.start (F.view files.old) core.old) (D.view dev.old) }
     requires named { IsTrue (is_path path.now) }
-    ensures { IsLooked D.told K.start (ask.Cat path.now) (F.view files.old) (F.view files.new) core.old core.new
+    requires place { D.told → IfSome place (F.leads (F.view files.old) (disk_state core.old (D.view dev.old)) path.now
+        start) }
+    ensures looked { IsLooked D.told K.start (ask.Cat path.now) (F.view files.old) (F.view files.new) core.old core.new
         (D.view dev.old) (D.view dev.new) (λ _. TellsPart start into.new) result }
+    ensures place { D.told → IfOk result (λ next. IfSome next (F.leads (F.view files.new) (disk_state core.new (D.view
+        dev.new)) path.now (start + 4096))) }
 {
     let mut blocks = CoreBlocks::new(core, placement, dev);
-    files.read_part(&mut blocks, path, start, into)
+    files.read_on(&mut blocks, path, start, place, into)
 }
 
 /// The least name in a directory above another; the empty name is below all.

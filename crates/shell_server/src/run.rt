@@ -18,7 +18,7 @@ use crate::lines::{ShellLines, TreeLayout};
 use crate::server::ShellServer;
 use crate::started::Started;
 use core_blocks::Placing;
-use fs_port::Files;
+use fs_walks::Walks;
 use image_device::{Port, Source};
 use serving::{INPUT_MAX, serve};
 use std::marker::PhantomData;
@@ -26,7 +26,7 @@ use tsd_core::Core;
 use tsd_words::Status;
 
 /// Serves the asks of an input by a file system on a core until it ends, as `serving::serve` does.
-pub fn serve_shell<F: Files, L: Placing, K: Started, Y: TreeLayout, S: Source, P: Port>(
+pub fn serve_shell<F: Walks, L: Placing, K: Started, Y: TreeLayout, S: Source, P: Port>(
     files: &mut F,
     core: &mut Core,
     placement: &L,

@@ -17,6 +17,7 @@ use crate::started::Started;
 use core_blocks::Placing;
 use fs_port::Files;
 use fs_trees::ShellAsk;
+use fs_walks::Walks;
 use image_device::{Device, Failed, Port};
 use serving::Server;
 use std::marker::PhantomData;
@@ -40,7 +41,7 @@ pub struct ShellServer<'a, F: Files, L: Placing, K: Started> {
     pub of: PhantomData<K>,
 }
 
-impl<'a, F: Files, L: Placing, K: Started, Y: TreeLayout> Server<ShellLines<Y>>
+impl<'a, F: Walks, L: Placing, K: Started, Y: TreeLayout> Server<ShellLines<Y>>
     for ShellServer<'a, F, L, K> {
     ghost service = { shell_service K.start };
 

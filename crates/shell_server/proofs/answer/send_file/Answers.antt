@@ -1,5 +1,7 @@
-use Rattle.std.proofs.Common.{◌≡◌, ◌≢◌, cond, ◌+◌, ◌<◌, ◌≤◌, [], ◌∷◌, ◌++◌, length, sym, ◌∙◌, ap, subst, arith, rules}
-use Rattle.shell_server.proofs.Common.{encode_lower, TellsPart, AnswersByLine, ShellState, shell_step, shell_state, behind_then}
+use Rattle.std.proofs.Common.{◌≡◌, ◌≢◌, IfSome, cond, ◌+◌, ◌<◌, ◌≤◌, [], ◌∷◌, ◌++◌, length, sym, ◌∙◌, ap, subst, arith, rules}
+use Rattle.shell_server.proofs.Common.{Image, world_of, encode_lower, TellsPart, AnswersByLine, ShellState, shell_step, shell_state, behind_then}
+use Rattle.tsd_core.specs.Core.{sessions_of}
+use Rattle.shell_server.specs.Places.{disk_state}
 use Rattle.fs_trees.specs.declared.ask.ShellAsk.TheVariants as ask
 use Rattle.fs_trees.specs.declared.refusal.FsRefusal.TheVariants as no
 use Rattle.shell_server.proofs.CatLaws.{cat_answers, cat_in_parts, behind, line_end, line_headed, line_next, line_parts, no_size, not_refused, part_is, up_to, up_to_next, up_to_none, whole_line}
@@ -32,7 +34,11 @@ loop-start-init g c =
       c.as_slice.result.now,
       speaks_put g.P.Device.told g.K.Started.start f c.args.core.now v f c.args.core.now v [] begun (g.P.Device.view c.send_text.new.port) c.as_slice.result.now c.in-Ok.field-0 c.in-Ok.ensures.puts,
       λ told x is len. c.as_slice.ensures.value ∙ c.print_data_head.ensures ∙ no_size x c.args.size len ∙ sym (up_to_none x),
+      λ told some. tt,
     )
+
+pub part_on-requires-clause-place : goal.part_on-requires-clause-place
+part_on-requires-clause-place g c = λ told. c.loop-start.invariant.3 told c.loop-start-test.true
 
 pub returns-in-Err-Device : goal.returns-in-Err-Device
 returns-in-Err-Device g c =
@@ -42,7 +48,7 @@ returns-in-Err-Device g c =
     let q = ask.Cat c.args.path.now in
     let i = c.loop-start.invariant in
     speaks_lost g.P.Device.told start f c.args.core.now v (g.F.Files.view c.loop-start.files) c.loop-start.core (g.P.Device.view c.loop-start.port) i.0 i.1 q (g.F.Files.view c.part_on.new.files) c.part_on.new.core (g.P.Device.view c.part_on.new.dev) (λ y. TellsPart c.loop-start.start c.part_on.new.into)
-    (rw c.in-Err-Device.field-0-is at c.in-Err-Device.ensures)
+    (rw c.in-Err-Device.field-0-is at c.in-Err-Device.ensures.looked)
     (λ told.
     let r = c.requires.told told in
     let x = r.0 in (
@@ -61,7 +67,7 @@ returns-in-Err-part_on g c =
     let q = ask.Cat c.args.path.now in
     let i = c.loop-start.invariant in
     let other : c.in-Err-part_on.field-0 ≢ no.Device = search rules in
-    let look = c.in-Err-part_on.ensures in
+    let look = c.in-Err-part_on.ensures.looked in
     let never : g.P.Device.told → ⊥ = λ told.
     let r = c.requires.told told in
     not_refused r.0 c.in-Err-part_on.field-0 (shell_step (shell_state f v.reads) q).answer r.1 (ap (λ (s : ShellState). (shell_step s q).answer) (sym (i.1.state told)) ∙ look.refused told other) in
@@ -78,12 +84,12 @@ returns-in-Err-send_text g c =
     let i = c.loop-start.invariant in
     let n = c.loop-start.start in
     let part = c.part_on.new.into in
-    let look = c.in-Ok-part_on.ensures in
+    let look = c.in-Ok-part_on.ensures.looked in
     let f1 = g.F.Files.view c.loop-start.files in
     let f2 = g.F.Files.view c.part_on.new.files in
     let w = g.P.Device.view c.loop-start.port in
     let y = g.P.Device.view c.part_on.new.dev in
-    let read = speaks_look g.P.Device.told start f c.args.core.now v f1 c.loop-start.core w i.0 i.1 q f2 c.part_on.new.core y (λ z. TellsPart n part) c.in-Ok-part_on.field-0 look in
+    let read = speaks_look g.P.Device.told start f c.args.core.now v f1 c.loop-start.core w i.0 i.1 q f2 c.part_on.new.core y (λ z. TellsPart n part) c.in-Ok-part_on.next look in
     let piece_is : c.as_slice-in-loop-start-2.result.now ≡ encode_lower part = c.as_slice-in-loop-start-2.ensures.value ∙ c.print_data_part.ensures ∙ ap encode_lower c.as_slice-in-loop-start.ensures.value in
     speaks_cut g.P.Device.told start f c.args.core.now v f2 c.part_on.new.core y i.0 read q (g.P.Device.view c.send_text-in-loop-start.new.port) c.as_slice-in-loop-start-2.result.now c.in-Err-send_text.why c.in-Err-send_text.ensures.stops c.in-Err-send_text.ensures.puts
     (λ told.
@@ -105,13 +111,13 @@ loop-start-preserved g c =
     let i = c.loop-start.invariant in
     let n = c.loop-start.start in
     let part = c.part_on.new.into in
-    let look = c.in-Ok-part_on.ensures in
+    let look = c.in-Ok-part_on.ensures.looked in
     let f1 = g.F.Files.view c.loop-start.files in
     let f2 = g.F.Files.view c.part_on.new.files in
     let w = g.P.Device.view c.loop-start.port in
     let y = g.P.Device.view c.part_on.new.dev in
     let m = c.saturating_add-start.result in
-    let read = speaks_look g.P.Device.told start f c.args.core.now v f1 c.loop-start.core w i.0 i.1 q f2 c.part_on.new.core y (λ z. TellsPart n part) c.in-Ok-part_on.field-0 look in
+    let read = speaks_look g.P.Device.told start f c.args.core.now v f1 c.loop-start.core w i.0 i.1 q f2 c.part_on.new.core y (λ z. TellsPart n part) c.in-Ok-part_on.next look in
     let piece_is : c.as_slice-in-loop-start-2.result.now ≡ encode_lower part = c.as_slice-in-loop-start-2.ensures.value ∙ c.print_data_part.ensures ∙ ap encode_lower c.as_slice-in-loop-start.ensures.value in (
       i.0 ++ c.as_slice-in-loop-start-2.result.now,
       speaks_put g.P.Device.told start f c.args.core.now v f2 c.part_on.new.core y i.0 read (g.P.Device.view c.send_text-in-loop-start.new.port) c.as_slice-in-loop-start-2.result.now c.in-Ok-send_text.field-0 c.in-Ok-send_text.ensures.puts,
@@ -120,6 +126,12 @@ loop-start-preserved g c =
           let le : m ≤ n + 4096 = omega arith in
           let all : m < n + 4096 → length x ≤ m = λ less. omega (arith, len) in
           ap (λ l. l ++ c.as_slice-in-loop-start-2.result.now) (i.2 told x is len) ∙ ap (λ l. up_to x n ++ l) piece_is ∙ up_to_next x part n m reads le all,
+      λ told more.
+          let on : m ≡ n + 4096 = omega (arith, more) in
+          let next = c.in-Ok-part_on.next in
+          let core = c.part_on.new.core in
+          subst (λ k. IfSome next (g.F.Walks.leads f2 (disk_state core (g.P.Device.view c.send_text-in-loop-start.new.port)) c.args.path.now k)) (sym on)
+          (subst (λ (x : Image). IfSome next (g.F.Walks.leads f2 (record { world = world_of x; sessions = sessions_of core }) c.args.path.now (n + 4096))) (sym (c.in-Ok-send_text.ensures.puts.reads told)) (c.in-Ok-part_on.ensures.place told)),
     )
 
 pub returns : goal.returns
