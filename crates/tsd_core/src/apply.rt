@@ -154,14 +154,15 @@ impl Core {
             → dev.new ≡ dev.old) }
     {
         let mut reply = Reply::Done;
-        let outcome = self.judge(dev, placement, request, &mut reply);
+        let outcome = self.apply_into(dev, placement, request, &mut reply);
         answered(outcome, reply)
     }
 
-    /// The verdict on a request, and the request where it is granted. Its reply is put where the caller has a room for
-    /// it, and all of that room is written.
+    /// Applies a request, as `apply` does, and puts its reply where the caller has a room for it. All of that room is
+    /// written, so it needn't be cleared before, and one room serves for any number of requests. After `Failed` what
+    /// stands there is no reply.
     #[inline(never)]
-    fn judge<D: Device>(
+    pub fn apply_into<D: Device>(
         &mut self,
         dev: &mut D,
         placement: &Placement,
@@ -170,6 +171,8 @@ impl Core {
     ) -> Result<(), Failed>
         requires ready { IsCoreReady self.old }
         requires at { D.told → IsCoreAt self.old (D.view dev.old) }
+        /// promise (with asks_nothing): All that `apply` promises of the reply that it returns holds of the one that is
+        /// left in the room, and of the core and the device beside it.
         ensures applied { IsApplied D.told placement.now.kind request.now self.old self.new (D.view dev.old)
             (D.view dev.new) (left_in result into.new) }
         ensures asks_nothing { IfOk (left_in result into.new)

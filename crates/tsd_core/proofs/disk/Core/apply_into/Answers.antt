@@ -3,7 +3,7 @@ use Rattle.std.specs.Prelude.{Result}
 use Rattle.tsd_core.proofs.Common.{verdict, Reply, Rule, Failed, Volume, told_by, IsApplied, left_in, Core, told_world}
 use Rattle.tsd_core.proofs.Applied.{refused_applied, granted_applied, refused_asks}
 use Rattle.tsd_core.proofs.Operations.{if_map}
-use Rattle.tsd_core.proofs.disk.Core.judge.Goals as goal
+use Rattle.tsd_core.proofs.disk.Core.apply_into.Goals as goal
 
 pub returns-in-Err-clause-applied : goal.returns-in-Err-clause-applied
 returns-in-Err-clause-applied g c =
