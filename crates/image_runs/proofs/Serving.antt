@@ -1,13 +1,35 @@
 -- What the core promises, as a serving loop asks it.
 use Rattle.std.proofs.Common.{◌≡◌, ◌↔◌, ◌<◌, ◌≤◌, ◌+◌, ◌||◌, ℕ, Bool, true, false, cond, refl, sym, ◌∙◌, ap, subst, inl, inr, arith, Option, Some, None}
-use Rattle.image_runs.proofs.Common.{or_left, IfOk, IsTrue, is_none, HasForm, is_refusal, step, Outcome, State, is_granted, verdict, Reply, Rule, PlaceKind, Request, View, IsSound, LeavesOnly, weakened, Image, world_of, world_valid, IsAnswer, debt, owed, LeavesEither, Volume, Works, StandsBeforeOrAfter, AreCounted, Placed, Core, FitsReads, IsCoreAt, state_on, asks_nothing, next_world, write_limit, disk_rules, limit_with, placed_on, writes_before}
-use Rattle.std.specs.Prelude.{Result, Ok, Err, OnOk}
+use Rattle.image_runs.proofs.Common.{or_left, CountsFault, IfOk, IsTrue, is_none, HasForm, is_refusal, step, Outcome, State, is_granted, verdict, Reply, Rule, PlaceKind, Request, View, IsSound, LeavesOnly, weakened, Image, world_of, world_valid, IsAnswer, debt, owed, LeavesEither, Volume, Works, StandsBeforeOrAfter, AreCounted, Placed, Core, FitsReads, IsCoreAt, state_on, asks_nothing, next_world, write_limit, disk_rules, limit_with, placed_on, writes_before}
+use Rattle.std.specs.Prelude.{Result, Ok, Err, OnOk, OnErr}
+use Rattle.image_device.specs.declared.device.Failed.{Failed}
+use Rattle.tsd_core.specs.Carrying.{left_in}
 use Rattle.tsd_model.specs.declared.requests.Request.TheVariants as ask
 use Rattle.disk_laws.proofs.AnswerLaws.{refused_answer}
 use Rattle.image_runs.proofs.StepForm.{step_form}
 
 pub counted_in : (v w : View) → Works v w → AreCounted v w
 counted_in v w works = record { faults = works.faults; put_faults = works.put_faults }
+
+-- ---- the reply that a call leaves in a room
+
+pub on_left : {T : Type 0} (P : Type 0) (r : Result T Failed) (x : Reply) → OnOk (left_in r x) P → OnOk r P
+on_left P (Ok u) x p = p
+on_left P (Err e) x p = tt
+
+pub if_left : {T : Type 0} (P : Reply → Type 0) (r : Result T Failed) (x : Reply) → IfOk (left_in r x) P → OnOk r (P x)
+if_left P (Ok u) x p = p
+if_left P (Err e) x p = tt
+
+pub err_left : {T : Type 0} (P : Type 0) (r : Result T Failed) (x : Reply) → OnErr (left_in r x) P → OnErr r P
+err_left P (Ok u) x p = tt
+err_left P (Err e) x p = p
+
+pub faults_left : {T : Type 0} (r : Result T Failed) (x : Reply) (before now : ℕ) → CountsFault (left_in r x) before now → CountsFault r before now
+faults_left (Ok u) x before now counts = counts
+faults_left (Err e) x before now counts = counts
+
+-- ---- an answer
 
 -- an answer by the model is one by the rules
 pub given_by : {E : Type 0} (kind : PlaceKind) (old new : Core) (x y : Image) (q : Request) (result : Result Reply E) → IfOk result (λ r. IsAnswer kind (state_on old x) q r (state_on new y)) → IfOk result HasForm
