@@ -1,6 +1,6 @@
 //! A file or a directory read, part by part.
 
-ghost use Rattle.std.specs.Prelude.{◌≡◌, IsTrue};
+ghost use Rattle.std.specs.Prelude.{◌≡◌, [], IfErr, IsTrue};
 ghost use Rattle.fs_trees.specs.Names.{is_path};
 ghost use Rattle.fs_trees.specs.declared.ask.ShellAsk.TheVariants as ask;
 ghost use Rattle.fs_port.specs.Files.{TellsNext, TellsPart, TellsSize};
@@ -34,7 +34,7 @@ pub fn size_on<F: Files, D: Device, L: Placing, K: Started>(
     files.size(&mut blocks, path)
 }
 
-/// The bytes of a file from an offset on, at most 4,096.
+/// The bytes of a file from an offset on, at most 4,096; none after an `Err`.
 pub fn part_on<F: Files, D: Device, L: Placing, K: Started>(
     files: &mut F,
     core: &mut Core,
@@ -47,8 +47,10 @@ pub fn part_on<F: Files, D: Device, L: Placing, K: Started>(
     requires ready { AreReady (F.view files.old) core.old }
     requires at { D.told → FitsDevice (FitsShell K.start (F.view files.old) core.old) (D.view dev.old) }
     requires named { IsTrue (is_path path.now) }
-    ensures { IsLooked D.told K.start (ask.Cat path.now) (F.view files.old) (F.view files.new) core.old core.new
-        (D.view dev.old) (D.view dev.new) (λ _. TellsPart start into.new) result }
+    ensures looked { IsLooked D.told K.start (ask.Cat path.now) (F.view files.old) (F.view files.new) core.old
+        core.new (D.view dev.old) (D.view dev.new) (λ _. TellsPart start into.new) result }
+    /// promise: A part that isn't read is empty.
+    ensures nothing { IfErr result (λ _. into.new ≡ []) }
 {
     let mut blocks = CoreBlocks::new(core, placement, dev);
     files.read_part(&mut blocks, path, start, into)

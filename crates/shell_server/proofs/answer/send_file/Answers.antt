@@ -1,5 +1,5 @@
-use Rattle.std.proofs.Common.{◌≡◌, ◌≢◌, cond, ◌+◌, ◌<◌, ◌≤◌, [], ◌∷◌, ◌++◌, length, sym, ◌∙◌, ap, subst, arith, rules}
-use Rattle.shell_server.proofs.Common.{encode_lower, TellsPart, AnswersByLine, ShellState, shell_step, shell_state, behind_then}
+use Rattle.std.proofs.Common.{◌≡◌, ◌≢◌, cond, ◌+◌, ◌<◌, ◌≤◌, [], ◌∷◌, ◌++◌, length, refl, sym, ◌∙◌, ap, subst, arith, rules}
+use Rattle.shell_server.proofs.Common.{encode_lower, TellsPart, AnswersByLine, ShellState, shell_step, shell_rests, shell_state, behind_then}
 use Rattle.fs_trees.specs.declared.ask.ShellAsk.TheVariants as ask
 use Rattle.fs_trees.specs.declared.refusal.FsRefusal.TheVariants as no
 use Rattle.shell_server.proofs.CatLaws.{cat_answers, cat_in_parts, behind, line_end, line_headed, line_next, line_parts, no_size, not_refused, part_is, up_to, up_to_next, up_to_none, whole_line}
@@ -21,7 +21,7 @@ returns-in-Err g c =
       whole_line x,
       encode_lower x ++ 10 ∷ [],
       line_headed x ∙ ap (λ l. l ++ (encode_lower x ++ 10 ∷ [])) (sym (c.as_slice.ensures.value ∙ c.print_data_head.ensures ∙ no_size x c.args.size r.2)),
-      cat_answers start (shell_state f v.reads) c.args.path.now x (ap (λ t. cond t q ask.Bad) c.requires.named) r.1 (c.requires.at told).1.kept,
+      cat_answers start (shell_state f v.reads) c.args.path.now x (ap (λ t. cond t q ask.Bad) c.requires.named) r.1 v.reads (shell_rests start f c.args.core.now v.reads (c.requires.at told).1),
     ))
 
 pub loop-start-init : goal.loop-start-init
@@ -42,14 +42,14 @@ returns-in-Err-Device g c =
     let q = ask.Cat c.args.path.now in
     let i = c.loop-start.invariant in
     speaks_lost g.P.Device.told start f c.args.core.now v (g.F.Files.view c.loop-start.files) c.loop-start.core (g.P.Device.view c.loop-start.port) i.0 i.1 q (g.F.Files.view c.part_on.new.files) c.part_on.new.core (g.P.Device.view c.part_on.new.dev) (λ y. TellsPart c.loop-start.start c.part_on.new.into)
-    (rw c.in-Err-Device.field-0-is at c.in-Err-Device.ensures)
+    (rw c.in-Err-Device.field-0-is at c.in-Err-Device.ensures.looked)
     (λ told.
     let r = c.requires.told told in
     let x = r.0 in (
       whole_line x,
       behind x c.loop-start.start,
       line_parts x c.loop-start.start ∙ ap (λ l. l ++ behind x c.loop-start.start) (sym (i.2 told x r.1 r.2)),
-      cat_answers start (shell_state f v.reads) c.args.path.now x (ap (λ t. cond t q ask.Bad) c.requires.named) r.1 (c.requires.at told).1.kept,
+      cat_answers start (shell_state f v.reads) c.args.path.now x (ap (λ t. cond t q ask.Bad) c.requires.named) r.1 v.reads (shell_rests start f c.args.core.now v.reads (c.requires.at told).1),
       cat_in_parts c.args.path.now x,
     ))
 
@@ -61,7 +61,7 @@ returns-in-Err-part_on g c =
     let q = ask.Cat c.args.path.now in
     let i = c.loop-start.invariant in
     let other : c.in-Err-part_on.field-0 ≢ no.Device = search rules in
-    let look = c.in-Err-part_on.ensures in
+    let look = c.in-Err-part_on.ensures.looked in
     let never : g.P.Device.told → ⊥ = λ told.
     let r = c.requires.told told in
     not_refused r.0 c.in-Err-part_on.field-0 (shell_step (shell_state f v.reads) q).answer r.1 (ap (λ (s : ShellState). (shell_step s q).answer) (sym (i.1.state told)) ∙ look.refused told other) in
@@ -78,7 +78,7 @@ returns-in-Err-send_text g c =
     let i = c.loop-start.invariant in
     let n = c.loop-start.start in
     let part = c.part_on.new.into in
-    let look = c.in-Ok-part_on.ensures in
+    let look = c.in-Ok-part_on.ensures.looked in
     let f1 = g.F.Files.view c.loop-start.files in
     let f2 = g.F.Files.view c.part_on.new.files in
     let w = g.P.Device.view c.loop-start.port in
@@ -93,7 +93,7 @@ returns-in-Err-send_text g c =
       whole_line x,
       behind x (n + 4096),
       line_next x part n is ∙ ap (λ l. l ++ (encode_lower part ++ behind x (n + 4096))) (sym (i.2 told x r.1 r.2)) ∙ ap (λ l. i.0 ++ (l ++ behind x (n + 4096))) (sym piece_is),
-      cat_answers start (shell_state f v.reads) c.args.path.now x (ap (λ t. cond t q ask.Bad) c.requires.named) r.1 (c.requires.at told).1.kept,
+      cat_answers start (shell_state f v.reads) c.args.path.now x (ap (λ t. cond t q ask.Bad) c.requires.named) r.1 v.reads (shell_rests start f c.args.core.now v.reads (c.requires.at told).1),
     ))
 
 pub loop-start-preserved : goal.loop-start-preserved
@@ -105,7 +105,7 @@ loop-start-preserved g c =
     let i = c.loop-start.invariant in
     let n = c.loop-start.start in
     let part = c.part_on.new.into in
-    let look = c.in-Ok-part_on.ensures in
+    let look = c.in-Ok-part_on.ensures.looked in
     let f1 = g.F.Files.view c.loop-start.files in
     let f2 = g.F.Files.view c.part_on.new.files in
     let w = g.P.Device.view c.loop-start.port in
@@ -135,4 +135,4 @@ returns g c =
     let x = r.0 in
     let past : length x ≤ c.loop-start.start = omega (arith, r.2) in
     subst (λ l. AnswersByLine start (shell_state f v.reads) q l (shell_state f v.reads)) (line_end x c.loop-start.start past ∙ ap (λ l. l ++ 10 ∷ []) (sym (i.2 told x r.1 r.2)))
-    (cat_answers start (shell_state f v.reads) c.args.path.now x (ap (λ t. cond t q ask.Bad) c.requires.named) r.1 (c.requires.at told).1.kept))
+    (cat_answers start (shell_state f v.reads) c.args.path.now x (ap (λ t. cond t q ask.Bad) c.requires.named) r.1 v.reads (shell_rests start f c.args.core.now v.reads (c.requires.at told).1)))

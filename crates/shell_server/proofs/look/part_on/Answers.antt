@@ -7,8 +7,8 @@ use Rattle.shell_server.proofs.look.part_on.Goals as goal
 pub read_part-requires-clause-valid : goal.read_part-requires-clause-valid
 read_part-requires-clause-valid g c = λ told. rw c.new-blocks.ensures.dev_now (let k = (c.requires.at told).1 in record { valid = k.kept.valid; fits = rw c.new-blocks.ensures.core_now k.fits })
 
-pub returns : goal.returns
-returns g c =
+pub returns-clause-looked : goal.returns-clause-looked
+returns-clause-looked g c =
     let d = c.read_part.new.disk in
     let b = c.new-blocks.result in
     let f = g.F.Files.view c.args.files.now in
