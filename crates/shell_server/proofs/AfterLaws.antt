@@ -1,9 +1,10 @@
 -- What comes after the disk was read for an ask: the answer, or a refusal.
 use Rattle.std.proofs.Common.{◌≡◌, ◌≢◌, inl, ℕ, List, [], ◌∷◌, ◌++◌, sym, ◌∙◌, ap, subst}
-use Rattle.shell_server.proofs.Common.{Result, Ok, Err, OnOk, IfErr, World, CountsFaultOf, View, LeavesOnly, joined, weakened, line_feeds, Answer, refused, ShellAsk, FsRefusal, FilesView, answer_text, Status, IsInAnswer, LeftBy, Core, behind_then, ShellState, AnswersByLine, files_after, heard, shell_service, shell_step, tree_in, shell_state, IsLeftBeforeOrAfter, IsCarried, IsLooked, IsServed}
+use Rattle.shell_server.proofs.Common.{Result, Ok, Err, OnOk, IfErr, World, CountsFaultOf, View, LeavesOnly, joined, weakened, world_of, line_feeds, Answer, refused, ShellAsk, FsRefusal, FilesView, answer_text, Status, IsInAnswer, LeftBy, Core, behind_then, RestsIn, shell_rests, ShellState, AnswersByLine, files_after, heard, shell_service, shell_step, tree_in, shell_state, IsLeftBeforeOrAfter, IsCarried, IsLooked, IsServed}
 use Rattle.fs_trees.specs.declared.refusal.FsRefusal.TheVariants as no
 use Rattle.tsd_words.specs.declared.status.Status.TheVariants as status
 use Rattle.shell_server.proofs.ChangeLaws.{judged_refused}
+use Rattle.shell_server.proofs.KeptLaws.{same_taken}
 
 module _ {X Y : Type 0} (told : Type 0) (start : World) (q : ShellAsk) (f0 f1 f2 : FilesView) (c0 c1 c2 : Core) (v w z : View) (of_answer : X → Answer → Type 0) where
   -- the answer was sent behind it
@@ -49,10 +50,13 @@ module _ {X Y : Type 0} (told : Type 0) (start : World) (q : ShellAsk) (f0 f1 : 
           let is : (shell_step (shell_state f0 v.reads) q).answer ≡ refused e = look.refused t other in
           let same : shell_state f1 w.reads ≡ shell_state f0 v.reads = (look.state t).1 other in
           record {
+            from = w.reads;
+            at_rest = subst (λ (s : ShellState). RestsIn start s w.reads) same (shell_rests start f1 c1 w.reads ((look.at t).1 other).1);
             text = ap (λ a. answer_text a ++ 10 ∷ []) (sym is);
             one_line = ap (λ a. line_feeds (answer_text a)) is ∙ line;
             tree = ap tree_in same ∙ sym (judged_refused (tree_in (shell_state f0 v.reads)) _ (heard f0.kind q) _ e is);
             same = λ other_answer. ap (λ (s : ShellState). s.world) same;
             files = ap (λ (s : ShellState). s.files) same ∙ sym still;
             kept = ((look.at t).1 other).1.kept;
+            taken = same_taken f0 (world_of v.reads) (world_of w.reads) (ap (λ (s : ShellState). s.world) same);
           }

@@ -1,9 +1,10 @@
 -- The line of a file's bytes, part by part.
 use Rattle.std.proofs.Common.{◌≡◌, ◌⊎◌, inl, inr, ⊎_elim, ℕ, zero, suc, ◌+◌, ◌/◌, ◌%◌, ◌<◌, ◌≤◌, ◌==◌, Bool, true, false, cond, List, [], ◌∷◌, ◌++◌, length, take, drop, refl, sym, ◌∙◌, ap, arith, append-nil, append_assoc, take-append-drop}
-use Rattle.shell_server.proofs.Common.{slice_index, nat_tests, encode_with, encode_lower, lower_digits, World, free_count, line_feeds, feeds-append, Path, Tree, Answer, bytes, refused, need_of, refusal, judged, step_in, ShellAsk, FsRefusal, TellsPart, is_empty, answer_text, data_head, ShellState, AnswersByLine, IsInParts, IsKeptSince, files_after, heard, shell_step, tree_in}
+use Rattle.shell_server.proofs.Common.{Image, slice_index, nat_tests, encode_with, encode_lower, lower_digits, World, free_count, line_feeds, feeds-append, Path, Tree, Answer, bytes, refused, need_of, refusal, judged, step_in, ShellAsk, FsRefusal, TellsPart, is_empty, answer_text, data_head, ShellState, AnswersByLine, IsInParts, RestsIn, files_after, heard, shell_step, tree_in}
 use Rattle.std.specs.Prelude.{Option, Some, None}
 use Rattle.std.proofs.Math.Seq.{take-add}
 use Rattle.std.proofs.lemmas.List.{take_all}
+use Rattle.shell_server.proofs.KeptLaws.{none_taken}
 use Rattle.fs_trees.specs.declared.ask.ShellAsk.TheVariants as ask
 
 -- ---- digits
@@ -98,14 +99,17 @@ cat_tree : (t : Tree) (free : ℕ) (path : Path) (o : Option FsRefusal) → (jud
 cat_tree t free path (Some r) = refl
 cat_tree t free path None = refl
 
-pub cat_answers : (start : World) (s : ShellState) (path : Path) (x : List ℕ) → heard s.files.kind (ask.Cat path) ≡ ask.Cat path → (shell_step s (ask.Cat path)).answer ≡ bytes x → IsKeptSince start s → AnswersByLine start s (ask.Cat path) (whole_line x) s
-cat_answers start s path x hears is kept = record {
+pub cat_answers : (start : World) (s : ShellState) (path : Path) (x : List ℕ) → heard s.files.kind (ask.Cat path) ≡ ask.Cat path → (shell_step s (ask.Cat path)).answer ≡ bytes x → (y : Image) → RestsIn start s y → AnswersByLine start s (ask.Cat path) (whole_line x) s
+cat_answers start s path x hears is y rests = record {
+  from = y;
+  at_rest = rests;
   text = ap (λ a. answer_text a ++ 10 ∷ []) (sym is);
   one_line = ap (λ a. line_feeds (answer_text a)) is ∙ bytes_line x;
   tree = sym (ap (λ (b : ShellAsk). (step_in s.files.kind s.world s.files.root (tree_in s) b).tree) hears ∙ cat_tree (tree_in s) (free_count s.world) path (refusal s.files.kind s.world.geometry (tree_in s) (free_count s.world) (length s.world.pairs) (need_of s.files.kind s.world s.files.root (tree_in s) (ask.Cat path)) (ask.Cat path)));
   same = λ other. refl;
   files = sym (ap (files_after s.files) hears);
-  kept = kept;
+  kept = rests.kept;
+  taken = none_taken s.files s.world;
 }
 
 pub cat_in_parts : (path : Path) (x : List ℕ) → IsInParts (ask.Cat path) (whole_line x)

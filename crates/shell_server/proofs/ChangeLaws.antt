@@ -1,10 +1,10 @@
 -- An ask that changes the tree, carried out on the disk.
 use Rattle.std.proofs.Common.{◌≡◌, ◌⊎◌, inl, inr, ℕ, Bool, true, false, cond, List, [], ◌∷◌, ◌++◌, length, refl, sym, ◌∙◌, ap, subst}
-use Rattle.shell_server.proofs.Common.{Result, Ok, Err, IsTrue, World, free_count, Geometry, PlaceKind, DeviceView, weakened, Image, Stands, world_of, line_feeds, Name, Path, nothing, a_file, a_dir, Tree, at, bytes_in, is_there, with_at, Answer, done, refused, need_of, RoomNeed, refusal, AskOutcome, empty_tree, judged, OthersStay, tree_at, step_in, ShellAsk, ShellKind, FsRefusal, outside_twice, DiskView, IsValidNow, Stays, FilesView, IsEitherTree, LeavesTidyWorld, OnAnswer, step_on, tree_on, unless_refused, Answers, Changes, answer_text, Core, IsCoreAt, IsCoreReady, KeepsBehind, core_view, IsImageOf, images_left, ShellState, AnswersByLine, IsKeptSince, heard, files_after, shell_step, tree_in, tree_under, AreReady, FitsShell, shell_state, IsLeftBeforeOrAfter, IsCarried, IsOneLine, change_line}
+use Rattle.shell_server.proofs.Common.{Result, Ok, Err, IsTrue, World, free_count, Geometry, PlaceKind, DeviceView, weakened, Image, Stands, world_of, line_feeds, Name, Path, nothing, a_file, a_dir, Tree, at, bytes_in, is_there, with_at, Answer, done, refused, need_of, RoomNeed, refusal, AskOutcome, empty_tree, judged, OthersStay, tree_at, step_in, ShellAsk, ShellKind, FsRefusal, outside_twice, DiskView, IsValidNow, Stays, FilesView, IsEitherTree, LeavesTidyWorld, OnAnswer, step_on, tree_on, unless_refused, Answers, Changes, answer_text, Core, IsCoreAt, IsCoreReady, KeepsBehind, core_view, IsImageOf, images_left, ShellState, AnswersByLine, IsKeptSince, heard, files_after, shell_step, tree_in, tree_under, AreReady, FitsShell, shell_state, IsLeftBeforeOrAfter, IsCarried, IsOneLine, change_line, resting, IsTakenForTree, RestsIn, shell_rests}
 use Rattle.std.specs.Prelude.{Option, Some, None}
 use Rattle.fs_trees.specs.declared.ask.ShellAsk.TheVariants as ask
 use Rattle.fs_trees.specs.declared.refusal.FsRefusal.TheVariants as no
-use Rattle.shell_server.proofs.KeptLaws.{client_still}
+use Rattle.shell_server.proofs.KeptLaws.{client_still, kept_asked, none_taken, size_stays}
 
 -- ---- trees
 
@@ -153,7 +153,11 @@ module _ (start : World) (f : FilesView) (q a : ShellAsk) (hears : heard f.kind 
   state = shell_state f v.reads
 
   abbrev in_world : World → ShellState
-  in_world u = record { files = f; world = u }
+  in_world u = resting f u
+
+  -- the ask is under way
+  abbrev asked : ShellState
+  asked = record { files = f; world = world_of v.reads; under_way = Some q }
 
   step_same : shell_step state q ≡ step_on f old a
   step_same = ap (λ b. step_in f.kind (world_of v.reads) f.root (tree_on f old) b) hears
@@ -161,47 +165,67 @@ module _ (start : World) (f : FilesView) (q a : ShellAsk) (hears : heard f.kind 
   files_same : f ≡ files_after f (heard f.kind q)
   files_same = sym (ap (files_after f) hears ∙ still)
 
-  tree_mounted : (u : World) → (step_on f old a).answer ≡ done → tree_in (in_world u) ≡ tree_under f u
-  tree_mounted u ok = shown f.mounted refl
+  mounted_by_done : (step_on f old a).answer ≡ done → f.mounted ≡ true
+  mounted_by_done ok = shown f.mounted refl
     where
-      shown : (b : Bool) → f.mounted ≡ b → tree_in (in_world u) ≡ tree_under f u
-      shown true e = ap (λ t. cond t (tree_under f u) nothing) e
+      shown : (b : Bool) → f.mounted ≡ b → f.mounted ≡ true
+      shown true e = e
       shown false e = absurd (no_done no.NotThisFs (sym ok ∙ unmounted e))
 
-  answers_done : (u : World) → (step_on f old a).answer ≡ done → tree_at f.kind u f.root ≡ (step_on f old a).tree → IsKeptSince start (in_world u) → AnswersByLine start state q (answer_text done ++ 10 ∷ []) (in_world u)
-  answers_done u ok tree kept =
+  answers_as_done : RestsIn start state v.reads → (t : ShellState) → (step_on f old a).answer ≡ done → t.files ≡ f → tree_in t ≡ (shell_step state q).tree → IsKeptSince start t → IsTakenForTree f (world_of v.reads) t.world
+      → AnswersByLine start state q (answer_text done ++ 10 ∷ []) t
+  answers_as_done rests t ok files tree kept taken =
       let same : (shell_step state q).answer ≡ done = ap (λ (o : AskOutcome). o.answer) step_same ∙ ok in
       record {
+        from = v.reads;
+        at_rest = rests;
         text = ap (λ x. answer_text x ++ 10 ∷ []) (sym same);
         one_line = ap (λ x. line_feeds (answer_text x)) same;
-        tree = tree_mounted u ok ∙ tree ∙ sym (ap (λ (o : AskOutcome). o.tree) step_same);
+        tree = tree;
         same = λ other. absurd (other same);
-        files = files_same;
+        files = files ∙ files_same;
         kept = kept;
+        taken = taken;
       }
 
-  answers_refused : (u : World) (r : FsRefusal) → (step_on f old a).answer ≡ refused r → u ≡ world_of v.reads → line_feeds (answer_text (refused r)) ≡ 0 → IsKeptSince start (in_world u) → AnswersByLine start state q (answer_text (refused r) ++ 10 ∷ []) (in_world u)
-  answers_refused u r refuses same line kept =
+  answers_done : RestsIn start state v.reads → (u : World) → (step_on f old a).answer ≡ done → tree_at f.kind u f.root ≡ (step_on f old a).tree → IsKeptSince start (in_world u) → IsTakenForTree f (world_of v.reads) u → AnswersByLine start state q (answer_text done ++ 10 ∷ []) (in_world u)
+  answers_done rests u ok tree =
+      answers_as_done rests (in_world u) ok refl (ap (λ b. cond b (tree_under f u) nothing) (mounted_by_done ok) ∙ tree ∙ sym (ap (λ (o : AskOutcome). o.tree) step_same))
+
+  -- what a crash leaves of the tree after it is of the ask under way
+  answers_asked : RestsIn start state v.reads → (step_on f old a).answer ≡ done → AnswersByLine start state q (answer_text done ++ 10 ∷ []) asked
+  answers_asked rests ok = answers_as_done rests asked ok refl (ap (λ b. cond b (shell_step state q).tree nothing) (mounted_by_done ok)) (kept_asked start state f q refl rests.kept) (none_taken f (world_of v.reads))
+
+  answers_refused : RestsIn start state v.reads → (u : World) (r : FsRefusal) → (step_on f old a).answer ≡ refused r → u ≡ world_of v.reads → line_feeds (answer_text (refused r)) ≡ 0 → IsKeptSince start (in_world u) → IsTakenForTree f (world_of v.reads) u → AnswersByLine start state q (answer_text (refused r) ++ 10 ∷ []) (in_world u)
+  answers_refused rests u r refuses same line kept taken =
       let is : (shell_step state q).answer ≡ refused r = ap (λ (o : AskOutcome). o.answer) step_same ∙ refuses in
       record {
+        from = v.reads;
+        at_rest = rests;
         text = ap (λ x. answer_text x ++ 10 ∷ []) (sym is);
         one_line = ap (λ x. line_feeds (answer_text x)) is ∙ line;
         tree = ap (λ y. tree_in (in_world y)) same ∙ sym (judged_refused (tree_in state) _ (heard f.kind q) _ r is);
         same = λ other. same;
         files = files_same;
         kept = kept;
+        taken = taken;
       }
 
   -- what a crash within it leaves
-  crash_in : IsKeptSince start state → (u : World) (x : Image) → Stands x u → IsEitherTree f old a u → IsLeftBeforeOrAfter start state q x
-  crash_in kept u x stands either =
+  crash_in : RestsIn start state v.reads → (u : World) (x : Image) → Stands x u → IsEitherTree f old a u → IsLeftBeforeOrAfter start state q x
+  crash_in rests u x stands either =
+      let kept = rests.kept in
       let others : OthersStay f.root start u = outside_twice f.root start (world_of v.reads) u kept.others either.1.others in
+      let size : u.geometry ≡ start.geometry = either.1.geometry ∙ kept.geometry in
       let before : (tree_at f.kind u f.root ≡ tree_at f.kind (world_of v.reads) f.root) → IsLeftBeforeOrAfter start state q x = λ e.
-      inl (record { world = u; stands = stands; valid = either.1.valid; tree = e; others = others }) in
+      inl (record { world = u; stands = stands; valid = either.1.valid; geometry = size; tree = e; others = others }) in
       elim either.0 [
         | inl e ↦ before e
         | inr e ↦ elim changes [
-          | inl ok ↦ inr (answer_text done ++ 10 ∷ [], in_world u, answers_done u ok (e ∙ ap (λ x. unless_refused x (step_on f old a).tree (tree_at f.kind old.world f.root)) ok) (record { valid = either.1.valid; others = others }), record { world = u; stands = stands; valid = either.1.valid; tree = refl; others = others })
+          | inl ok ↦
+              let tree : tree_at f.kind u f.root ≡ (shell_step state q).tree =
+              e ∙ ap (λ x. unless_refused x (step_on f old a).tree (tree_at f.kind old.world f.root)) ok ∙ sym (ap (λ (o : AskOutcome). o.tree) step_same) in
+              inr (answer_text done ++ 10 ∷ [], asked, answers_asked rests ok, record { world = u; stands = stands; valid = either.1.valid; geometry = size; tree = tree; others = others })
           | inr r ↦ before (e ∙ ap (λ x. unless_refused x (step_on f old a).tree (tree_at f.kind old.world f.root)) r.1)
         ]
       ]
@@ -215,7 +239,7 @@ module _ (start : World) (f : FilesView) (q a : ShellAsk) (hears : heard f.kind 
     answered = λ t. answered_by t result (answer t) (changed.world t) (changed.valid t);
     sent = λ t. (changed.crash t).sent;
     any_moment = λ t. weakened v w (IsImageOf (IsEitherTree f old a) v.sent) (λ x f. IsLeftBeforeOrAfter start state q x × (f ≡ v.sent)) (images_left l m kind placement c0 c1 v w (IsEitherTree f old a) (changed.crash t))
-        (λ x g left. (crash_in (keeps t).kept left.0 x left.1 left.2, left.3));
+        (λ x g left. (crash_in (rests_now t) left.0 x left.1 left.2, left.3));
     behind = aside;
     put_faults = changed.counts.put_faults;
     faultless = changed.faultless;
@@ -223,6 +247,9 @@ module _ (start : World) (f : FilesView) (q a : ShellAsk) (hears : heard f.kind 
     cause = changed.cause;
   }
     where
+      rests_now : told → RestsIn start state v.reads
+      rests_now t = shell_rests start f c0 v.reads (keeps t)
+
       ready_now : Stays old new → new.spent ≡ false → AreReady f c1
       ready_now still_so fine = record { core = core_ready fine; client = client_still f l m kind placement c0 c1 v w still_so changed.counts ready.client }
 
@@ -231,13 +258,17 @@ module _ (start : World) (f : FilesView) (q a : ShellAsk) (hears : heard f.kind 
       ready_by (Err e) s u = (tt, λ other. ready_now (s.1 other) (u.1 other))
 
       kept_now : told → LeavesTidyWorld f old new → IsValidNow new → IsKeptSince start (shell_state f w.reads)
-      kept_now t left good = record { valid = good.valid; others = outside_twice f.root start (world_of v.reads) (world_of w.reads) (keeps t).kept.others left.others }
+      kept_now t left good = record {
+        valid = good.valid;
+        geometry = size_stays c0 c1 v.reads w.reads (keeps t).core (core_at t left.unspent).1 aside.size ∙ (keeps t).kept.geometry;
+        others = outside_twice f.root start (world_of v.reads) (world_of w.reads) (keeps t).kept.others left.others;
+        tidy = λ still mounted. left.tidy ((keeps t).kept.tidy refl mounted);
+      }
 
       keeps_now : told → LeavesTidyWorld f old new → IsValidNow new → (f.mounted ≡ true → IsTrue (is_there (tree_under f (world_of w.reads)))) → FitsShell start f c1 w.reads
       keeps_now t left good there = record {
         core = (core_at t left.unspent).1;
         kept = kept_now t left good;
-        tidy = λ mounted. left.tidy ((keeps t).tidy mounted);
         fits = good.fits;
         there = there;
       }
@@ -248,5 +279,5 @@ module _ (start : World) (f : FilesView) (q a : ShellAsk) (hears : heard f.kind 
           (tt, λ other. ((core_at t (u.1 other)).0, keeps_now t (left.1 other) (good.1 other) (λ mounted. subst (λ y. IsTrue (is_there (tree_under f y))) (sym (is.err other).1) ((keeps t).there mounted))))
 
       answered_by : told → (r : Result X FsRefusal) → Answers f old new a r (λ x answer. answer ≡ done) → OnAnswer r (LeavesTidyWorld f old new) → OnAnswer r (IsValidNow new) → OnAnswer r (IsOneLine r → AnswersByLine start state q (change_line r) (shell_state f w.reads))
-      answered_by t (Ok x) is left good = (λ line. answers_done (world_of w.reads) is.ok.0 is.ok.1 (kept_now t left.0 good.0), tt)
-      answered_by t (Err e) is left good = (tt, λ other line. answers_refused (world_of w.reads) e (is.err other).0 (is.err other).1 line (kept_now t (left.1 other) (good.1 other)))
+      answered_by t (Ok x) is left good = (λ line. answers_done (rests_now t) (world_of w.reads) is.ok.0 is.ok.1 (kept_now t left.0 good.0) left.0.taken, tt)
+      answered_by t (Err e) is left good = (tt, λ other line. answers_refused (rests_now t) (world_of w.reads) e (is.err other).0 (is.err other).1 line (kept_now t (left.1 other) (good.1 other)) (left.1 other).taken)

@@ -1,6 +1,6 @@
 -- What the definitions say, worked out.
 use Rattle.std.proofs.Common.{◌≡◌, [], ◌∷◌, refl}
-use Rattle.shell_server.proofs.Common.{codes, World, empty_tree, answer_text, ShellState, heard, shell_step, unmounted}
+use Rattle.shell_server.proofs.Common.{codes, World, empty_tree, answer_text, ShellState, resting, heard, shell_step, unmounted}
 use Rattle.tsd_model.specs.declared.caps.Cap.{Cap}
 use Rattle.fs_trees.specs.declared.ask.ShellAsk.TheVariants as ask
 use Rattle.fs_trees.specs.declared.ask.ShellKind.TheVariants as kind
@@ -14,7 +14,7 @@ two_dots_are_no_name = refl
 
 -- nothing is mounted yet
 abbrev before : World → Cap → ShellState
-before w cap = record { files = unmounted kind.Inode 0 cap; world = w }
+before w cap = resting (unmounted kind.Inode 0 cap) w
 
 pub an_unmounted_ls : (w : World) (cap : Cap) → answer_text (shell_step (before w cap) (ask.Ls [])).answer ≡ codes "no not-this-fs"
 an_unmounted_ls w cap = refl

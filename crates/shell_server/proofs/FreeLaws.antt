@@ -1,6 +1,7 @@
 -- The number of free blocks, read and answered.
 use Rattle.std.proofs.Common.{◌≡◌, ◌≢◌, inl, ℕ, ◌^◌, ◌<◌, List, [], ◌∷◌, ◌++◌, refl, sym, ◌∙◌, ap, subst, arith, decimal}
-use Rattle.shell_server.proofs.Common.{Result, Ok, Err, IfOk, IfErr, codes, World, free_count, View, PutsAll, weakened, line_feeds, feeds-append, Answer, available, refused, FsRefusal, BlocksView, FilesView, step_on, answer_text, Status, Core, ShellState, AnswersByLine, IsKeptSince, shell_step, shell_state, IsLeftBeforeOrAfter, IsLooked, IsServed}
+use Rattle.shell_server.proofs.Common.{Image, Result, Ok, Err, IfOk, IfErr, codes, World, free_count, View, PutsAll, weakened, line_feeds, feeds-append, Answer, available, refused, FsRefusal, BlocksView, FilesView, step_on, answer_text, Status, Core, ShellState, AnswersByLine, RestsIn, shell_rests, shell_step, shell_state, IsLeftBeforeOrAfter, IsLooked, IsServed}
+use Rattle.shell_server.proofs.KeptLaws.{none_taken}
 use Rattle.fs_trees.specs.declared.ask.ShellAsk.TheVariants as ask
 use Rattle.fs_trees.specs.declared.refusal.FsRefusal.TheVariants as no
 use Rattle.tsd_words.specs.declared.status.Status.TheVariants as status
@@ -26,14 +27,17 @@ free_refused a (Err e) only = λ other. absurd (other only)
 free_one_line : (n : ℕ) → n < 2 ^ 32 → line_feeds (answer_text (available n)) ≡ 0
 free_one_line n few = omega (arith, feeds-append (codes "free") (32 ∷ decimal n), number_none n few)
 
-free_answers : (start : World) (s : ShellState) (n : ℕ) → n < 2 ^ 32 → TellsFree n (shell_step s ask.Df).answer → IsKeptSince start s → AnswersByLine start s ask.Df (free_line n) s
-free_answers start s n few is kept = record {
+free_answers : (start : World) (s : ShellState) (n : ℕ) → n < 2 ^ 32 → TellsFree n (shell_step s ask.Df).answer → (x : Image) → RestsIn start s x → AnswersByLine start s ask.Df (free_line n) s
+free_answers start s n few is x rests = record {
+  from = x;
+  at_rest = rests;
   text = ap (λ a. answer_text a ++ 10 ∷ []) (sym is);
   one_line = ap (λ a. line_feeds (answer_text a)) is ∙ free_one_line n few;
   tree = refl;
   same = λ other. refl;
   files = refl;
-  kept = kept;
+  kept = rests.kept;
+  taken = none_taken s.files s.world;
 }
 
 -- the number was read, and its line sent
@@ -44,7 +48,7 @@ served_free told start f0 f1 c0 c1 v w z n few look result stops puts =
     (λ t.
     let same = (look.state t).0 in
     subst (λ (s : ShellState). AnswersByLine start (shell_state f0 v.reads) ask.Df (free_line n) s) (sym same)
-    (free_answers start (shell_state f0 v.reads) n few (look.read t) (subst (λ (s : ShellState). IsKeptSince start s) same (look.at t).0.1.kept)))
+    (free_answers start (shell_state f0 v.reads) n few (look.read t) w.reads (subst (λ (s : ShellState). RestsIn start s w.reads) same (shell_rests start f1 c1 w.reads (look.at t).0.1))))
     look.sent
     (λ t. weakened v w _ (λ x g. IsLeftBeforeOrAfter start (shell_state f0 v.reads) ask.Df x × (g ≡ v.sent)) (look.any_moment t) (λ x g left. (inl left.0, left.1)))
     look.faultless.0 look.put_faults look.behind result stops puts

@@ -1,6 +1,14 @@
 -- A session that was open at the core with what it held.
-use Rattle.std.proofs.Common.{ℕ, ◌<◌, List, sym, ◌∙◌, ap, subst}
-use Rattle.shell_server.proofs.Common.{IsTrue, slice_get, Geometry, PlaceKind, DeviceView, Counts, Stays, FilesView, Core, core_view, IsClient}
+use Rattle.std.proofs.Common.{◌≡◌, ℕ, true, ◌<◌, nat_lt, List, length, sym, ◌∙◌, ap, subst}
+use Rattle.std.proofs.lemmas.Bool.{and_parts}
+use Rattle.std.specs.Prelude.{Option, Some, None, is_none, is_some}
+use Rattle.shell_server.proofs.Common.{IsTrue, slice_get, World, Geometry, PlaceKind, DeviceView, Image, world_of, Counts, ShellAsk, Stays, FilesView, Core, FitsReads, core_view, IsClient, IsKeptSince, IsTakenForTree, OthersStay, ShellState}
+use Rattle.image_world.specs.Tables.{Tables, tables_of}
+use Rattle.image_world.proofs.WorldLaws.{told_like}
+use Rattle.intent_journal.specs.Home.{home}
+use Rattle.tsd_core.specs.Core.{told_world}
+use Rattle.tsd_model.specs.World.{contents}
+use Rattle.volume_laws.proofs.QuestionLaws.{told_size}
 use Rattle.tsd_model.specs.Records.{kept_of}
 use Rattle.tsd_model.specs.Attained.{record_level}
 use Rattle.tsd_model.specs.declared.records.Record.{Record}
@@ -16,3 +24,32 @@ client_still f l m kind placement c0 c1 v w stays counts was =
       primary = subst (λ (g : Geometry). f.root < g.primaries) (sym counts.geometry) was.primary;
       attains = ap (λ (rs : List Record). record_level (slice_get rs f.root) (kept_of new.version f.cap)) stays.records ∙ (ap (λ (n : ℕ). record_level (slice_get old.records f.root) (kept_of n f.cap)) counts.version ∙ was.attains);
     }
+
+-- ---- worlds
+
+-- the size that memory tells
+world_size : (c : Core) (x : Image) → FitsReads c x → (told_world c).geometry ≡ (world_of x).geometry
+world_size c x fits = (told_size c.volume.tables).0 ∙ sym (ap (λ (t : Tables). t.geometry) fits.tables) ∙ sym (told_size (tables_of (home x))).0 ∙ (told_like x).geometry
+
+pub size_stays : (c d : Core) (x y : Image) → FitsReads c x → FitsReads d y → (told_world d).geometry ≡ (told_world c).geometry → (world_of y).geometry ≡ (world_of x).geometry
+size_stays c d x y fits then same = sym (world_size d y then) ∙ same ∙ world_size c x fits
+
+-- nothing is free and live
+free_or_live : (o : Option (List ℕ)) → is_none o ≡ true → IsTrue (is_some o) → ⊥
+free_or_live None free live = absurd (cc)
+free_or_live (Some x) free live = absurd (cc)
+
+pub none_taken : (f : FilesView) (w : World) → IsTakenForTree f w w
+none_taken f w b free live = absurd (free_or_live (contents w b) (and_parts (nat_lt b (length w.blocks)) (is_none (contents w b)) free).1 live)
+
+pub same_taken : (f : FilesView) (w next : World) → next ≡ w → IsTakenForTree f w next
+same_taken f w next same = subst (λ (u : World). IsTakenForTree f w u) (sym same) (none_taken f w)
+
+-- while an ask is under way, it isn't tidy
+pub kept_asked : (start : World) (s : ShellState) (g : FilesView) (q : ShellAsk) → g.root ≡ s.files.root → IsKeptSince start s → IsKeptSince start (record { files = g; world = s.world; under_way = Some q })
+kept_asked start s g q same kept = record {
+  valid = kept.valid;
+  geometry = kept.geometry;
+  others = subst (λ (n : ℕ). OthersStay n start s.world) (sym same) kept.others;
+  tidy = λ rests. absurd (cc);
+}

@@ -1,6 +1,6 @@
 -- An ask for which the disk is read.
 use Rattle.std.proofs.Common.{◌≡◌, ◌≢◌, ℕ, true, false, refl, sym, ◌∙◌, ap, subst}
-use Rattle.shell_server.proofs.Common.{Result, Ok, Err, IsTrue, IfOk, IfErr, World, PlaceKind, Rose, DeviceView, weakened, Image, Stands, world_of, Answer, refused, is_there, step_in, ShellAsk, FsRefusal, DiskView, Counts, IsValidNow, LeavesWorldsOnly, Stays, FilesView, OnAnswer, step_on, tree_on, Answers, Looks, Core, IsCoreAt, IsCoreReady, KeepsBehind, core_view, IsImageOf, images_left, ShellState, IsKeptSince, IsLeftOf, IsTidyIn, heard, shell_step, tree_under, AreReady, FitsShell, shell_state, IsLooked}
+use Rattle.shell_server.proofs.Common.{Result, Ok, Err, IsTrue, IfOk, IfErr, World, PlaceKind, Rose, DeviceView, weakened, Image, Stands, world_of, Answer, refused, is_there, step_in, ShellAsk, FsRefusal, DiskView, Counts, IsValidNow, LeavesWorldsOnly, Stays, FilesView, OnAnswer, step_on, tree_on, Answers, Looks, Core, IsCoreAt, IsCoreReady, KeepsBehind, core_view, IsImageOf, images_left, ShellState, IsKeptSince, IsLeftOf, resting, heard, shell_step, tree_under, AreReady, FitsShell, shell_state, IsLooked}
 use Rattle.fs_trees.specs.declared.refusal.FsRefusal.TheVariants as no
 use Rattle.shell_server.proofs.KeptLaws.{client_still}
 
@@ -19,7 +19,7 @@ module _ (start : World) (f : FilesView) (q a : ShellAsk) (hears : heard f.kind 
 
   -- the world is as it was
   image_still : FitsShell start f c0 v.reads → (x : Image) (u : World) → Stands x u → u ≡ world_of v.reads → IsLeftOf start state x
-  image_still keeps x u stands same = record { world = world_of v.reads; stands = subst (λ (y : World). Stands x y) same stands; valid = keeps.kept.valid; tree = refl; others = keeps.kept.others }
+  image_still keeps x u stands same = record { world = world_of v.reads; stands = subst (λ (y : World). Stands x y) same stands; valid = keeps.kept.valid; geometry = keeps.kept.geometry; tree = refl; others = keeps.kept.others }
 
   pub looked_so : {X : Type 0} (told : Type 0) (of_answer : X → Answer → Type 0) (result : Result X FsRefusal) → AreReady f c0 → (told → FitsShell start f c0 v.reads) → (c1.volume.is_spent ≡ false → IsCoreReady c1) → (told → c1.volume.is_spent ≡ false → IsCoreAt c1 w)
       → (told → IfOk result (λ x. of_answer x (step_on f old a).answer)) → (told → IfErr result (λ e. e ≢ no.Device → (step_on f old a).answer ≡ refused e)) → (told → OnAnswer result (new.world ≡ old.world)) → (told → LeavesWorldsOnly old new (λ u. u ≡ old.world)) → (told → OnAnswer result (IsValidNow new))
@@ -52,8 +52,7 @@ module _ (start : World) (f : FilesView) (q a : ShellAsk) (hears : heard f.kind 
       keeps_now : told → new.world ≡ old.world → IsValidNow new → new.spent ≡ false → FitsShell start f c1 w.reads
       keeps_now t same good fine = record {
         core = (core_at t fine).1;
-        kept = subst (λ (u : World). IsKeptSince start (record { files = f; world = u })) (sym same) (keeps t).kept;
-        tidy = subst (λ (u : World). IsTidyIn (record { files = f; world = u })) (sym same) (keeps t).tidy;
+        kept = subst (λ (u : World). IsKeptSince start (resting f u)) (sym same) (keeps t).kept;
         fits = good.fits;
         there = subst (λ (u : World). f.mounted ≡ true → IsTrue (is_there (tree_under f u))) (sym same) (keeps t).there;
       }
@@ -63,7 +62,7 @@ module _ (start : World) (f : FilesView) (q a : ShellAsk) (hears : heard f.kind 
       at_by t (Err e) same good u = (tt, λ other. ((core_at t (u.1 other)).0, keeps_now t (same.1 other) (good.1 other) (u.1 other)))
 
       state_now : new.world ≡ old.world → shell_state f w.reads ≡ state
-      state_now same = ap (λ (u : World). record { files = f; world = u }) same
+      state_now same = ap (λ (u : World). resting f u) same
 
       state_by : (r : Result X FsRefusal) → OnAnswer r (new.world ≡ old.world) → OnAnswer r (shell_state f w.reads ≡ state)
       state_by (Ok x) same = (state_now same.0, tt)

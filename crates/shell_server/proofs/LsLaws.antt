@@ -1,11 +1,12 @@
 -- The line of the names in a directory, name by name.
 use Rattle.std.proofs.Common.{◌≡◌, inl, inr, ℕ, ◌+◌, ◌-◌, ◌<◌, ◌≤◌, ◌==◌, Bool, true, false, not, cond, ◌&&◌, nat_lt, nat_le, List, [], ◌∷◌, ◌++◌, length, refl, sym, ◌∙◌, ap, subst, arith, append-nil, append_assoc, length-append, Option, Some, None}
 use Rattle.std.proofs.lemmas.Bool.{and_parts, and_from, or_cases, or_left, or_right, eq-eqb, eqb-true}
-use Rattle.shell_server.proofs.Common.{nat_tests, find, flat_map, is_some, World, free_count, line_feeds, feeds-append, Name, Path, name_max, name_lt, is_name, is_name_byte, is_reserved, is_below_first_name, are_ascending, Tree, nothing, at, names_in, Answer, listed, refused, need_of, refusal, judged, step_in, tree_at, ShellAsk, FsRefusal, TellsNext, above, is_empty, answer_text, names_head, ShellState, AnswersByLine, IsInParts, IsKeptSince, files_after, heard, shell_step, tree_in, IsNameListing}
+use Rattle.shell_server.proofs.Common.{Image, nat_tests, find, flat_map, is_some, World, free_count, line_feeds, feeds-append, Name, Path, name_max, name_lt, is_name, is_name_byte, is_reserved, is_below_first_name, are_ascending, Tree, nothing, at, names_in, Answer, listed, refused, need_of, refusal, judged, step_in, tree_at, ShellAsk, FsRefusal, TellsNext, above, is_empty, answer_text, names_head, ShellState, AnswersByLine, IsInParts, RestsIn, files_after, heard, shell_step, tree_by, tree_in, tree_of, IsNameListing}
 use Rattle.std.proofs.lemmas.Grind.{flat_map-append}
 use Rattle.std.specs.List.{list_all}
 use Rattle.tsd_model.specs.Valid.{IsValid}
 use Rattle.fs_trees.specs.ChainTree.{names_max}
+use Rattle.shell_server.proofs.KeptLaws.{none_taken}
 use Rattle.fs_trees.specs.declared.ask.ShellAsk.TheVariants as ask
 use Rattle.shell_text.proofs.AnswerLaws.{names_in_parts}
 use Rattle.fs_laws.proofs.ListingLaws.{tree_lists, nothing_lists}
@@ -165,24 +166,27 @@ ls_listed t free path (Some r) ns e = absurd (cc)
 ls_listed t free path None ns e = cc
 
 -- what is answered is a directory's list
-pub lists : (s : ShellState) (path : Path) (ns : List Name) → heard s.files.kind (ask.Ls path) ≡ ask.Ls path → IsValid s.world → (shell_step s (ask.Ls path)).answer ≡ listed ns → IsNameListing ns
-lists s path ns hears valid is =
+pub lists : (s : ShellState) (path : Path) (ns : List Name) → heard s.files.kind (ask.Ls path) ≡ ask.Ls path → s.under_way ≡ None → IsValid s.world → (shell_step s (ask.Ls path)).answer ≡ listed ns → IsNameListing ns
+lists s path ns hears still valid is =
     let there = sym (ap (λ (b : ShellAsk). (step_in s.files.kind s.world s.files.root (tree_in s) b).answer) hears) ∙ is in
     let same : names_in (at (tree_in s) path) ≡ ns = ls_listed (tree_in s) (free_count s.world) path (refusal s.files.kind s.world.geometry (tree_in s) (free_count s.world) (length s.world.pairs) (need_of s.files.kind s.world s.files.root (tree_in s) (ask.Ls path)) (ask.Ls path)) ns there in
     subst (λ ms. IsNameListing ms) same (by s.files.mounted)
   where
-    by : (t : Bool) → IsNameListing (names_in (at (cond t (tree_at s.files.kind s.world s.files.root) nothing) path))
-    by true = tree_lists s.files.kind s.world s.files.root path valid.raw.sized.lawful
+    by : (t : Bool) → IsNameListing (names_in (at (cond t (tree_of s) nothing) path))
+    by true = subst (λ (o : Option ShellAsk). IsNameListing (names_in (at (tree_by s.files s.world o) path))) (sym still) (tree_lists s.files.kind s.world s.files.root path valid.raw.sized.lawful)
     by false = nothing_lists path
 
-pub ls_answers : (start : World) (s : ShellState) (path : Path) (ns : List Name) → heard s.files.kind (ask.Ls path) ≡ ask.Ls path → (shell_step s (ask.Ls path)).answer ≡ listed ns → IsKeptSince start s → AnswersByLine start s (ask.Ls path) (whole_line ns) s
-ls_answers start s path ns hears is kept = record {
+pub ls_answers : (start : World) (s : ShellState) (path : Path) (ns : List Name) → heard s.files.kind (ask.Ls path) ≡ ask.Ls path → (shell_step s (ask.Ls path)).answer ≡ listed ns → (x : Image) → RestsIn start s x → AnswersByLine start s (ask.Ls path) (whole_line ns) s
+ls_answers start s path ns hears is x rests = record {
+  from = x;
+  at_rest = rests;
   text = ap (λ a. answer_text a ++ 10 ∷ []) (sym is);
-  one_line = ap (λ a. line_feeds (answer_text a)) is ∙ names_line ns (lists s path ns hears kept.valid is);
+  one_line = ap (λ a. line_feeds (answer_text a)) is ∙ names_line ns (lists s path ns hears rests.at_rest rests.kept.valid is);
   tree = sym (ap (λ (b : ShellAsk). (step_in s.files.kind s.world s.files.root (tree_in s) b).tree) hears ∙ ls_tree (tree_in s) (free_count s.world) path (refusal s.files.kind s.world.geometry (tree_in s) (free_count s.world) (length s.world.pairs) (need_of s.files.kind s.world s.files.root (tree_in s) (ask.Ls path)) (ask.Ls path)));
   same = λ other. refl;
   files = sym (ap (files_after s.files) hears);
-  kept = kept;
+  kept = rests.kept;
+  taken = none_taken s.files s.world;
 }
 
 pub ls_in_parts : (path : Path) (ns : List Name) → IsInParts (ask.Ls path) (whole_line ns)

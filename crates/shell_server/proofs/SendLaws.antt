@@ -1,9 +1,10 @@
 -- The answer of an ask that changes the tree, sent after it was carried out.
 use Rattle.std.proofs.Common.{◌≡◌, ◌≢◌, ◌⊎◌, inl, inr, ℕ, ◌<◌, true, false, List, [], ◌∷◌, ◌++◌, length, take, drop, refl, sym, ◌∙◌, ap, subst, arith, append-nil, take-append-drop, length-drop}
-use Rattle.shell_server.proofs.Common.{Result, Ok, Err, IfErr, World, Rose, View, IsLeftInPut, IsSound, LeavesOnly, PutsAll, firm_image, joined, started, weakened, world_of, line_feeds, bad, AskOutcome, step_in, ShellAsk, answer_text, FsRefusal, FilesView, OnAnswer, Status, IsAnswering, IsInAnswer, LeftBy, Core, KeepsBehind, behind_put, behind_stays, behind_then, ShellState, AnswersByLine, IsLeftOf, files_after, heard, shell_service, shell_step, tree_in, AreReady, FitsShell, shell_state, shell_stands, IsLeftBeforeOrAfter, IsCarried, IsOneLine, IsServed, change_line}
+use Rattle.shell_server.proofs.Common.{Result, Ok, Err, IfErr, World, Rose, View, IsLeftInPut, IsSound, LeavesOnly, PutsAll, firm_image, joined, started, weakened, world_of, line_feeds, bad, AskOutcome, step_in, ShellAsk, answer_text, FsRefusal, FilesView, OnAnswer, Status, IsAnswering, IsInAnswer, LeftBy, Core, KeepsBehind, behind_put, behind_stays, behind_then, ShellState, AnswersByLine, IsLeftOf, files_after, heard, shell_service, shell_step, tree_in, AreReady, FitsShell, shell_state, shell_rests, shell_stands, IsLeftBeforeOrAfter, IsCarried, IsOneLine, IsServed, change_line}
 use Rattle.fs_trees.specs.declared.ask.ShellAsk.TheVariants as ask
 use Rattle.fs_trees.specs.declared.refusal.FsRefusal.TheVariants as no
 use Rattle.tsd_words.specs.declared.status.Status.TheVariants as status
+use Rattle.shell_server.proofs.KeptLaws.{none_taken}
 
 -- ---- what a crash leaves
 
@@ -89,12 +90,15 @@ served_bad told start q f c v z ready sound at is =
     let step : shell_step (shell_state f v.reads) q ≡ step_in f.kind (world_of v.reads) f.root (tree_in (shell_state f v.reads)) ask.Bad = ap (λ b. step_in f.kind (world_of v.reads) f.root (tree_in (shell_state f v.reads)) b) is in
     line_served told start q f f c c v v z (answer_text bad ++ 10 ∷ []) ready at
     (λ t. record {
+      from = v.reads;
+      at_rest = shell_rests start f c v.reads (at t).1;
       text = sym (ap (λ (o : AskOutcome). answer_text o.answer ++ 10 ∷ []) step);
       one_line = ap (λ (o : AskOutcome). line_feeds (answer_text o.answer)) step;
       tree = sym (ap (λ (o : AskOutcome). o.tree) step);
       same = λ other. refl;
       files = sym (ap (files_after f) is);
       kept = (at t).1.kept;
+      taken = none_taken f (world_of v.reads);
     })
     (λ t. refl) (λ t. started v _ (sound t) (λ x g left. (inl (subst (λ y. IsLeftOf start (shell_state f v.reads) y) (sym (firm_image v (at t).0 x g left)) (shell_stands start f c v.reads (at t).1)), left.1))) refl refl
     (behind_stays told c v sound (λ t. (at t).0))

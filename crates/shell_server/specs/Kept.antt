@@ -11,7 +11,7 @@ use Rattle.image_world.specs.Stands.{world_of}
 use Rattle.fs_trees.specs.Tree.{is_there}
 use Rattle.fs_port.specs.Files.{FilesView}
 use Rattle.tsd_core.specs.Core.{Core, FitsReads, IsCoreReady, told_world, sessions_of}
-use Rattle.shell_server.specs.Shell.{ShellState, IsKeptSince, IsTidyIn, IsLeftOf, RestsIn, tree_under}
+use Rattle.shell_server.specs.Shell.{ShellState, IsKeptSince, IsLeftOf, RestsIn, resting, tree_under}
 
 -- The session is open at the core, the root is primary, and what is shown attains write at it.
 pub record IsClient (f : FilesView) (c : Core) : Type 0 where
@@ -28,13 +28,12 @@ pub record AreReady (f : FilesView) (c : Core) : Type 0 where
 
 -- the state, where the device reads so
 abbrev pub shell_state : FilesView → Image → ShellState
-shell_state f x = record { files = f; world = world_of x }
+shell_state f x = resting f (world_of x)
 
--- The core has its tables of an image of a world that is kept and tidy, and where a tree is mounted, it is there.
+-- The core has its tables of an image of a world that is kept, and where a tree is mounted, it is there.
 pub record FitsShell (start : World) (f : FilesView) (c : Core) (x : Image) : Type 0 where
   pub core : FitsReads c x
   pub kept : IsKeptSince start (shell_state f x)
-  pub tidy : IsTidyIn (shell_state f x)
   pub fits : Fits (world_of x) (sessions_of c)
   pub there : f.mounted ≡ true → IsTrue (is_there (tree_under f (world_of x)))
 
@@ -44,6 +43,7 @@ shell_stands start f c x keeps = record {
   world = world_of x;
   stands = record { good = keeps.core.good; world = refl };
   valid = keeps.kept.valid;
+  geometry = keeps.kept.geometry;
   tree = refl;
   others = keeps.kept.others;
 }
@@ -51,7 +51,7 @@ shell_stands start f c x keeps = record {
 pub shell_rests : (start : World) (f : FilesView) (c : Core) (x : Image) → FitsShell start f c x
     → RestsIn start (shell_state f x) x
 shell_rests start f c x keeps = record {
+  at_rest = refl;
   stands = record { good = keeps.core.good; world = refl };
   kept = keeps.kept;
-  tidy = keeps.tidy;
 }

@@ -1,6 +1,7 @@
 -- What the shell serves, said apart from any code.
-use Rattle.std.specs.Prelude.{◌≡◌, ◌≢◌, ℕ, Bool, true, false, cond, ◌&&◌, List, [], ◌∷◌, ◌++◌}
-use Rattle.tsd_model.specs.World.{World}
+use Rattle.std.specs.Prelude.{◌≡◌, ◌≢◌, ℕ, Bool, true, false, cond, ◌&&◌, List, [], ◌∷◌, ◌++◌, IsTrue}
+use Rattle.std.specs.Prelude.{Option, Some, None}
+use Rattle.tsd_model.specs.World.{World, has_number, is_free, is_live}
 use Rattle.tsd_model.specs.Valid.{IsValid}
 use Rattle.tsd_model.specs.declared.caps.Cap.{Cap}
 use Rattle.image_layout.specs.Image.{Image}
@@ -11,7 +12,7 @@ use Rattle.fs_trees.specs.Tree.{Tree, nothing}
 use Rattle.fs_trees.specs.Answer.{bytes, done, listed}
 use Rattle.fs_trees.specs.Step.{AskOutcome}
 use Rattle.fs_trees.specs.Outside.{OthersStay}
-use Rattle.fs_trees.specs.Layouts.{tree_at, step_in, IsTidy}
+use Rattle.fs_trees.specs.Layouts.{tree_at, named_at, step_in, IsTidy}
 use Rattle.fs_trees.specs.declared.ask.ShellAsk.{ShellAsk}
 use Rattle.fs_trees.specs.declared.ask.ShellAsk.TheVariants as ask
 use Rattle.fs_trees.specs.declared.ask.ShellKind.{ShellKind}
@@ -20,34 +21,6 @@ use Rattle.shell_text.specs.Texts.{answer_text}
 use Rattle.serving.specs.Service.{Service}
 use Rattle.serving.specs.Work.{WorkCount}
 use Rattle.image_world.specs.Debt.{debt}
-
--- ---- states
-
--- what a file system is before it mounts: it asks as session 1
-abbrev pub unmounted : ShellKind → ℕ → Cap → FilesView
-unmounted kind root cap = record { kind = kind; root = root; cap = cap; session = 1; mounted = false }
-
--- a file system, and the world in which it keeps its tree
-pub record ShellState : Type 0 where
-  pub files : FilesView
-  pub world : World
-
--- the tree under the root
-abbrev pub tree_under : FilesView → World → Tree
-tree_under f w = tree_at f.kind w f.root
-
--- the tree that is mounted; nothing where none is
-abbrev pub tree_in : ShellState → Tree
-tree_in s = cond s.files.mounted (tree_under s.files s.world) nothing
-
--- The world is valid, and what the root doesn't reach is as it was at the start.
-pub record IsKeptSince (start : World) (s : ShellState) : Type 0 where
-  pub valid : IsValid s.world
-  pub others : OthersStay s.files.root start s.world
-
--- where a tree is mounted, the world is tidy under its root
-abbrev pub IsTidyIn : ShellState → Type 0
-IsTidyIn s = s.files.mounted ≡ true → IsTidy s.files.kind s.world s.files.root
 
 -- ---- asks
 
@@ -66,6 +39,67 @@ is_heard kind q = true
 abbrev pub heard : ShellKind → ShellAsk → ShellAsk
 heard kind q = cond (is_heard kind q) q ask.Bad
 
+-- ---- states
+
+-- what a file system is before it mounts: it asks as session 1
+abbrev pub unmounted : ShellKind → ℕ → Cap → FilesView
+unmounted kind root cap = record { kind = kind; root = root; cap = cap; session = 1; mounted = false }
+
+-- A file system, the world in which it keeps its tree, and the ask that is under way there, if one is.
+pub record ShellState : Type 0 where
+  pub files : FilesView
+  pub world : World
+  pub under_way : Option ShellAsk
+
+-- between two asks
+abbrev pub resting : FilesView → World → ShellState
+resting f w = record { files = f; world = w; under_way = None }
+
+-- the tree under the root
+abbrev pub tree_under : FilesView → World → Tree
+tree_under f w = tree_at f.kind w f.root
+
+-- the step of an ask of the tree that is mounted, or of nothing where none is, with the room that the world has
+abbrev pub step_from : FilesView → World → ShellAsk → AskOutcome
+step_from f w q = step_in f.kind w f.root (cond f.mounted (tree_under f w) nothing) (heard f.kind q)
+
+abbrev pub tree_by : FilesView → World → Option ShellAsk → Tree
+tree_by f w None = tree_under f w
+tree_by f w (Some q) = (step_from f w q).tree
+
+-- the tree under the root, or while an ask is under way, that of its step
+abbrev pub tree_of : ShellState → Tree
+tree_of s = tree_by s.files s.world s.under_way
+
+-- the tree that is mounted; nothing where none is
+abbrev pub tree_in : ShellState → Tree
+tree_in s = cond s.files.mounted (tree_of s) nothing
+
+-- between two asks, the world is tidy under the root where a tree is mounted
+abbrev pub IsTidyIn : ShellState → Type 0
+IsTidyIn s = s.under_way ≡ None → s.files.mounted ≡ true → IsTidy s.files.kind s.world s.files.root
+
+-- The world is valid and of the size at the start, and what the root doesn't reach is as it was then. Between two asks
+-- it is tidy.
+pub record IsKeptSince (start : World) (s : ShellState) : Type 0 where
+  pub valid : IsValid s.world
+  pub geometry : s.world.geometry ≡ start.geometry
+  pub others : OthersStay s.files.root start s.world
+  pub tidy : IsTidyIn s
+
+-- what was free and is live now is named by the tree under the root
+abbrev pub IsTakenForTree : FilesView → World → World → Type 0
+IsTakenForTree f w next = (b : ℕ) → IsTrue (is_free w b) → IsTrue (is_live next b)
+    → IsTrue (has_number (named_at f.kind next f.root).blocks b)
+
+-- Between two asks, the image stands for this very world, which is kept.
+pub record RestsIn (start : World) (s : ShellState) (x : Image) : Type 0 where
+  pub at_rest : s.under_way ≡ None
+  pub stands : Stands x s.world
+  pub kept : IsKeptSince start s
+
+-- ---- answers
+
 -- the step of an ask, with the room that the world has
 abbrev pub shell_step : ShellState → ShellAsk → AskOutcome
 shell_step s q = step_in s.files.kind s.world s.files.root (tree_in s) (heard s.files.kind q)
@@ -75,32 +109,31 @@ abbrev pub files_after : FilesView → ShellAsk → FilesView
 files_after f ask.Make = mounted_now f
 files_after f q = f
 
--- The ask is answered by the line of its step, and the tree then is that of the step. Only an ask that is done changes
--- the world: what is refused or only read leaves all of it, also where no tree is mounted.
+-- From a state at rest, the ask is answered by the line of its step, and the tree then is that of the step. Only an ask
+-- that is done changes the world: what is refused or only read leaves all of it, also where no tree is mounted. What it
+-- takes is the tree's.
 pub record AnswersByLine (start : World) (s : ShellState) (q : ShellAsk) (line : List ℕ) (t : ShellState) : Type 0 where
+  pub from : Image
+  pub at_rest : RestsIn start s from
   pub text : line ≡ answer_text (shell_step s q).answer ++ 10 ∷ []
   pub one_line : line_feeds (answer_text (shell_step s q).answer) ≡ 0
   pub tree : tree_in t ≡ (shell_step s q).tree
   pub same : (shell_step s q).answer ≢ done → t.world ≡ s.world
   pub files : t.files ≡ files_after s.files (heard s.files.kind q)
   pub kept : IsKeptSince start t
+  pub taken : IsTakenForTree s.files s.world t.world
 
 -- ---- images
 
--- What a crash may leave of a state: a valid world with the same tree under the root, and with what the root doesn't
--- reach as it was at the start. It needn't be tidy.
+-- What a crash may leave of a state: a valid world of the size at the start, with the tree of the state under the root,
+-- and with what the root doesn't reach as it was at the start. It needn't be tidy.
 pub record IsLeftOf (start : World) (s : ShellState) (x : Image) : Type 0 where
   pub world : World
   pub stands : Stands x world
   pub valid : IsValid world
-  pub tree : tree_under s.files world ≡ tree_under s.files s.world
+  pub geometry : world.geometry ≡ start.geometry
+  pub tree : tree_under s.files world ≡ tree_of s
   pub others : OthersStay s.files.root start world
-
--- The image stands for this very world, which is kept and tidy.
-pub record RestsIn (start : World) (s : ShellState) (x : Image) : Type 0 where
-  pub stands : Stands x s.world
-  pub kept : IsKeptSince start s
-  pub tidy : IsTidyIn s
 
 -- ---- the service
 

@@ -1,6 +1,6 @@
 //! A file or a directory read, part by part.
 
-ghost use Rattle.std.specs.Prelude.{◌≡◌, ◌+◌, IfOk, IfSome, IsTrue};
+ghost use Rattle.std.specs.Prelude.{◌≡◌, ◌+◌, [], IfErr, IfOk, IfSome, IsTrue};
 ghost use Rattle.fs_trees.specs.Names.{is_path};
 ghost use Rattle.fs_trees.specs.declared.ask.ShellAsk.TheVariants as ask;
 ghost use Rattle.fs_port.specs.Files.{TellsNext, TellsPart, TellsSize};
@@ -36,8 +36,8 @@ pub fn size_on<F: Files, D: Device, L: Placing, K: Started>(
     files.size(&mut blocks, path)
 }
 
-/// The bytes of a file from an offset on, at most 4,096. Where a place is given, that is where they begin; the answer is
-/// the place behind them.
+/// The bytes of a file from an offset on, at most 4,096; none after an `Err`. Where a place is given, that is where they
+/// begin; the answer is the place behind them.
 pub fn part_on<F: Walks, D: Device, L: Placing, K: Started>(
     files: &mut F,
     core: &mut Core,
@@ -57,6 +57,8 @@ pub fn part_on<F: Walks, D: Device, L: Placing, K: Started>(
         (D.view dev.old) (D.view dev.new) (λ _. TellsPart start into.new) result }
     ensures place { D.told → IfOk result (λ next. IfSome next (F.leads (F.view files.new) (disk_state core.new (D.view
         dev.new)) path.now (start + 4096))) }
+    /// promise: A part that isn't read is empty.
+    ensures nothing { IfErr result (λ _. into.new ≡ []) }
 {
     let mut blocks = CoreBlocks::new(core, placement, dev);
     files.read_on(&mut blocks, path, start, place, into)

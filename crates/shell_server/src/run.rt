@@ -1,11 +1,12 @@
 //! The loop over the shell.
 
-ghost use Rattle.std.specs.Prelude.{◌≡◌, ◌≢◌, ◌≤◌, true};
+ghost use Rattle.std.specs.Prelude.{◌≡◌, ◌≢◌, ◌≤◌, true, None};
 ghost use Rattle.image_device.specs.Counts.{Rose};
 ghost use Rattle.image_device.specs.Runs.{LeavesPart};
 ghost use Rattle.image_world.specs.Behind.{behind};
 ghost use Rattle.image_world.specs.Stands.{world_of};
 ghost use Rattle.serving.specs.Handling.{FitsDevice};
+ghost use Rattle.serving.specs.Prompt.{IsOfPort, Promptly, mark};
 ghost use Rattle.serving.specs.Ran.{EndsOnce, Ran, moments, taking};
 ghost use Rattle.tsd_core.specs.Core.{IsCoreAt, IsCoreReady, told_world};
 ghost use Rattle.volume_laws.specs.Quiet.{IsQuiet};
@@ -44,7 +45,12 @@ pub fn serve_shell<F: Walks, L: Placing, K: Started, Y: TreeLayout, S: Source, P
     ensures ran { (final : ShellState) × Ran result (shell_service K.start) shell_work (shell_spelling Y.layout)
         (shell_state (F.view files.old) (P.view port.old).reads) final limit
         (taking S.told S.taken S.left_bytes S.ended source.old source.new) (due core.old.volume)
-        (moments P.told P.view port.old port.new) × (final.world ≡ world_of (P.view port.new).reads) }
+        (moments P.told P.view port.old port.new) × (final.world ≡ world_of (P.view port.new).reads)
+        × (final.under_way ≡ None) }
+    /// promise: After SourceFault and TooLong the disk is as it was at some state of the port's type at which the last
+    /// answer was sent; where no ask was answered, as it was at the start.
+    ensures prompt { P.told → Promptly result (shell_service K.start) shell_work (IsOfPort P.view)
+        (shell_state (F.view files.old) (P.view port.old).reads) (mark (P.view port.old)) (mark (P.view port.new)) }
     // However it ended, a crash at any moment leaves what lies behind the image as it was.
     /// promise: What lies after the image is as it was in each image that a crash leaves.
     ensures behind { P.told → LeavesPart (behind (told_world core.old).geometry) (P.view port.old) (P.view port.new) }

@@ -1,5 +1,5 @@
-use Rattle.std.proofs.Common.{◌≡◌, ◌≢◌, IfSome, cond, ◌+◌, ◌<◌, ◌≤◌, [], ◌∷◌, ◌++◌, length, sym, ◌∙◌, ap, subst, arith, rules}
-use Rattle.shell_server.proofs.Common.{Image, world_of, encode_lower, TellsPart, AnswersByLine, ShellState, shell_step, shell_state, behind_then}
+use Rattle.std.proofs.Common.{◌≡◌, ◌≢◌, IfSome, cond, ◌+◌, ◌<◌, ◌≤◌, [], ◌∷◌, ◌++◌, length, refl, sym, ◌∙◌, ap, subst, arith, rules}
+use Rattle.shell_server.proofs.Common.{Image, world_of, encode_lower, TellsPart, AnswersByLine, ShellState, shell_step, shell_rests, shell_state, behind_then}
 use Rattle.tsd_core.specs.Core.{sessions_of}
 use Rattle.shell_server.specs.Places.{disk_state}
 use Rattle.fs_trees.specs.declared.ask.ShellAsk.TheVariants as ask
@@ -23,7 +23,7 @@ returns-in-Err g c =
       whole_line x,
       encode_lower x ++ 10 ∷ [],
       line_headed x ∙ ap (λ l. l ++ (encode_lower x ++ 10 ∷ [])) (sym (c.as_slice.ensures.value ∙ c.print_data_head.ensures ∙ no_size x c.args.size r.2)),
-      cat_answers start (shell_state f v.reads) c.args.path.now x (ap (λ t. cond t q ask.Bad) c.requires.named) r.1 (c.requires.at told).1.kept,
+      cat_answers start (shell_state f v.reads) c.args.path.now x (ap (λ t. cond t q ask.Bad) c.requires.named) r.1 v.reads (shell_rests start f c.args.core.now v.reads (c.requires.at told).1),
     ))
 
 pub loop-start-init : goal.loop-start-init
@@ -55,7 +55,7 @@ returns-in-Err-Device g c =
       whole_line x,
       behind x c.loop-start.start,
       line_parts x c.loop-start.start ∙ ap (λ l. l ++ behind x c.loop-start.start) (sym (i.2 told x r.1 r.2)),
-      cat_answers start (shell_state f v.reads) c.args.path.now x (ap (λ t. cond t q ask.Bad) c.requires.named) r.1 (c.requires.at told).1.kept,
+      cat_answers start (shell_state f v.reads) c.args.path.now x (ap (λ t. cond t q ask.Bad) c.requires.named) r.1 v.reads (shell_rests start f c.args.core.now v.reads (c.requires.at told).1),
       cat_in_parts c.args.path.now x,
     ))
 
@@ -99,7 +99,7 @@ returns-in-Err-send_text g c =
       whole_line x,
       behind x (n + 4096),
       line_next x part n is ∙ ap (λ l. l ++ (encode_lower part ++ behind x (n + 4096))) (sym (i.2 told x r.1 r.2)) ∙ ap (λ l. i.0 ++ (l ++ behind x (n + 4096))) (sym piece_is),
-      cat_answers start (shell_state f v.reads) c.args.path.now x (ap (λ t. cond t q ask.Bad) c.requires.named) r.1 (c.requires.at told).1.kept,
+      cat_answers start (shell_state f v.reads) c.args.path.now x (ap (λ t. cond t q ask.Bad) c.requires.named) r.1 v.reads (shell_rests start f c.args.core.now v.reads (c.requires.at told).1),
     ))
 
 pub loop-start-preserved : goal.loop-start-preserved
@@ -147,4 +147,4 @@ returns g c =
     let x = r.0 in
     let past : length x ≤ c.loop-start.start = omega (arith, r.2) in
     subst (λ l. AnswersByLine start (shell_state f v.reads) q l (shell_state f v.reads)) (line_end x c.loop-start.start past ∙ ap (λ l. l ++ 10 ∷ []) (sym (i.2 told x r.1 r.2)))
-    (cat_answers start (shell_state f v.reads) c.args.path.now x (ap (λ t. cond t q ask.Bad) c.requires.named) r.1 (c.requires.at told).1.kept))
+    (cat_answers start (shell_state f v.reads) c.args.path.now x (ap (λ t. cond t q ask.Bad) c.requires.named) r.1 v.reads (shell_rests start f c.args.core.now v.reads (c.requires.at told).1)))

@@ -1,7 +1,7 @@
-use Rattle.std.proofs.Common.{◌≡◌, ◌≢◌, cond, [], ◌∷◌, ◌++◌, sym, ◌∙◌, ap, subst, append_assoc, arith, rules}
+use Rattle.std.proofs.Common.{◌≡◌, ◌≢◌, cond, [], ◌∷◌, ◌++◌, refl, sym, ◌∙◌, ap, subst, append_assoc, arith, rules}
 use Rattle.fs_trees.specs.declared.ask.ShellAsk.TheVariants as ask
 use Rattle.fs_trees.specs.declared.refusal.FsRefusal.TheVariants as no
-use Rattle.shell_server.proofs.Common.{TellsNext, names_head, AnswersByLine, ShellState, shell_step, shell_state, IsNameListing, behind_then}
+use Rattle.shell_server.proofs.Common.{TellsNext, names_head, AnswersByLine, ShellState, shell_step, shell_rests, shell_state, IsNameListing, behind_then}
 use Rattle.shell_server.proofs.LsLaws.{behind, first_is, lists, line_headed, ls_answers, ls_in_parts, ls_not_refused, next_is, no_names, said_all, said_most, said_next, said_none, said_piece, whole_line}
 use Rattle.shell_server.proofs.SendLaws.{line_served}
 use Rattle.shell_server.proofs.SpeakLaws.{speaks_none, speaks_put, speaks_look, speaks_lost, speaks_cut, speaks_end}
@@ -20,12 +20,12 @@ returns-in-Err g c =
     (λ told.
     let r = c.requires.told told in
     let ns = r.0 in
-    let h : IsNameListing ns = lists s c.args.path.now ns hears (c.requires.at told).1.kept.valid r.1 in
+    let h : IsNameListing ns = lists s c.args.path.now ns hears refl (c.requires.at told).1.kept.valid r.1 in
     let first = first_is (shell_step s q).answer ns c.args.first r.1 r h in (
       whole_line ns,
       behind ns,
       line_headed ns ∙ ap (λ l. l ++ behind ns) (sym (c.as_slice.ensures.value ∙ c.print_names_head.ensures ∙ ap names_head (no_names c.is_none.result ns c.args.first c.is_none.ensures first))),
-      ls_answers start s c.args.path.now ns hears r.1 (c.requires.at told).1.kept,
+      ls_answers start s c.args.path.now ns hears r.1 v.reads (shell_rests start f c.args.core.now v.reads (c.requires.at told).1),
     ))
 
 pub loop-left-init : goal.loop-left-init
@@ -40,7 +40,7 @@ loop-left-init g c =
       c.as_slice.result.now,
       speaks_put g.P.Device.told start f c.args.core.now v f c.args.core.now v [] begun (g.P.Device.view c.send_text.new.port) c.as_slice.result.now c.in-Ok.field-0 c.in-Ok.ensures.puts,
       λ told ns is.
-          let h : IsNameListing ns = lists s c.args.path.now ns hears (c.requires.at told).1.kept.valid is in
+          let h : IsNameListing ns = lists s c.args.path.now ns hears refl (c.requires.at told).1.kept.valid is in
           let first = first_is (shell_step s q).answer ns c.args.first is (c.requires.told told) h in
           said_none ns c.as_slice.result.now c.args.first first (c.as_slice.ensures.value ∙ c.print_names_head.ensures ∙ ap names_head (no_names c.is_none.result ns c.args.first c.is_none.ensures first)),
     )
@@ -58,7 +58,7 @@ returns-in-None g c =
     (λ told.
     let r = c.requires.told told in
     let ns = r.0 in
-    subst (λ l. AnswersByLine start s q l s) (said_all c.loop-left.next c.loop-left.left i.0 ns (i.2 told ns r.1) c.in-None.is) (ls_answers start s c.args.path.now ns hears r.1 (c.requires.at told).1.kept))
+    subst (λ l. AnswersByLine start s q l s) (said_all c.loop-left.next c.loop-left.left i.0 ns (i.2 told ns r.1) c.in-None.is) (ls_answers start s c.args.path.now ns hears r.1 v.reads (shell_rests start f c.args.core.now v.reads (c.requires.at told).1)))
 
 pub returns-in-Err-send_text : goal.returns-in-Err-send_text
 returns-in-Err-send_text g c =
@@ -78,7 +78,7 @@ returns-in-Err-send_text g c =
     let r = c.requires.told told in
     let ns = r.0 in
     let back = said_piece c.loop-left.next c.loop-left.left i.0 ns (i.2 told ns r.1) c.in-Some.name c.in-Some.is piece piece_is in
-    (whole_line ns, back.0, back.1, ls_answers start s c.args.path.now ns hears r.1 (c.requires.at told).1.kept))
+    (whole_line ns, back.0, back.1, ls_answers start s c.args.path.now ns hears r.1 v.reads (shell_rests start f c.args.core.now v.reads (c.requires.at told).1)))
 
 pub next_on-requires-clause-ready : goal.next_on-requires-clause-ready
 next_on-requires-clause-ready g c = c.loop-left.invariant.1.ready
@@ -123,7 +123,7 @@ returns-in-Err-Device g c =
       whole_line ns,
       back.0,
       back.1 ∙ sym (append_assoc i.0 piece back.0),
-      ls_answers start s c.args.path.now ns hears r.1 (c.requires.at told).1.kept,
+      ls_answers start s c.args.path.now ns hears r.1 v.reads (shell_rests start f c.args.core.now v.reads (c.requires.at told).1),
       ls_in_parts c.args.path.now ns,
     ))
 
@@ -171,7 +171,7 @@ loop-left-preserved g c =
       i.0 ++ piece,
       speaks_look g.P.Device.told start f c.args.core.now v f1 c.loop-left.core z (i.0 ++ piece) spoken q f2 c.next_on.new.core y (TellsNext c.in-Some.name) c.in-Ok-next_on.more look,
       λ told ns is.
-          let h : IsNameListing ns = lists s c.args.path.now ns hears (c.requires.at told).1.kept.valid is in
+          let h : IsNameListing ns = lists s c.args.path.now ns hears refl (c.requires.at told).1.kept.valid is in
           let later = next_is s (shell_state f1 z.reads) q ns c.in-Some.name c.in-Ok-next_on.more (spoken.state told) is (look.read told) in
           said_next c.loop-left.next c.loop-left.left i.0 ns (i.2 told ns is) c.in-Some.name c.in-Some.is piece piece_is c.in-Ok-next_on.more h c.loop-left-test.true later,
     )
@@ -189,6 +189,6 @@ returns g c =
     (λ told.
     let r = c.requires.told told in
     let ns = r.0 in
-    let h : IsNameListing ns = lists s c.args.path.now ns hears (c.requires.at told).1.kept.valid r.1 in
+    let h : IsNameListing ns = lists s c.args.path.now ns hears refl (c.requires.at told).1.kept.valid r.1 in
     let none_more : c.loop-left.left ≡ 0 = omega (arith, c.loop-left-test.false) in
-    subst (λ l. AnswersByLine start s q l s) (said_most c.loop-left.next c.loop-left.left i.0 ns (i.2 told ns r.1) h none_more) (ls_answers start s c.args.path.now ns hears r.1 (c.requires.at told).1.kept))
+    subst (λ l. AnswersByLine start s q l s) (said_most c.loop-left.next c.loop-left.left i.0 ns (i.2 told ns r.1) h none_more) (ls_answers start s c.args.path.now ns hears r.1 v.reads (shell_rests start f c.args.core.now v.reads (c.requires.at told).1)))
