@@ -2,23 +2,25 @@
 nbdkit and nbdcopy are installed, both plugins in contrib/nbdkit, in Python and in C: copies there and back, also by the
 one what the other has written, two owners at one hub, of whom a hostile one asks for every block, kills in mid-write, a
 hub that ends, a full disk, and each fault told in a line. With mke2fs and e2fsck an ext4 goes there and back; with fio,
-writes that are read back and compared; of what is in C, eight threads at once."""
+writes that are read back and compared; of what is in C, sixteen threads at once. When writes and flushes are answered
+is tried by virtual_writes.py."""
 
 from __future__ import annotations
 
 import contextlib
 import os
 import shutil
-import signal
 import subprocess
 import sys
 import time
 from dataclasses import replace
 from pathlib import Path
 from random import Random
-from typing import Callable, Iterator, List, Optional, Tuple
+from typing import Callable, Iterator, Optional, Tuple
 
+import virtual_writes
 from case_table import running_hub
+from nbd_servers import Server, call, children, kill_all, made, served
 from parts import Context, Result, compared, failed, passed, skipped
 
 NAME = "virtual_disks"
@@ -113,67 +115,6 @@ def tried_leftovers(context: Context) -> Iterator[Result]:
         yield compared("what was denied changed nothing", b"x" * 4096, found)
 
 
-class Server:
-    """An nbdkit that serves a virtual disk, by the plugin that these words name."""
-
-    plugin: List[str] = []
-
-    def __init__(self, context: Context, *words: object, name: str = "nbd") -> None:
-        self.path, self.log = context.folder / f"{name}.sock", context.folder / f"{name}.log"
-        self.path.unlink(missing_ok=True)
-        pid = context.folder / f"{name}.pid"
-        pid.unlink(missing_ok=True)
-        with open(self.log, "wb") as log:
-            command = ["nbdkit", "-f", "-U", str(self.path), "--pidfile", str(pid), *self.plugin, *map(str, words)]
-            self.process = subprocess.Popen(command, stdin=subprocess.DEVNULL, stdout=log, stderr=log)
-        end = time.monotonic() + MOST_SECONDS
-        while not pid.exists() and self.process.poll() is None and time.monotonic() < end:
-            time.sleep(0.01)
-        self.uri = f"nbd+unix:///?socket={self.path}"
-
-    def words(self) -> str:
-        """What it has told."""
-        return self.log.read_text()
-
-    def stop(self, number: int = signal.SIGTERM) -> None:
-        """Ends it."""
-        if self.process.poll() is None:
-            self.process.send_signal(number)
-        self.process.wait(MOST_SECONDS)
-
-
-@contextlib.contextmanager
-def served(context: Context, *words: object, name: str = "nbd") -> Iterator[Server]:
-    """A server, to the end of the block."""
-    server = Server(context, *words, name=name)
-    try:
-        yield server
-    finally:
-        server.stop()
-
-
-def call(*words: object) -> Tuple[int, str]:
-    """Runs a tool: its status, and all that it prints."""
-    done = subprocess.run([*map(str, words)], stdin=subprocess.DEVNULL, capture_output=True, text=True,
-                          timeout=MOST_SECONDS)
-    return done.returncode, done.stdout + done.stderr
-
-
-def made(
-    context: Context, name: str, blocks: int, primaries: int = 1, sectors: int = 8
-) -> Tuple[Path, List[Path]]:
-    """A disk with blocks of 4,096 bytes, or of so many sectors, and a file with each primary block's capability to
-    write it."""
-    import tsd
-
-    image, caps = context.folder / f"{name}.img", []
-    for root, pair in enumerate(tsd.format_disk(image, blocks=blocks, sectors=sectors, primaries=primaries)):
-        caps.append(context.folder / f"{name}.{root}.cap")
-        caps[-1].touch(mode=0o600)
-        caps[-1].write_text(pair.write.reveal().hex())
-    return image, caps
-
-
 def tried_copies(context: Context) -> Iterator[Result]:
     """There and back by the plugin, also with a file system."""
     image, [cap] = made(context, "copies", 6000)
@@ -265,17 +206,12 @@ def tried_kills(context: Context) -> Iterator[Result]:
     for turn, data in enumerate(contents):
         content.write_bytes(data)
         server = Server(context, *words, *([] if turn else ["size=4M"]))
-        children = subprocess.run(["ps", "-o", "pid=", "--ppid", str(server.process.pid)], capture_output=True,
-                                  text=True).stdout.split() if shutil.which("ps") else []
+        programs = children(server)
         copy = subprocess.Popen(["nbdcopy", str(content), server.uri], stderr=subprocess.DEVNULL)
         time.sleep(0.1 + 0.15 * turn)
-        server.stop(signal.SIGKILL)
-        for child in children:
-            with contextlib.suppress(ProcessLookupError):
-                os.kill(int(child), signal.SIGKILL)
+        kill_all(server, programs)
         copy.wait(MOST_SECONDS)
         before.add(data[:4096])
-        time.sleep(0.1)
         yield compared(f"the image is sound after kill {turn}", 0, call(context.program, image, "check")[0])
         with served(context, *words) as again:
             yield compared(f"it serves after kill {turn}", (0, ""), call("nbdcopy", again.uri, back))
@@ -350,7 +286,7 @@ def compiled(context: Context) -> str:
 
 
 def tried_threads(context: Context) -> Iterator[Result]:
-    """Eight threads at once, each beside a model of its bytes; where the compiler has them, under its checks."""
+    """Sixteen threads at once, each beside a model of its bytes; where the compiler has them, under its checks."""
     checks = ["-fsanitize=address,undefined"]
     program, folder = context.folder / "threads", context.top / "contrib/nbdkit"
     command = [context.compiler, "-std=c11", "-D_GNU_SOURCE", "-g", "-O1", "-I", context.top / "clients/c", "-I",
@@ -361,7 +297,7 @@ def tried_threads(context: Context) -> Iterator[Result]:
     for sectors, blocks, leaves in ((8, 3000, 2003), (1, 20000, 7813)):
         image, [cap] = made(context, f"threads{sectors}", blocks, sectors=sectors)
         words = (image, cap, 512 * sectors * leaves, 40, context.random("threads").randrange(1 << 30))
-        yield compared(f"eight threads, {leaves} blocks of {512 * sectors}", (0, "right\n"), call(program, *words))
+        yield compared(f"sixteen threads, {leaves} blocks of {512 * sectors}", (0, "right\n"), call(program, *words))
         yield compared(f"{leaves} blocks of {512 * sectors}: the image", 0, call(context.program, image, "check")[0])
 
 
@@ -407,7 +343,7 @@ def run(context: Context) -> Iterator[Result]:
     if missing is not None:
         yield skipped("the plugins", f"there is no {missing}")
         return
-    parts = (tried_copies, tried_owners, tried_kills, tried_ends, tried_faults)
+    parts = (tried_copies, tried_owners, tried_kills, tried_ends, tried_faults, *virtual_writes.BOTH)
     if call("nbdkit", "python", "--version")[0] == 0:
         Server.plugin = ["python", str(context.top / "contrib/nbdkit/tsd_disk.py")]
         yield from with_each(context, "Python", parts)
@@ -420,7 +356,7 @@ def run(context: Context) -> Iterator[Result]:
     yield compared("the plugin in C is compiled without a warning", "", told)
     if not told:
         Server.plugin = [str(context.folder / "tsd_disk.so")]
-        yield from with_each(context, "C", (*parts, tried_both, tried_threads))
+        yield from with_each(context, "C", (*parts, *virtual_writes.in_c(), tried_both, tried_threads))
 
 
 def with_each(context: Context, name: str, parts: Tuple[Part, ...]) -> Iterator[Result]:

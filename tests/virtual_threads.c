@@ -1,6 +1,7 @@
-/* Eight threads at one virtual disk (contrib/nbdkit/virtual_disk.c), for tests/virtual_disks.py. Each has bytes of its
-   own, beside a model of them: it writes, zeroes, trims, reads and flushes at drawn places, and compares. The bytes of
-   two threads share a block where they meet. At the end all is read again, from the disk.
+/* Sixteen threads at one virtual disk (contrib/nbdkit/virtual_disk.c), for tests/virtual_disks.py. Each has bytes of its
+   own, beside a model of them: it writes (each second write a durable one), zeroes, trims, reads and flushes at drawn
+   places, and compares. The bytes of two threads share a block where they meet. At the end all is read again, from the
+   disk.
 
      virtual_threads IMAGE CAPABILITY SIZE STEPS SEED */
 #include "virtual_disk.h"
@@ -10,7 +11,7 @@
 #include <stdlib.h>
 #include <string.h>
 
-enum { THREADS = 8, MOST = 20000 };
+enum { THREADS = 16, MOST = 20000 };
 
 static vdisk *virtual;
 static uint64_t room;
@@ -45,7 +46,7 @@ static bool step(struct worker *w, uint8_t *bytes) {
     if (way < 4) {
         memset(bytes, (int)drawn(w, 256), count);
         memcpy(w->model + at, bytes, count);
-        is_well = vdisk_write(virtual, bytes, count, w->start + at, &error);
+        is_well = vdisk_write(virtual, bytes, count, w->start + at, way % 2 == 0, &error);
     } else if (way == 4) {
         memset(w->model + at, 0, count);
         is_well = vdisk_zero(virtual, count, w->start + at, &error);
@@ -109,17 +110,17 @@ int main(int count, char **words) {
         pthread_join(workers[each].thread, NULL);
         is_wrong |= workers[each].is_wrong;
     }
-    vdisk_close(virtual);
+    vdisk_error error;
+    is_wrong |= !vdisk_close(virtual, &error);
     is_wrong |= !tsd_close(disk, NULL) || !open_it(words[1], words[2], 0, &disk);
     uint8_t *bytes = malloc(room);
     for (int each = 0; each < THREADS && !is_wrong; each++) {
-        vdisk_error error;
         is_wrong = !vdisk_read(virtual, bytes, (uint32_t)room, workers[each].start, &error) ||
                    memcmp(bytes, workers[each].model, room) != 0;
         free(workers[each].model);
     }
     free(bytes);
-    vdisk_close(virtual);
+    vdisk_close(virtual, &error);
     tsd_close(disk, NULL);
     printf("%s\n", is_wrong ? "wrong" : "right");
     return is_wrong;

@@ -57,12 +57,10 @@ extern char **environ;
 
 /* --- capabilities --- */
 
-/* Sets memory to zeros, through a volatile pointer, so that the compiler leaves no write out. */
+/* Sets memory to zeros, by a call through a volatile pointer, which the compiler doesn't leave out. */
 static void wipe(void *memory, size_t length) {
-    volatile uint8_t *bytes = memory;
-    while (length > 0) {
-        bytes[--length] = 0;
-    }
+    static void *(*const volatile set)(void *, int, size_t) = memset;
+    set(memory, 0, length);
 }
 
 void tsd_capability_wipe(tsd_capability *cap) {
@@ -545,7 +543,7 @@ tsd_outcome tsd_send(tsd_disk *disk, const tsd_request *request) {
     } else {
         put(disk, text, LENGTH_BYTES + length);
     }
-    wipe(text, sizeof text);
+    wipe(text, LENGTH_BYTES + length);
     return disk->end.why == TSD_NOT_ENDED ? TSD_OK : TSD_ENDED;
 }
 

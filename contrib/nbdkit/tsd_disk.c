@@ -73,10 +73,11 @@ static int told(const char *words) {
 }
 
 static void disk_cleanup(void) {
-    if (opened != NULL) {
-        vdisk_close(opened);
-        opened = NULL;
+    vdisk_error error;
+    if (opened != NULL && !vdisk_close(opened, &error)) {
+        told(error.words);
     }
+    opened = NULL;
     if (disk != NULL) {
         tsd_close(disk, NULL);
         disk = NULL;
@@ -122,6 +123,22 @@ static void *disk_open(int readonly) {
     return opened;
 }
 
+/* An error is told as the client knows it, and in a line of this server. */
+static int ended(bool is_well, const vdisk_error *error) {
+    if (is_well) {
+        return 0;
+    }
+    nbdkit_error("%s", error->words);
+    nbdkit_set_error(error->number);
+    return -1;
+}
+
+/* A client has gone, which may not have flushed. */
+static void disk_close(void *handle) {
+    vdisk_error error;
+    ended(vdisk_flush(handle, &error), &error);
+}
+
 static int64_t disk_get_size(void *handle) {
     return (int64_t)vdisk_size(handle);
 }
@@ -143,20 +160,10 @@ static int no(void *handle) {
     return 0;
 }
 
-/* Each write is on the disk when it is answered. */
+/* A write with FUA waits for its own answer alone. */
 static int disk_can_fua(void *handle) {
     (void)handle;
     return NBDKIT_FUA_NATIVE;
-}
-
-/* An error is told as the client knows it, and in a line of this server. */
-static int ended(bool is_well, const vdisk_error *error) {
-    if (is_well) {
-        return 0;
-    }
-    nbdkit_error("%s", error->words);
-    nbdkit_set_error(error->number);
-    return -1;
 }
 
 static int disk_pread(void *handle, void *into, uint32_t count, uint64_t offset, uint32_t flags) {
@@ -167,8 +174,7 @@ static int disk_pread(void *handle, void *into, uint32_t count, uint64_t offset,
 
 static int disk_pwrite(void *handle, const void *from, uint32_t count, uint64_t offset, uint32_t flags) {
     vdisk_error error;
-    (void)flags;
-    return ended(vdisk_write(handle, from, count, offset, &error), &error);
+    return ended(vdisk_write(handle, from, count, offset, (flags & NBDKIT_FLAG_FUA) != 0, &error), &error);
 }
 
 static int disk_trim(void *handle, uint32_t count, uint64_t offset, uint32_t flags) {
@@ -210,6 +216,7 @@ static struct nbdkit_plugin plugin = {
     .after_fork = disk_after_fork,
     .cleanup = disk_cleanup,
     .open = disk_open,
+    .close = disk_close,
     .get_size = disk_get_size,
     .block_size = disk_block_size,
     .can_flush = yes,

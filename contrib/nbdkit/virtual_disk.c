@@ -1,12 +1,22 @@
-/* One thread has the disk and the tables: the others hand it jobs, and wait. It sends what all jobs want that lie there,
-   up to 64 requests, and takes the answers as they come, in the order of the requests. So reads of blocks that are
-   there, and writes of whole blocks that are there, are under way together, and what comes while the disk is at work
-   on some goes out to it meanwhile: those are committed together when it has done these. No more writes are under way
-   than one batch of the disk's journal takes. All else is done alone: first what is under way is answered.
+/* Whoever calls does its own work, with one lock that has the disk, the tables and the ring: reads and writes of leaves
+   that are there, up to 256, in their order. They are sent in that order, and a thread takes the answers as they come;
+   who waits for one waits without the lock. All else is done alone, with the lock: first what is in the ring is
+   answered.
 
-   What a leaf had when the last of its writes or reads was answered is kept in a slot of the cache, while no write to
-   that slot is under way: since the disk carries requests out in their order, that is what it has. A reader finds it
-   there without the thread.
+   A write of a leaf that is there returns when it stands in the ring, which has its bytes. A flush waits for the last
+   one of these that is in the ring then, and so for all. A write waits for its own answer where it has to be durable,
+   where none was granted before (the first tells whether the capability is one to write), and where several writes or
+   flushes wait already: then batches are full anyway, and a flush that comes behind it has nothing to wait for.
+
+   Nobody is left to whom it could be told that a write failed which has returned. So from then on each call fails, and
+   so does each that waits.
+
+   What isn't sent goes out when it fills half a batch of the disk's journal, when somebody waits for a read, and else
+   when no write is under way: then those that came while the disk was at work on some are committed together. After
+   several calls were let go at once, it is given a little time for as many to come again.
+
+   What a leaf has by all requests up to the last one in the ring is kept in a slot of the cache: since the disk carries
+   requests out in their order, that is what a read behind them would have. A reader finds it there without the lock.
 
    In which order. A new block is taken from its table, then written, and then named by the table's number: so a table
    names no block that isn't written. To give one back its number is zeroed first, and then its pointer goes. Whatever
@@ -15,7 +25,6 @@
 #include "virtual_disk.h"
 
 #include <errno.h>
-#include <fcntl.h>
 #include <inttypes.h>
 #include <poll.h>
 #include <pthread.h>
@@ -25,39 +34,45 @@
 #include <stdio.h>
 #include <stdlib.h>
 #include <string.h>
-#include <unistd.h>
+#include <time.h>
 
 #define MAGIC "TSDVDSK1"
 enum { HEADER = 64, NUMBER = 4, SESSION = 1, MOST_DEPTHS = 8, RING = 256 };
-/* How many sectors a batch of the disk's journal has room for (docs/FORMAT.md), and the bytes of each. */
-enum { BATCH = 113, SECTOR = 512 };
-/* After so many milliseconds without an answer it is looked whether the disk is silent for too long. */
-enum { NAP_MS = 100 };
+/* Where so many writes and flushes wait, a write waits too. */
+enum { MANY = 4 };
+/* How many sectors of writes go out together, and the bytes of each. The disk's journal has room for 113, and takes
+   three syncs more than the two of a batch each time that it is full: two such batches fill it (docs/FORMAT.md). */
+enum { BATCH = 56, SECTOR = 512 };
+/* After so long without an answer it is looked whether the disk is silent for too long; and how long those are awaited
+   that were let go together. */
+enum { NAP_NS = 100000000, GATHER_NS = 200000, SECOND_NS = 1000000000 };
 
 enum kind { READ, WRITE, TRIM, ZERO, FLUSH, EXTENTS };
 
 struct job {
     enum kind kind;
+    bool is_durable; /* of a write: it is done when it is on the disk */
     uint64_t offset;
     uint32_t count;
     uint8_t *into;
     const uint8_t *from;
     vdisk_piece piece;
     void *given;
-    unsigned left; /* how many requests of it are under way, and one more while it is begun */
+    unsigned left; /* how much of the ring is its own, and one more while it is begun */
     vdisk_error error;
     sem_t done;
-    struct job *next;
+    struct job *next; /* of a list of flushes */
 };
 
-/* A request under way, or with no leaf the mark of a flush. */
+/* A request for a leaf: a read, or a write, whose bytes lie in the same place of another ring. */
 struct entry {
-    struct job *job;
-    bool is_mark;
+    enum kind kind;
+    struct job *job; /* NULL for a write that was answered */
+    struct job *flushes; /* that wait for it */
     uint64_t leaf;
+    uint32_t block;
     uint32_t start, length; /* of the leaf's bytes that a read wants */
     uint8_t *into;
-    const uint8_t *from;
 };
 
 struct table {
@@ -66,8 +81,8 @@ struct table {
 };
 
 struct slot {
-    uint64_t leaf; /* and one more; 0 for none */
-    unsigned pending;
+    uint64_t leaf;    /* and one more; 0 for none */
+    unsigned pending; /* writes under way */
 };
 
 struct vdisk {
@@ -78,23 +93,30 @@ struct vdisk {
     uint64_t size, leaves;
     struct table **tables[MOST_DEPTHS];
     uint64_t counts[MOST_DEPTHS];
+    pthread_mutex_t lock; /* has all but the cache */
     struct entry ring[RING];
-    unsigned first, under_way, writing; /* of these, writes */
+    uint8_t *bytes; /* of the ring's writes */
+    unsigned first, under_way, sent; /* of what is under way, the front that was sent */
+    unsigned writes, writing; /* under way; and of these, sent */
+    unsigned reads; /* that aren't sent */
+    unsigned early, last_early; /* writes that were answered, and the place of the last of them */
+    unsigned waiting, let_go; /* writes and flushes that wait; and how many were let go so far */
+    unsigned wanted; /* so many are awaited, */
+    int64_t until; /* until then */
+    bool is_stirred; /* something was sent or taken since answers were looked for */
+    bool may_write; /* a write was granted */
+    vdisk_error lost; /* how a write failed that was answered */
+    atomic_bool is_lost;
     tsd_answer answer;
-    /* The cache: slots and their bytes. The thread alone knows what is pending. */
+    /* The cache: slots and their bytes. What is pending goes by the other lock. */
     pthread_mutex_t cache_lock;
     struct slot *slots;
     uint8_t *kept;
     size_t slot_count;
-    /* The queue. */
-    pthread_mutex_t lock;
-    pthread_cond_t more;
-    struct job *head, **tail;
+    /* The thread. */
+    pthread_cond_t more; /* something is under way, or all ends */
     bool is_started, is_ending;
-    bool is_asleep; /* the thread waits for an answer or for a byte in this pipe */
-    int wake[2];
     pthread_t thread;
-    atomic_uint writes; /* calls that write, and haven't returned */
 };
 
 static uint32_t number_at(const uint8_t *bytes) {
@@ -176,7 +198,7 @@ static bool from_cache(vdisk *v, uint64_t leaf, uint32_t start, uint32_t length,
 
 static void keep(vdisk *v, uint64_t leaf, const uint8_t *bytes) {
     struct slot *slot = slot_of(v, leaf);
-    if (slot != NULL && slot->pending == 0) {
+    if (slot != NULL) {
         pthread_mutex_lock(&v->cache_lock);
         memcpy(v->kept + (leaf % v->slot_count) * v->block_bytes, bytes, v->block_bytes);
         slot->leaf = leaf + 1;
@@ -193,110 +215,189 @@ static void drop(vdisk *v, uint64_t leaf) {
     }
 }
 
-/* --- requests under way --- */
+/* --- the ring --- */
 
-static void let_go(struct job *job) {
+static int64_t now_ns(void) {
+    struct timespec now;
+    clock_gettime(CLOCK_MONOTONIC, &now);
+    return (int64_t)now.tv_sec * SECOND_NS + now.tv_nsec;
+}
+
+/* How many writes of leaves go out together; as many may go out while these are at work. */
+static unsigned batch_of(const vdisk *v) {
+    unsigned batch = BATCH * SECTOR / v->block_bytes;
+    return batch < TSD_MOST_UNDER_WAY / 2 ? batch : TSD_MOST_UNDER_WAY / 2;
+}
+
+/* A write that was answered failed: what was told isn't so. */
+static void lose(vdisk *v, const vdisk_error *why) {
+    fail(&v->lost, EIO, "a write that was answered is lost: %s", why->words);
+    atomic_store(&v->is_lost, true);
+}
+
+/* Whether a write that was answered is lost; then that is the error. */
+static bool has_lost(vdisk *v, vdisk_error *error) {
+    if (v->lost.number != 0) {
+        fail(error, v->lost.number, "%s", v->lost.words);
+    }
+    return v->lost.number != 0;
+}
+
+/* Something of the ring that a job waits for is done. */
+static void let_go(vdisk *v, struct job *job) {
+    has_lost(v, &job->error);
     if (--job->left == 0) {
+        v->waiting -= job->kind != READ;
+        v->let_go += job->kind != READ;
         sem_post(&job->done);
     }
 }
 
-/* Whether no job has come: then the thread may sleep, and the next job wakes it. */
-static bool begin_sleep(vdisk *v) {
-    pthread_mutex_lock(&v->lock);
-    v->is_asleep = v->head == NULL;
-    bool is_asleep = v->is_asleep;
-    pthread_mutex_unlock(&v->lock);
-    return is_asleep;
-}
-
-static void end_sleep(vdisk *v) {
-    uint8_t byte;
-    pthread_mutex_lock(&v->lock);
-    if (!v->is_asleep) {
-        while (read(v->wake[0], &byte, 1) < 0 && errno == EINTR) {
-        }
+/* The answer to a read or a write of a leaf. */
+static void take_leaf(vdisk *v, const struct entry *entry) {
+    struct slot *slot = slot_of(v, entry->leaf);
+    vdisk_error error = {0};
+    bool is_write = entry->kind == WRITE, is_done = well(v, tsd_take(v->disk, &v->answer), &error);
+    v->writes -= is_write;
+    v->writing -= is_write;
+    if (is_write && slot != NULL) {
+        slot->pending--;
     }
-    v->is_asleep = false;
-    pthread_mutex_unlock(&v->lock);
-}
-
-/* Wakes the thread, with the queue's lock. A byte stands in the pipe from then until it is awake. */
-static void wake_up(vdisk *v) {
-    if (v->is_asleep) {
-        v->is_asleep = false;
-        while (write(v->wake[1], "", 1) < 0 && errno == EINTR) {
+    if (is_done && is_write) {
+        v->may_write = true;
+    } else if (is_done) {
+        memcpy(entry->into, v->answer.bytes + entry->start, entry->length);
+        if (slot != NULL && slot->pending == 0) {
+            keep(v, entry->leaf, v->answer.bytes);
         }
     } else {
-        pthread_cond_signal(&v->more);
+        drop(v, entry->leaf);
+        if (entry->job == NULL) {
+            lose(v, &error);
+        } else {
+            fail(&entry->job->error, error.number, "%s", error.words);
+        }
     }
 }
 
-/* The answer to the oldest request. */
+/* The oldest of the ring, which was sent, once it is answered. */
 static void take(vdisk *v) {
     struct entry entry = v->ring[v->first];
-    struct slot *slot = slot_of(v, entry.leaf);
     v->first = (v->first + 1) % RING;
     v->under_way--;
-    if (!entry.is_mark) {
-        bool is_done = well(v, tsd_take(v->disk, &v->answer), &entry.job->error);
-        v->writing -= entry.from != NULL;
-        if (entry.from != NULL && slot != NULL) {
-            slot->pending--;
-        }
-        if (is_done && entry.from == NULL) {
-            memcpy(entry.into, v->answer.bytes + entry.start, entry.length);
-        }
-        if (is_done) {
-            keep(v, entry.leaf, entry.from != NULL ? entry.from : v->answer.bytes);
-        }
+    v->sent--;
+    v->is_stirred = true;
+    take_leaf(v, &entry);
+    if (entry.job != NULL) {
+        let_go(v, entry.job);
+    } else {
+        v->early--;
     }
-    let_go(entry.job);
+    for (struct job *next, *flush = entry.flushes; flush != NULL; flush = next) {
+        next = flush->next;
+        let_go(v, flush);
+    }
+}
+
+/* Sends what isn't sent, as far as there is room: at most a batch. It goes out when answers are looked for. */
+static void send_some(vdisk *v) {
+    unsigned batch = batch_of(v), left = batch;
+    while (v->sent < v->under_way && tsd_under_way(v->disk) < TSD_MOST_UNDER_WAY) {
+        unsigned place = (v->first + v->sent) % RING;
+        struct entry *entry = &v->ring[place];
+        bool is_write = entry->kind == WRITE;
+        if (is_write && (left == 0 || v->writing == 2 * batch)) {
+            break;
+        }
+        tsd_request request = {.code = is_write ? TSD_WRITE : TSD_READ, .session = SESSION, .block = entry->block};
+        request.data = is_write ? v->bytes + (size_t)place * v->block_bytes : NULL;
+        request.length = is_write ? v->block_bytes : 0;
+        tsd_send(v->disk, &request); /* where the link has ended the answers tell it */
+        left -= is_write;
+        v->writing += is_write;
+        v->reads -= !is_write;
+        v->sent++;
+        v->wanted = 0;
+        v->is_stirred = true;
+    }
+}
+
+/* Sends what isn't sent, where it is time. */
+static void send_in_time(vdisk *v) {
+    bool is_full = v->writes - v->writing >= batch_of(v) && v->writing <= batch_of(v);
+    bool is_idle = v->writing == 0 && (v->waiting >= v->wanted || now_ns() >= v->until);
+    if (v->sent < v->under_way && (v->reads > 0 || is_full || is_idle)) {
+        send_some(v);
+    }
 }
 
 static void take_all(vdisk *v) {
     while (v->under_way > 0) {
+        send_some(v);
         take(v);
     }
 }
 
-/* Takes the answers that have come, or where there is none waits for one, or for a job. */
+/* Puts something at the end of the ring; a write with the bytes of its leaf. */
+static void put(vdisk *v, struct entry entry, const uint8_t *bytes) {
+    struct slot *slot = slot_of(v, entry.leaf);
+    while (v->under_way == RING) {
+        send_some(v);
+        take(v);
+    }
+    unsigned place = (v->first + v->under_way) % RING;
+    v->ring[place] = entry;
+    if (entry.kind == WRITE) {
+        memcpy(v->bytes + (size_t)place * v->block_bytes, bytes, v->block_bytes);
+        v->writes++;
+        keep(v, entry.leaf, bytes);
+        if (slot != NULL) {
+            slot->pending++;
+        }
+    }
+    v->reads += entry.kind == READ;
+    if (entry.job != NULL) {
+        entry.job->left++;
+    }
+    if (v->under_way++ == 0) {
+        pthread_cond_signal(&v->more);
+    }
+}
+
+/* Puts a write of a leaf that has this block in the ring, and has its job wait for it where that isn't answered. */
+static void put_write(vdisk *v, struct job *job, uint64_t leaf, uint32_t block, const uint8_t *bytes) {
+    bool waits = job->is_durable || !v->may_write || tsd_end_of(v->disk)->why != TSD_NOT_ENDED || v->waiting >= MANY;
+    put(v, (struct entry){.kind = WRITE, .job = waits ? job : NULL, .leaf = leaf, .block = block}, bytes);
+    if (!waits) {
+        v->early++;
+        v->last_early = (v->first + v->under_way - 1) % RING;
+    }
+}
+
+/* Has a flush wait for the writes that were answered. */
+static void put_flush(vdisk *v, struct job *job) {
+    if (v->early > 0) {
+        job->next = v->ring[v->last_early].flushes;
+        v->ring[v->last_early].flushes = job;
+        job->left++;
+    }
+}
+
+/* Takes the answers that have come, and sends what it is time for. (Whoever sends or takes may read answers to others
+   from the stream; then the thread, which waits at the stream, wouldn't see them.) */
 static void take_some(vdisk *v) {
-    bool has_taken = false;
-    while (v->under_way > 0 && (v->ring[v->first].is_mark || tsd_has_come(v->disk))) {
-        take(v);
-        has_taken = true;
-    }
-    if (!has_taken && begin_sleep(v)) {
-        struct pollfd ready[] = {{.fd = tsd_stream(v->disk), .events = POLLIN}, {.fd = v->wake[0], .events = POLLIN}};
-        poll(ready, 2, NAP_MS);
-        end_sleep(v);
-    }
-}
-
-static void push(vdisk *v, struct entry entry) {
-    v->ring[(v->first + v->under_way++) % RING] = entry;
-    entry.job->left++;
-}
-
-/* Sends a read or a write of a leaf that has this block. */
-static bool send_leaf(vdisk *v, uint32_t block, struct entry entry) {
-    while ((entry.from != NULL && v->writing >= BATCH * SECTOR / v->block_bytes) ||
-           tsd_under_way(v->disk) == TSD_MOST_UNDER_WAY || v->under_way == RING) {
-        take(v);
-    }
-    tsd_request request = {.code = entry.from != NULL ? TSD_WRITE : TSD_READ, .session = SESSION, .block = block,
-                           .data = entry.from, .length = entry.from != NULL ? v->block_bytes : 0};
-    if (!well(v, tsd_send(v->disk, &request), &entry.job->error)) {
-        return false;
-    }
-    if (entry.from != NULL && slot_of(v, entry.leaf) != NULL) {
-        drop(v, entry.leaf);
-        slot_of(v, entry.leaf)->pending++;
-    }
-    v->writing += entry.from != NULL;
-    push(v, entry);
-    return true;
+    do {
+        unsigned before = v->let_go;
+        while (v->sent > 0 && tsd_has_come(v->disk)) {
+            take(v);
+        }
+        if (v->let_go - before > 1) {
+            v->wanted = v->waiting + v->let_go - before;
+            v->until = now_ns() + GATHER_NS;
+        }
+        v->is_stirred = false;
+        send_in_time(v);
+    } while (v->is_stirred);
 }
 
 /* --- tables; from here on nothing is under way where the disk is asked --- */
@@ -443,6 +544,7 @@ static bool name(vdisk *v, struct table *table, uint32_t at, const uint32_t *blo
     }
     if (error->number == 0) {
         memcpy(table->numbers, later, room * sizeof *later);
+        v->may_write = true;
     }
     free(later);
     return error->number == 0;
@@ -517,7 +619,7 @@ static uint32_t new_ones(vdisk *v, uint64_t leaf, uint64_t most, vdisk_error *er
     return count;
 }
 
-/* Whole leaves: those that are there are under way when it returns. */
+/* Whole leaves: those that are there stand in the ring when it returns. */
 static bool write_leaves(vdisk *v, struct job *job, uint64_t leaf, uint64_t end, const uint8_t *from) {
     while (leaf < end && job->error.number == 0) {
         uint32_t count = 1, block = block_of(v, leaf, &job->error);
@@ -525,7 +627,7 @@ static bool write_leaves(vdisk *v, struct job *job, uint64_t leaf, uint64_t end,
             break;
         }
         if (block != 0) {
-            send_leaf(v, block, (struct entry){.job = job, .leaf = leaf, .from = from});
+            put_write(v, job, leaf, block, from);
         } else if ((count = new_ones(v, leaf, end - leaf, &job->error)) > 0) {
             write_new(v, leaf, count, from, &job->error);
         }
@@ -535,17 +637,19 @@ static bool write_leaves(vdisk *v, struct job *job, uint64_t leaf, uint64_t end,
     return job->error.number == 0;
 }
 
-/* Bytes of one leaf, alone; NULL are zeros. */
-static bool write_part(vdisk *v, uint64_t leaf, uint32_t start, uint32_t length, const uint8_t *from,
-                       vdisk_error *error) {
+/* Bytes of one leaf; NULL are zeros. */
+static bool write_part(vdisk *v, struct job *job, uint64_t leaf, uint32_t start, uint32_t length,
+                       const uint8_t *from) {
     uint8_t bytes[TSD_MOST_BLOCK_BYTES] = {0};
-    take_all(v);
-    uint32_t block = block_of(v, leaf, error);
-    if (error->number != 0 || (block == 0 && from == NULL)) {
-        return error->number == 0;
+    uint32_t block = block_of(v, leaf, &job->error);
+    if (job->error.number != 0 || (block == 0 && from == NULL)) {
+        return job->error.number == 0;
     }
-    if (block != 0 && !well(v, tsd_read(v->disk, SESSION, block, NULL, bytes, sizeof bytes, NULL), error)) {
-        return false;
+    if (block != 0 && !from_cache(v, leaf, 0, v->block_bytes, bytes)) {
+        take_all(v);
+        if (!well(v, tsd_read(v->disk, SESSION, block, NULL, bytes, sizeof bytes, NULL), &job->error)) {
+            return false;
+        }
     }
     if (from != NULL) {
         memcpy(bytes + start, from, length);
@@ -553,13 +657,9 @@ static bool write_part(vdisk *v, uint64_t leaf, uint32_t start, uint32_t length,
         memset(bytes + start, 0, length);
     }
     if (block == 0) {
-        return write_new(v, leaf, 1, bytes, error);
+        return write_new(v, leaf, 1, bytes, &job->error);
     }
-    drop(v, leaf);
-    if (!well(v, tsd_write(v->disk, SESSION, block, NULL, bytes, v->block_bytes), error)) {
-        return false;
-    }
-    keep(v, leaf, bytes);
+    put_write(v, job, leaf, block, bytes);
     return true;
 }
 
@@ -577,8 +677,8 @@ static void do_read(vdisk *v, struct job *job) {
             if (block == 0) {
                 memset(into, 0, length);
             } else {
-                send_leaf(v, block, (struct entry){.job = job, .leaf = leaf, .start = start, .length = length,
-                                                   .into = into});
+                put(v, (struct entry){.kind = READ, .job = job, .leaf = leaf, .block = block, .start = start,
+                                      .length = length, .into = into}, NULL);
             }
         }
         at += length;
@@ -586,7 +686,7 @@ static void do_read(vdisk *v, struct job *job) {
     }
 }
 
-/* What isn't a whole leaf at either end is done alone. Without bytes they are zeros, and what is between is left. */
+/* Without bytes they are zeros, and whole leaves are left. */
 static void do_write(vdisk *v, struct job *job) {
     uint64_t at = job->offset, end = job->offset + job->count, whole = end / v->block_bytes;
     const uint8_t *from = job->from;
@@ -601,7 +701,7 @@ static void do_write(vdisk *v, struct job *job) {
             }
         } else {
             length = end - at < length ? end - at : length;
-            write_part(v, leaf, start, (uint32_t)length, from, &job->error);
+            write_part(v, job, leaf, start, (uint32_t)length, from);
         }
         at += length;
         from = from != NULL ? from + length : NULL;
@@ -692,59 +792,62 @@ static void begin(vdisk *v, struct job *job) {
         do_trim(v, job);
         break;
     case FLUSH:
-        if (v->under_way == RING) {
-            take_all(v);
-        }
-        push(v, (struct entry){.job = job, .is_mark = true});
+        put_flush(v, job);
         break;
     case EXTENTS:
         do_extents(v, job);
     }
-    let_go(job);
 }
 
-/* The next job; NULL where none has come and requests are under way, or all ends. */
-static struct job *next_job(vdisk *v) {
-    pthread_mutex_lock(&v->lock);
-    while (v->head == NULL && v->under_way == 0 && !v->is_ending) {
-        pthread_cond_wait(&v->more, &v->lock);
-    }
-    struct job *job = v->head;
-    if (job != NULL && (v->head = job->next) == NULL) {
-        v->tail = &v->head;
-    }
-    pthread_mutex_unlock(&v->lock);
-    return job;
-}
-
-static void *serve(void *given) {
-    vdisk *v = given;
-    for (;;) {
-        struct job *job = next_job(v);
-        if (job != NULL) {
-            begin(v, job);
-        } else if (v->under_way > 0) {
-            take_some(v);
-        } else {
-            return NULL;
-        }
-    }
-}
-
-/* Hands a job over, and waits until it is done. */
+/* Does a job, and waits until it is done. */
 static bool done(vdisk *v, struct job *job, vdisk_error *error) {
     job->left = 1;
     sem_init(&job->done, 0, 0);
     pthread_mutex_lock(&v->lock);
-    *v->tail = job;
-    v->tail = &job->next;
-    wake_up(v);
+    if (!has_lost(v, &job->error)) {
+        begin(v, job);
+        has_lost(v, &job->error);
+    }
+    bool waits = --job->left > 0;
+    v->waiting += waits && job->kind != READ;
+    send_in_time(v);
+    if (v->is_stirred) {
+        take_some(v);
+    }
     pthread_mutex_unlock(&v->lock);
-    while (sem_wait(&job->done) != 0) {
+    while (waits && sem_wait(&job->done) != 0) {
     }
     sem_destroy(&job->done);
     *error = job->error;
     return error->number == 0;
+}
+
+/* Waits until something may have come, or it is time to send. */
+static void nap(vdisk *v) {
+    int64_t length = v->sent > 0 ? NAP_NS : v->until - now_ns();
+    struct pollfd ready = {.fd = tsd_stream(v->disk), .events = POLLIN};
+    struct timespec most = {.tv_nsec = length > 0 && length < NAP_NS ? length : NAP_NS};
+    pthread_mutex_unlock(&v->lock);
+    if (length > 0) {
+        ppoll(&ready, 1, &most, NULL);
+    }
+    pthread_mutex_lock(&v->lock);
+}
+
+/* The thread that takes answers. */
+static void *serve(void *given) {
+    vdisk *v = given;
+    pthread_mutex_lock(&v->lock);
+    while (!v->is_ending) {
+        if (v->under_way == 0) {
+            pthread_cond_wait(&v->more, &v->lock);
+        } else {
+            nap(v);
+            take_some(v);
+        }
+    }
+    pthread_mutex_unlock(&v->lock);
+    return NULL;
 }
 
 /* --- opening --- */
@@ -809,7 +912,9 @@ static bool make_room(vdisk *v, size_t cache, vdisk_error *error) {
     v->slot_count = cache / v->block_bytes;
     v->slots = calloc(v->slot_count + 1, sizeof *v->slots);
     v->kept = malloc(v->slot_count * v->block_bytes + 1);
-    return (v->slots != NULL && v->kept != NULL) || fail(error, ENOMEM, "there is no memory for the cache");
+    v->bytes = malloc((size_t)RING * v->block_bytes);
+    return (v->slots != NULL && v->kept != NULL && v->bytes != NULL) ||
+           fail(error, ENOMEM, "there is no memory for the cache");
 }
 
 static bool opened(vdisk *v, uint64_t size, size_t cache, vdisk_error *error) {
@@ -844,6 +949,23 @@ static bool opened(vdisk *v, uint64_t size, size_t cache, vdisk_error *error) {
     return mend(v, root, v->root_fan, error);
 }
 
+static void free_all(vdisk *v) {
+    for (unsigned depth = 0; depth < MOST_DEPTHS && v->tables[depth] != NULL; depth++) {
+        for (uint64_t index = 0; index < v->counts[depth]; index++) {
+            free(v->tables[depth][index]);
+        }
+        free(v->tables[depth]);
+    }
+    free(v->slots);
+    free(v->kept);
+    free(v->bytes);
+    tsd_capability_wipe(&v->cap);
+    pthread_mutex_destroy(&v->cache_lock);
+    pthread_mutex_destroy(&v->lock);
+    pthread_cond_destroy(&v->more);
+    free(v);
+}
+
 vdisk *vdisk_open(tsd_disk *disk, uint32_t root, const tsd_capability *cap, uint64_t size, size_t cache,
                   vdisk_error *error) {
     vdisk *v = calloc(1, sizeof *v);
@@ -855,18 +977,11 @@ vdisk *vdisk_open(tsd_disk *disk, uint32_t root, const tsd_capability *cap, uint
     v->disk = disk;
     v->cap = *cap;
     v->root = root;
-    v->tail = &v->head;
     pthread_mutex_init(&v->cache_lock, NULL);
     pthread_mutex_init(&v->lock, NULL);
     pthread_cond_init(&v->more, NULL);
-    v->wake[0] = v->wake[1] = -1;
-    if (pipe2(v->wake, O_CLOEXEC) != 0) {
-        fail(error, errno, "no pipe can be made: %s", strerror(errno));
-        vdisk_close(v);
-        return NULL;
-    }
     if (!opened(v, size, cache, error)) {
-        vdisk_close(v);
+        free_all(v);
         return NULL;
     }
     return v;
@@ -879,32 +994,19 @@ bool vdisk_start(vdisk *v, vdisk_error *error) {
     return v->is_started || fail(error, number, "no thread can be started: %s", strerror(number));
 }
 
-void vdisk_close(vdisk *v) {
+bool vdisk_close(vdisk *v, vdisk_error *error) {
+    error->number = 0;
     pthread_mutex_lock(&v->lock);
+    take_all(v);
+    has_lost(v, error);
     v->is_ending = true;
-    wake_up(v);
+    pthread_cond_signal(&v->more);
     pthread_mutex_unlock(&v->lock);
     if (v->is_started) {
         pthread_join(v->thread, NULL);
     }
-    for (unsigned depth = 0; depth < MOST_DEPTHS && v->tables[depth] != NULL; depth++) {
-        for (uint64_t index = 0; index < v->counts[depth]; index++) {
-            free(v->tables[depth][index]);
-        }
-        free(v->tables[depth]);
-    }
-    for (int end = 0; end < 2; end++) {
-        if (v->wake[end] >= 0) {
-            close(v->wake[end]);
-        }
-    }
-    free(v->slots);
-    free(v->kept);
-    tsd_capability_wipe(&v->cap);
-    pthread_mutex_destroy(&v->cache_lock);
-    pthread_mutex_destroy(&v->lock);
-    pthread_cond_destroy(&v->more);
-    free(v);
+    free_all(v);
+    return error->number == 0;
 }
 
 uint64_t vdisk_size(const vdisk *v) {
@@ -920,34 +1022,28 @@ uint32_t vdisk_block_bytes(const vdisk *v) {
 bool vdisk_read(vdisk *v, void *into, uint32_t count, uint64_t offset, vdisk_error *error) {
     uint32_t start = (uint32_t)(offset % v->block_bytes);
     error->number = 0;
-    if (start + (uint64_t)count <= v->block_bytes && from_cache(v, offset / v->block_bytes, start, count, into)) {
+    if (start + (uint64_t)count <= v->block_bytes && from_cache(v, offset / v->block_bytes, start, count, into) &&
+        !atomic_load(&v->is_lost)) {
         return true;
     }
     return done(v, &(struct job){.kind = READ, .into = into, .count = count, .offset = offset}, error);
 }
 
-static bool changed(vdisk *v, struct job *job, vdisk_error *error) {
-    atomic_fetch_add(&v->writes, 1);
-    bool is_well = done(v, job, error);
-    atomic_fetch_sub(&v->writes, 1);
-    return is_well;
-}
-
-bool vdisk_write(vdisk *v, const void *from, uint32_t count, uint64_t offset, vdisk_error *error) {
-    return changed(v, &(struct job){.kind = WRITE, .from = from, .count = count, .offset = offset}, error);
+bool vdisk_write(vdisk *v, const void *from, uint32_t count, uint64_t offset, bool is_durable, vdisk_error *error) {
+    struct job job = {.kind = WRITE, .is_durable = is_durable, .from = from, .count = count, .offset = offset};
+    return done(v, &job, error);
 }
 
 bool vdisk_trim(vdisk *v, uint32_t count, uint64_t offset, vdisk_error *error) {
-    return changed(v, &(struct job){.kind = TRIM, .count = count, .offset = offset}, error);
+    return done(v, &(struct job){.kind = TRIM, .count = count, .offset = offset}, error);
 }
 
 bool vdisk_zero(vdisk *v, uint32_t count, uint64_t offset, vdisk_error *error) {
-    return changed(v, &(struct job){.kind = ZERO, .count = count, .offset = offset}, error);
+    return done(v, &(struct job){.kind = ZERO, .count = count, .offset = offset}, error);
 }
 
 bool vdisk_flush(vdisk *v, vdisk_error *error) {
-    error->number = 0;
-    return atomic_load(&v->writes) == 0 || done(v, &(struct job){.kind = FLUSH}, error);
+    return done(v, &(struct job){.kind = FLUSH}, error);
 }
 
 bool vdisk_extents(vdisk *v, uint32_t count, uint64_t offset, vdisk_piece piece, void *given, vdisk_error *error) {

@@ -28,21 +28,27 @@ vdisk *vdisk_open(tsd_disk *disk, uint32_t root, const tsd_capability *cap, uint
                   vdisk_error *error);
 /* Starts the thread that serves it. False with an error. */
 bool vdisk_start(vdisk *virtual, vdisk_error *error);
-/* Ends that, and frees it; no call may be under way. The disk is the caller's again. */
-void vdisk_close(vdisk *virtual);
+/* Waits for what is under way, ends that, and frees it; no call may be under way. False with an error where a write
+   that was answered isn't on the disk. The disk is the caller's again. */
+bool vdisk_close(vdisk *virtual, vdisk_error *error);
 
 uint64_t vdisk_size(const vdisk *virtual);
 uint32_t vdisk_block_bytes(const vdisk *virtual);
 
-/* Each is done when it returns, and what it has written is on the disk; false with an error. Of a write or a trim over
-   several blocks some may be carried out then, each whole. The bytes are within the size. */
+/* Each is done when it returns; false with an error. Of a write or a trim over several blocks some may be carried out
+   then, each whole. The bytes are within the size.
+
+   What a write has written is on the disk when it returns where it is_durable, and else when a later flush does. Where
+   it can't be written after all, each later call fails. */
 bool vdisk_read(vdisk *virtual, void *into, uint32_t count, uint64_t offset, vdisk_error *error);
-bool vdisk_write(vdisk *virtual, const void *from, uint32_t count, uint64_t offset, vdisk_error *error);
-/* Gives back the blocks that lie whole in these bytes, which read as zeros then; the others stay. */
+bool vdisk_write(vdisk *virtual, const void *from, uint32_t count, uint64_t offset, bool is_durable,
+                 vdisk_error *error);
+/* Gives back the blocks that lie whole in these bytes, which read as zeros then; the others stay. What it and
+   vdisk_zero did is on the disk when they return. */
 bool vdisk_trim(vdisk *virtual, uint32_t count, uint64_t offset, vdisk_error *error);
 /* Sets bytes to zero; blocks that lie whole in them are given back. */
 bool vdisk_zero(vdisk *virtual, uint32_t count, uint64_t offset, vdisk_error *error);
-/* Waits for the writes that are under way now. Those that returned are on the disk already. */
+/* Waits until all writes that returned before are on the disk. */
 bool vdisk_flush(vdisk *virtual, vdisk_error *error);
 bool vdisk_extents(vdisk *virtual, uint32_t count, uint64_t offset, vdisk_piece piece, void *given,
                    vdisk_error *error);
