@@ -227,8 +227,9 @@ def refused_results(folder: Path, program: Program) -> Iterator[Result]:
 CHAIN = f"open 1\nalloc 1 0 {W} - 1\nalloc 1 1 - - 1\nalloc 1 2 - - 1\n".encode()
 DELETE = f"open 1\ndelete 1 0 {W} 1\n".encode()
 KIND_WORDS = {READ: "read", WRITE: "write", SYNC: "sync"}
-# Of the many calls of the opening and the copying so manyth are tried; each of the last ones is.
-EVERY, LAST = 23, 40
+# Of the many calls of the opening and the copying so manyth are tried; each of the last ones is. So often an image is
+# lost at least: the second one has few calls, since rows of sectors are copied to it by one call each.
+EVERY, LAST, LEAST_LOST = 23, 40, 36
 
 
 class Sides:
@@ -296,7 +297,7 @@ def each_fault_result(sides: Sides, program: Program, side: int, name: str) -> R
                 losses += found[0] == 11
             if not is_right:
                 wrong.append(f"with {fault}: {found}, and then {read!r}")
-    if losses < LAST:
+    if losses < LEAST_LOST:
         wrong.append(f"the image was lost {losses} times")
     return of_tries(f"each call of the {name} image fails", tries, wrong)
 

@@ -85,8 +85,8 @@ fn byte_of(file: &mut Followed<Noted>, sector: u32) -> Option<u8> {
 }
 
 /// The first byte that a file has in a sector.
-fn first_byte(file: &Followed<Noted>, sector: usize) -> Option<u8> {
-    file.file().bytes.get(sector * SECTOR).copied()
+fn first_byte(file: &Followed<Noted>, sector: u32) -> Option<u8> {
+    file.file().bytes.get(sector as usize * SECTOR).copied()
 }
 
 /// Reads blocks of so many sectors, each from its first sector on, and tells whether they are what the file has there.
