@@ -3,10 +3,11 @@
 ghost use Rattle.std.specs.Prelude.{◌≡◌, IfOk, IfErr, OnOk};
 ghost use Rattle.fs_trees.specs.declared.refusal.FsRefusal.TheVariants as no;
 
+use arrayvec::ArrayVec;
 use fs_client::{BlockSet, Client};
 use fs_port::{Blocks, Files};
 use fs_trees::{FsRefusal, Name, Path};
-use fs_walks::{Place, Walks};
+use fs_walks::{NAMES_AT_ONCE, Place, Walks};
 use std::alloc::Global;
 use tsd_model::{Cap, Data, NoMemory};
 
@@ -175,6 +176,20 @@ impl Walks for ChainFs {
             }
         } else {
             *into = Data::new();
+            Err(FsRefusal::NotThisFs)
+        }
+    }
+
+    fn names_after<K: Blocks>(
+        &mut self,
+        disk: &mut K,
+        path: &Path,
+        after: &Name,
+        into: &mut ArrayVec<Name, NAMES_AT_ONCE>,
+    ) -> Result<(), FsRefusal> {
+        if self.mounted {
+            chain_reading::names_after(&self.client, disk, path, after, into)
+        } else {
             Err(FsRefusal::NotThisFs)
         }
     }

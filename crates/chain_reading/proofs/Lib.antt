@@ -3,6 +3,9 @@ pub mod WalkLaws
 pub mod SizeLaws
 pub mod CopyLaws
 pub mod PlaceLaws
+pub mod NamesLaws
+pub mod NamesToldLaws
+pub mod PutLaws
 pub mod ListLaws
 pub mod SearchLaws
 pub mod KnownLaws

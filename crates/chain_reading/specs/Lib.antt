@@ -2,6 +2,7 @@ pub mod Standing
 pub mod Ahead
 pub mod Asking
 pub mod Places
+pub mod Nexts
 pub mod Finding
 pub mod Chained
 pub mod Changed

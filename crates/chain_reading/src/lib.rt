@@ -10,8 +10,8 @@
 //! cluster, are found at once. Each cluster has to point to what it names. Where all that is right, the names are
 //! compared, each cluster's with its own and with those of the clusters behind it.
 //!
-//! What it promises: over any disk under whose root a tree of chains is, `size`, `read_file`, `read_on` and `name_after`
-//! answer by the step of the tree; `is_tree` tells exactly whether one is there. They change no world and are refused beyond that
+//! What it promises: over any disk under whose root a tree of chains is, `size`, `read_file`, `read_on`, `name_after` and
+//! `names_after` answer by the step of the tree; `is_tree` tells exactly whether one is there. They change no world and are refused beyond that
 //! by a fault alone. The laws of `deciding` say what the write that decides a change leaves: the tree with that entry
 //! set, added or taken out, or with the bytes added. Nothing is recursive, however long a chain is, and nothing takes
 //! memory.
@@ -20,6 +20,7 @@
 mod comparing;
 mod deciding;
 mod finding;
+mod listing;
 mod looking;
 mod reading;
 mod walking;
@@ -28,6 +29,7 @@ pub use deciding::{
     a_file_grows, a_new_cluster_is_linked, entries_decide, files_stand_in_any_order,
 };
 pub use finding::{Lookup, find_file, no_way, search};
+pub use listing::names_after;
 pub use looking::is_tree;
 pub use reading::{name_after, read_file, read_on, size};
 pub use walking::{Page, Part, read_page, read_part};

@@ -15,4 +15,4 @@ mod place;
 mod walks;
 
 pub use place::Place;
-pub use walks::Walks;
+pub use walks::{NAMES_AT_ONCE, Walks};

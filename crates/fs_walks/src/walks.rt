@@ -8,12 +8,17 @@ ghost use Rattle.fs_port.specs.Calls.{IsValidNow};
 ghost use Rattle.fs_port.specs.Files.{FilesView, Answers, HasTree, IsClientReady, TellsPart};
 ghost use Rattle.fs_port.specs.Runs.{Looks};
 ghost use Rattle.fs_port.specs.View.{state_of};
+ghost use Rattle.fs_walks.specs.Nexts.{TellsNames};
 ghost use Rattle.fs_walks.specs.declared.place.Place.{Place};
 
 use crate::place::Place;
+use arrayvec::ArrayVec;
 use fs_port::{Blocks, Files};
-use fs_trees::{FsRefusal, Path};
+use fs_trees::{FsRefusal, Name, Path};
 use tsd_model::Data;
+
+/// How many names come at once, at most.
+pub const NAMES_AT_ONCE: usize = 64;
 
 /// A file system that goes on with reading where an earlier call on the same disk was.
 pub trait Walks: Files {
@@ -44,6 +49,26 @@ pub trait Walks: Files {
         ensures place { K.told → IfOk result (λ next. IfSome next
             (leads (Self.view self.new) (state_of (K.view disk.new)) path.now (start + 4096))) }
         ensures nothing { IfErr result (λ _. into.new ≡ []) }
+        ensures looks { Looks K.told (K.view disk.old) (K.view disk.new) result }
+        ensures same { Self.view self.new ≡ Self.view self.old };
+
+    /// Some of the names in a directory that come next after another, in order: at least one, where one comes. The
+    /// empty name is below all. What was in the list before is gone.
+    fn names_after<K: Blocks>(
+        &mut self,
+        disk: &mut K,
+        path: &Path,
+        after: &Name,
+        into: &mut ArrayVec<Name, NAMES_AT_ONCE>,
+    ) -> Result<(), FsRefusal>
+        requires ready { IsClientReady (Self.view self.old) (K.view disk.old) }
+        requires valid { K.told → IsValidNow (K.view disk.old) }
+        requires named { IsTrue (is_path path.now) }
+        requires tree { K.told → HasTree (Self.view self.old) (K.view disk.old) }
+        /// promise (with looks): Next names of the directory, by the tree, each the one behind the one before; none
+        /// only where none comes. No world is changed.
+        ensures answer { K.told → Answers (Self.view self.old) (K.view disk.old) (K.view disk.new) (ask.Ls path.now)
+            result (λ _. TellsNames after.now into.new.items) }
         ensures looks { Looks K.told (K.view disk.old) (K.view disk.new) result }
         ensures same { Self.view self.new ≡ Self.view self.old };
 }

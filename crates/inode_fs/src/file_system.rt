@@ -3,10 +3,11 @@
 ghost use Rattle.std.specs.Prelude.{◌≡◌, IfOk};
 
 use crate::marks::Marks;
+use arrayvec::ArrayVec;
 use fs_client::Client;
 use fs_port::{Blocks, Files};
 use fs_trees::{FsRefusal, Name, Path};
-use fs_walks::{Place, Walks};
+use fs_walks::{NAMES_AT_ONCE, Place, Walks};
 use std::alloc::Global;
 use tsd_model::{Cap, Data, NoMemory};
 
@@ -167,6 +168,25 @@ impl Walks for InodeFs {
     ) -> Result<Option<Place>, FsRefusal> {
         match self.read_part(disk, path, start, into) {
             Ok(()) => Ok(None),
+            Err(refusal) => Err(refusal),
+        }
+    }
+
+    /// The next name alone. The entries of a directory stand in order in one block.
+    fn names_after<K: Blocks>(
+        &mut self,
+        disk: &mut K,
+        path: &Path,
+        after: &Name,
+        into: &mut ArrayVec<Name, NAMES_AT_ONCE>,
+    ) -> Result<(), FsRefusal> {
+        into.clear();
+        match self.name_after(disk, path, after) {
+            Ok(Some(name)) => {
+                into.push(name);
+                Ok(())
+            }
+            Ok(None) => Ok(()),
             Err(refusal) => Err(refusal),
         }
     }

@@ -12,3 +12,4 @@ pub mod LsLaws
 pub mod CopyLaws
 pub mod FreeLaws
 pub mod KeptLaws
+pub mod AheadLaws

@@ -1,7 +1,8 @@
-use Rattle.std.proofs.Common.{◌≡◌, ◌≢◌, cond, [], ◌∷◌, ◌++◌, refl, sym, ◌∙◌, ap, subst, append_assoc, arith, rules}
+use Rattle.std.proofs.Common.{◌≡◌, ◌≢◌, IfSome, cond, [], ◌∷◌, ◌++◌, refl, sym, ◌∙◌, ap, subst, append_assoc, arith, rules}
+use Rattle.fs_walks.specs.Nexts.{AreBehind}
 use Rattle.fs_trees.specs.declared.ask.ShellAsk.TheVariants as ask
 use Rattle.fs_trees.specs.declared.refusal.FsRefusal.TheVariants as no
-use Rattle.shell_server.proofs.Common.{TellsNext, names_head, AnswersByLine, ShellState, shell_step, shell_rests, shell_state, IsNameListing, behind_then}
+use Rattle.shell_server.proofs.Common.{Image, TellsNext, names_head, AnswersByLine, ShellState, shell_step, shell_rests, shell_state, IsNameListing, behind_then}
 use Rattle.shell_server.proofs.LsLaws.{behind, first_is, lists, line_headed, ls_answers, ls_in_parts, ls_not_refused, next_is, no_names, said_all, said_most, said_next, said_none, said_piece, whole_line}
 use Rattle.shell_server.proofs.SendLaws.{line_served}
 use Rattle.shell_server.proofs.SpeakLaws.{speaks_none, speaks_put, speaks_look, speaks_lost, speaks_cut, speaks_end}
@@ -43,6 +44,7 @@ loop-left-init g c =
           let h : IsNameListing ns = lists s c.args.path.now ns hears refl (c.requires.at told).1.kept.valid is in
           let first = first_is (shell_step s q).answer ns c.args.first is (c.requires.told told) h in
           said_none ns c.as_slice.result.now c.args.first first (c.as_slice.ensures.value ∙ c.print_names_head.ensures ∙ ap names_head (no_names c.is_none.result ns c.args.first c.is_none.ensures first)),
+      λ told. subst (λ (x : Image). IfSome c.args.first (λ name. AreBehind name c.args.ahead.now.items (shell_step (shell_state f x) q).answer)) (sym (c.in-Ok.ensures.puts.reads told)) (c.requires.ahead told),
     )
 
 pub returns-in-None : goal.returns-in-None
@@ -99,6 +101,15 @@ next_on-requires-clause-at g c =
     let spoken = speaks_put g.P.Device.told start f c.args.core.now v f1 c.loop-left.core w i.0 i.1 z piece c.in-Ok-send_text.field-0 c.in-Ok-send_text.ensures.puts in
     spoken.at
 
+pub next_on-requires-clause-ahead : goal.next_on-requires-clause-ahead
+next_on-requires-clause-ahead g c = λ told.
+    let q = ask.Ls c.args.path.now in
+    let f1 = g.F.Files.view c.loop-left.files in
+    let w = g.P.Device.view c.loop-left.port in
+    let answer = (shell_step (shell_state f1 w.reads) q).answer in
+    let here = subst (λ o. IfSome o (λ name. AreBehind name c.loop-left.ahead.items answer)) c.in-Some.is (c.loop-left.invariant.3 told) in
+    subst (λ (x : Image). AreBehind c.in-Some.name c.loop-left.ahead.items (shell_step (shell_state f1 x) q).answer) (sym (c.in-Ok-send_text.ensures.puts.reads told)) here
+
 pub returns-in-Err-Device : goal.returns-in-Err-Device
 returns-in-Err-Device g c =
     let v = g.P.Device.view c.args.port.now in
@@ -115,7 +126,7 @@ returns-in-Err-Device g c =
     let z = g.P.Device.view c.send_text-in-loop-left.new.port in
     let spoken = speaks_put g.P.Device.told start f c.args.core.now v f1 c.loop-left.core w i.0 i.1 z piece c.in-Ok-send_text.field-0 c.in-Ok-send_text.ensures.puts in
     speaks_lost g.P.Device.told start f c.args.core.now v f1 c.loop-left.core z (i.0 ++ piece) spoken q (g.F.Files.view c.next_on.new.files) c.next_on.new.core (g.P.Device.view c.next_on.new.dev) (TellsNext c.in-Some.name)
-    (rw c.in-Err-Device.field-0-is at c.in-Err-Device.ensures)
+    (rw c.in-Err-Device.field-0-is at c.in-Err-Device.ensures.looked)
     (λ told.
     let r = c.requires.told told in
     let ns = r.0 in
@@ -142,7 +153,7 @@ returns-in-Err-next_on g c =
     let z = g.P.Device.view c.send_text-in-loop-left.new.port in
     let spoken = speaks_put g.P.Device.told start f c.args.core.now v f1 c.loop-left.core w i.0 i.1 z piece c.in-Ok-send_text.field-0 c.in-Ok-send_text.ensures.puts in
     let other : c.in-Err-next_on.field-0 ≢ no.Device = search rules in
-    let look = c.in-Err-next_on.ensures in
+    let look = c.in-Err-next_on.ensures.looked in
     let never : g.P.Device.told → ⊥ = λ told.
     let r = c.requires.told told in
     ls_not_refused r.0 c.in-Err-next_on.field-0 (shell_step s q).answer r.1 (ap (λ (u : ShellState). (shell_step u q).answer) (sym (spoken.state told)) ∙ look.refused told other) in
@@ -165,7 +176,7 @@ loop-left-preserved g c =
     let piece_is : piece ≡ 32 ∷ c.in-Some.name = c.as_slice-in-loop-left.ensures.value ∙ c.print_name.ensures in
     let z = g.P.Device.view c.send_text-in-loop-left.new.port in
     let spoken = speaks_put g.P.Device.told start f c.args.core.now v f1 c.loop-left.core w i.0 i.1 z piece c.in-Ok-send_text.field-0 c.in-Ok-send_text.ensures.puts in
-    let look = c.in-Ok-next_on.ensures in
+    let look = c.in-Ok-next_on.ensures.looked in
     let f2 = g.F.Files.view c.next_on.new.files in
     let y = g.P.Device.view c.next_on.new.dev in (
       i.0 ++ piece,
@@ -174,6 +185,7 @@ loop-left-preserved g c =
           let h : IsNameListing ns = lists s c.args.path.now ns hears refl (c.requires.at told).1.kept.valid is in
           let later = next_is s (shell_state f1 z.reads) q ns c.in-Some.name c.in-Ok-next_on.more (spoken.state told) is (look.read told) in
           said_next c.loop-left.next c.loop-left.left i.0 ns (i.2 told ns is) c.in-Some.name c.in-Some.is piece piece_is c.in-Ok-next_on.more h c.loop-left-test.true later,
+      c.in-Ok-next_on.ensures.ahead,
     )
 
 pub returns : goal.returns
