@@ -16,7 +16,7 @@ use crate::handler::GroupHandler;
 use image_device::{Failed, Port};
 use intent_journal::Ring;
 use serving::{Protocol, Replies};
-use tsd_model::Request;
+use tsd_model::{Reply, Request};
 use tsd_words::Status;
 
 /// Carries out a request on the device itself, whose journal is emptied before it and behind it.
@@ -84,10 +84,11 @@ fn answer<P: Port, R: Protocol<Request = Request> + Replies, H: GroupHandler>(
     ensures put_fault { CountsFaultOf Status.PutFault result (P.view port.old).put_faults
         (P.view port.new).put_faults }
 {
-    let reply = match server.apply(port, request) {
-        Ok(reply) => reply,
+    let mut reply = Reply::Done;
+    match server.apply(port, request, &mut reply) {
+        Ok(()) => {}
         Err(_) => return Err(Status::DeviceFault),
-    };
+    }
     if R::put_reply(port, &reply).is_err() {
         return Err(Status::PutFault);
     }

@@ -14,7 +14,7 @@ use crate::room::HasRoom;
 use crate::settle::settle_few;
 use image_device::{Failed, Port};
 use serving::{Intake, Protocol, Replies};
-use tsd_model::Request;
+use tsd_model::{Reply, Request};
 
 /// How many steps of reclamation are made behind a request at most.
 const STEPS: u32 = 4;
@@ -82,7 +82,8 @@ fn carry_out<R: Protocol<Request = Request> + Replies, H: GroupHandler, G: Port 
     ensures failed { OnErr result (Rose (G.view port.old).faults (G.view port.new).faults
         ⊎ Rose (G.view port.old).put_faults (G.view port.new).put_faults) }
 {
-    let reply = server.apply(port, request)?;
+    let mut reply = Reply::Done;
+    server.apply(port, request, &mut reply)?;
     R::put_reply(port, &reply)?;
     server.empty_ring(port)?;
     match settle_few(server, port, STEPS) {

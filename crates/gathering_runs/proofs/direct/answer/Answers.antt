@@ -20,7 +20,7 @@ returns-then-is_err-clause-did g c told =
     let v2 = g.P.Device.view c.put_reply.new.port in
     let at = c.in-Ok.ensures.at told in
     turned_err (spoken g.H.Handler.rules g.R.Replies.voice) (g.H.Handler.aside c.args.server.now) status.PutFault _ _ v0 v2 (c.args.request.now ∷ [])
-    (left_replied g.H.Handler.rules g.R.Replies.voice (g.H.Handler.aside c.args.server.now) _ c.args.request.now v0 v1 v2 c.in-Ok.reply (g.H.Handler.state c.apply.new.self v1.reads) (c.in-Ok.ensures.given told) (g.met.P.Device.sound c.apply.new.dev told)
+    (left_replied g.H.Handler.rules g.R.Replies.voice (g.H.Handler.aside c.args.server.now) _ c.args.request.now v0 v1 v2 c.apply.new.into (g.H.Handler.state c.apply.new.self v1.reads) (c.in-Ok.ensures.given told) (g.met.P.Device.sound c.apply.new.dev told)
     at.0 (g.met.H.Handler.stands_now c.apply.new.self v1.reads at.1) (c.apply.ensures.sent told) (c.apply.ensures.any_moment told) (c.apply.ensures.aside_kept told) (c.put_reply.ensures.any_moment told))
 
 pub returns-then-is_err-2-clause-did : goal.returns-then-is_err-2-clause-did
@@ -35,7 +35,7 @@ returns-then-is_err-2-clause-did g c told =
     let t = g.H.Handler.state c.apply.new.self v1.reads in
     let m = g.H.Handler.state c.apply.new.self v2.reads in
     let reads = c.put_reply.ensures.reads told in
-    let w = went_replied g.H.Handler.rules g.R.Replies.voice part _ c.args.request.now v0 v1 v2 c.in-Ok.reply t (c.in-Ok.ensures.given told) (g.met.P.Device.sound c.apply.new.dev told)
+    let w = went_replied g.H.Handler.rules g.R.Replies.voice part _ c.args.request.now v0 v1 v2 c.apply.new.into t (c.in-Ok.ensures.given told) (g.met.P.Device.sound c.apply.new.dev told)
     at.0 (g.met.H.Handler.stands_now c.apply.new.self v1.reads at.1) (c.apply.ensures.sent told) (c.apply.ensures.any_moment told) (c.apply.ensures.aside_kept told) (c.put_reply.ensures.any_moment told)
     m (ap (λ x. g.H.Handler.state c.apply.new.self x) (sym reads)) reads (unless_err c.put_reply.result c.is_err.result c.if-is_err.false c.is_err.ensures.value (c.put_reply.ensures.sent told)) in
     turned_err k part status.DeviceFault _ _ v0 v3 (c.args.request.now ∷ [])
@@ -55,7 +55,7 @@ returns-then-is_err-3-clause-did g c told =
     let m = g.H.Handler.state c.apply.new.self v2.reads in
     let n = g.H.Handler.state c.settle_some.new.self v3.reads in
     let reads = c.put_reply.ensures.reads told in
-    let w = went_replied g.H.Handler.rules g.R.Replies.voice part _ c.args.request.now v0 v1 v2 c.in-Ok.reply t (c.in-Ok.ensures.given told) (g.met.P.Device.sound c.apply.new.dev told)
+    let w = went_replied g.H.Handler.rules g.R.Replies.voice part _ c.args.request.now v0 v1 v2 c.apply.new.into t (c.in-Ok.ensures.given told) (g.met.P.Device.sound c.apply.new.dev told)
     at.0 (g.met.H.Handler.stands_now c.apply.new.self v1.reads at.1) (c.apply.ensures.sent told) (c.apply.ensures.any_moment told) (c.apply.ensures.aside_kept told) (c.put_reply.ensures.any_moment told)
     m (ap (λ x. g.H.Handler.state c.apply.new.self x) (sym reads)) reads (unless_err c.put_reply.result c.is_err.result c.if-is_err.false c.is_err.ensures.value (c.put_reply.ensures.sent told)) in
     let w3 = went_stayed k part (g.H.Handler.aside c.apply.new.self) _ m v0 v2 v3 (c.args.request.now ∷ []) w c.apply.ensures.aside (c.settle_some.ensures.any_moment told) (c.settle_some.ensures.aside_kept told)
@@ -77,7 +77,7 @@ returns-clause-did g c told =
     let m = g.H.Handler.state c.apply.new.self v2.reads in
     let n = g.H.Handler.state c.settle_some.new.self v3.reads in
     let reads = c.put_reply.ensures.reads told in
-    let w = went_replied g.H.Handler.rules g.R.Replies.voice part _ c.args.request.now v0 v1 v2 c.in-Ok.reply t (c.in-Ok.ensures.given told) (g.met.P.Device.sound c.apply.new.dev told)
+    let w = went_replied g.H.Handler.rules g.R.Replies.voice part _ c.args.request.now v0 v1 v2 c.apply.new.into t (c.in-Ok.ensures.given told) (g.met.P.Device.sound c.apply.new.dev told)
     at.0 (g.met.H.Handler.stands_now c.apply.new.self v1.reads at.1) (c.apply.ensures.sent told) (c.apply.ensures.any_moment told) (c.apply.ensures.aside_kept told) (c.put_reply.ensures.any_moment told)
     m (ap (λ x. g.H.Handler.state c.apply.new.self x) (sym reads)) reads (unless_err c.put_reply.result c.is_err.result c.if-is_err.false c.is_err.ensures.value (c.put_reply.ensures.sent told)) in
     let w3 = went_stayed k part (g.H.Handler.aside c.apply.new.self) _ m v0 v2 v3 (c.args.request.now ∷ []) w c.apply.ensures.aside (c.settle_some.ensures.any_moment told) (c.settle_some.ensures.aside_kept told)
