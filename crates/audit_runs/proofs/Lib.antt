@@ -4,3 +4,4 @@ pub mod TextLaws
 pub mod PuttingLaws
 pub mod AnswerLaws
 pub mod AuditLaws
+pub mod LookLaws

@@ -8,3 +8,4 @@ pub mod Taking
 pub mod Answering
 pub mod Putting
 pub mod Laws
+pub mod Looking

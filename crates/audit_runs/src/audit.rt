@@ -10,6 +10,7 @@ ghost use Rattle.image_runs.specs.Opened.{IsJudged, IsNotImage, IsUnopened};
 ghost use Rattle.image_runs.specs.Sending.{IsEnding};
 ghost use Rattle.audit_runs.specs.Audit.{HasAudited, IsAuditing};
 ghost use Rattle.audit_runs.specs.Found.{IsFoundIn};
+ghost use Rattle.audit_runs.specs.Looking.{OnlyLooks};
 
 use crate::listings::put_listings;
 use image_audit::{Reached, primary_roots};
@@ -39,6 +40,9 @@ pub fn audit_image<P: Port>(alloc: Global, port: &mut P) -> Status
     /// promise: Each image left stands for the same world as the one at the start, or for none as that one.
     ensures any_moment { P.told → IsFirm (P.view port.old) → LeavesOnly (P.view port.old) (P.view port.new)
         (λ x f. StandAlike (P.view port.old).reads x × IsAuditing (P.view port.old).reads (P.view port.old).sent f) }
+    /// promise: Where nothing is left to be done on the image nothing is written, and else no more than an opening
+    /// writes, however it ends.
+    ensures only { P.told → OnlyLooks (P.view port.old) (P.view port.new) }
     // A count of faults rose only where the status is that fault's.
     ensures device_fault { result ≡ Status.DeviceFault → Rose (P.view port.old).faults (P.view port.new).faults }
     ensures put_fault { result ≡ Status.PutFault → Rose (P.view port.old).put_faults (P.view port.new).put_faults }
@@ -68,6 +72,8 @@ fn find<D: Device>(alloc: Global, dev: &mut D) -> Result<Reached, Status>
     ensures behind { D.told → IsFirm (D.view dev.old) → LeavesBehind (D.view dev.old) (D.view dev.new) }
     ensures any_moment { D.told → IsFirm (D.view dev.old) → LeavesOnly (D.view dev.old) (D.view dev.new)
         (λ x f. StandAlike (D.view dev.old).reads x × (f ≡ (D.view dev.old).sent)) }
+    // Where nothing is left to be done on the image nothing is written, and else no more than an opening writes.
+    ensures only { D.told → OnlyLooks (D.view dev.old) (D.view dev.new) }
     ensures works { Works (D.view dev.old) (D.view dev.new) }
     ensures faults { CountsFaultOf Status.DeviceFault result (D.view dev.old).faults (D.view dev.new).faults }
 {

@@ -11,6 +11,7 @@ ghost use Rattle.volume_laws.specs.Volume.{IsVolumeReady, told_by};
 ghost use Rattle.volume_laws.specs.Writes.{Works};
 ghost use Rattle.image_runs.specs.Opened.{IsJudged, IsNotImage};
 ghost use Rattle.audit_runs.specs.Answering.{HasAnswered, IsUnanswered, IsUnread};
+ghost use Rattle.audit_runs.specs.Looking.{OnlyLooks};
 ghost use Rattle.audit_runs.specs.Taking.{IsReadAs};
 ghost use Rattle.audit_runs.specs.Verify.{IsVerdictOver, IsAnswerOf, VerifyRan};
 
@@ -44,6 +45,9 @@ pub fn verify_image<S: Source, P: Port>(alloc: Global, source: &mut S, port: &mu
     // However it ends, a crash at any moment leaves what lies behind the image as it was.
     ensures behind { P.told → IsFirm (P.view port.old) → LeavesBehind (P.view port.old) (P.view port.new) }
     ensures once { EndsOnce (S.ends source.old) (S.ends source.new) }
+    /// promise: Where nothing is left to be done on the image nothing is written, and else no more than an opening
+    /// writes, however it ends.
+    ensures only { P.told → OnlyLooks (P.view port.old) (P.view port.new) }
     // A count of faults rose only where the status is that fault's.
     ensures source_fault { result ≡ Status.SourceFault → Rose (S.faults source.old) (S.faults source.new) }
     ensures device_fault { result ≡ Status.DeviceFault → Rose (P.view port.old).faults (P.view port.new).faults }
@@ -82,6 +86,8 @@ fn answer<S: Source, D: Device>(
     ensures behind { D.told → IsFirm (D.view dev.old) → LeavesBehind (D.view dev.old) (D.view dev.new) }
     ensures any_moment { D.told → IsFirm (D.view dev.old) → LeavesOnly (D.view dev.old) (D.view dev.new)
         (λ x f. StandAlike (D.view dev.old).reads x × (f ≡ (D.view dev.old).sent)) }
+    // Where nothing is left to be done on the image nothing is written, and else no more than an opening writes.
+    ensures only { D.told → OnlyLooks (D.view dev.old) (D.view dev.new) }
     ensures works { Works (D.view dev.old) (D.view dev.new) }
     ensures once { EndsOnce (S.ends source.old) (S.ends source.new) }
     ensures source_faults { CountsFaultOf Status.SourceFault result (S.faults source.old) (S.faults source.new) }

@@ -5,6 +5,7 @@ use Rattle.image_runs.proofs.Behind.{behind_said}
 use Rattle.image_runs.proofs.Opened.{spared_put, untouched_put}
 use Rattle.audit_runs.specs.Audit.{IsAuditOf, listings_text}
 use Rattle.audit_runs.proofs.AnswerLaws.{audit_of, cut_from, silent_moments, told_moments, unaudited, unopened_ends}
+use Rattle.audit_runs.proofs.LookLaws.{looked_put}
 use Rattle.audit_runs.proofs.audit.audit_image.Goals as goal
 
 pub returns-in-Ok-put_listings-clause-said : goal.returns-in-Ok-put_listings-clause-said
@@ -61,3 +62,11 @@ pub returns-in-Ok-clause-behind : goal.returns-in-Ok-clause-behind
 returns-in-Ok-clause-behind g c told firm =
     let old = g.P.Device.view c.args.port.now in
     behind_said (behind (size_of_image old.reads)) _ old (g.P.Device.view c.find.new.dev) (g.P.Device.view c.put_listings.new.port) (g.met.P.Device.sound c.find.new.dev told) (c.find.ensures.behind told firm) (c.put_listings.ensures.any_moment told)
+
+pub returns-in-Ok-put_listings-clause-only : goal.returns-in-Ok-put_listings-clause-only
+returns-in-Ok-put_listings-clause-only g c told =
+    looked_put g.P.Device.told _ (g.P.Device.view c.args.port.now) (g.P.Device.view c.find.new.dev) (g.P.Device.view c.put_listings.new.port) c.put_listings.result c.put_listings.ensures (c.find.ensures.only told)
+
+pub returns-in-Ok-clause-only : goal.returns-in-Ok-clause-only
+returns-in-Ok-clause-only g c told =
+    looked_put g.P.Device.told _ (g.P.Device.view c.args.port.now) (g.P.Device.view c.find.new.dev) (g.P.Device.view c.put_listings.new.port) c.put_listings.result c.put_listings.ensures (c.find.ensures.only told)

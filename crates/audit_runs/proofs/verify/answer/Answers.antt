@@ -4,6 +4,7 @@ use Rattle.tsd_core.proofs.AtLaws.{like_at}
 use Rattle.volume_laws.specs.Volume.{told_by, world_on}
 use Rattle.audit_runs.specs.Verify.{IsVerdictOver, IsAnswerOf}
 use Rattle.audit_runs.proofs.AnswerLaws.{answer_on, answered_on, judged_on, unopened_unanswered, unread_spared}
+use Rattle.audit_runs.proofs.LookLaws.{looked}
 use Rattle.audit_runs.proofs.verify.answer.Goals as goal
 
 pub returns-in-Ok-clause-answered : goal.returns-in-Ok-clause-answered
@@ -24,3 +25,13 @@ returns-in-Ok-clause-spared g c told = unread_spared _ c.read_and_verify.result 
 
 pub returns-in-Err-clause-stops : goal.returns-in-Err-clause-stops
 returns-in-Err-clause-stops g c = unopened_unanswered c.in-Err.why c.in-Err.ensures.stops
+
+pub returns-in-Ok-clause-only : goal.returns-in-Ok-clause-only
+returns-in-Ok-clause-only g c told =
+    let view = g.D.Device.view in
+    looked (view c.args.dev.now) (view c.open_volume.new.dev) (c.open_volume.ensures.uses told) (c.open_volume.ensures.unwritten told)
+
+pub returns-in-Err-clause-only : goal.returns-in-Err-clause-only
+returns-in-Err-clause-only g c told =
+    let view = g.D.Device.view in
+    looked (view c.args.dev.now) (view c.open_volume.new.dev) (c.open_volume.ensures.uses told) (c.open_volume.ensures.unwritten told)

@@ -7,6 +7,7 @@ use Rattle.image_runs.proofs.Behind.{behind_said}
 use Rattle.image_runs.proofs.Opened.{spared_put, untouched_put}
 use Rattle.audit_runs.specs.Verify.{IsAnswerOf}
 use Rattle.audit_runs.proofs.AnswerLaws.{cut_from, silent_moments, told_moments, unanswered_ends, unverified}
+use Rattle.audit_runs.proofs.LookLaws.{looked_put}
 use Rattle.audit_runs.proofs.verify.verify_image.Goals as goal
 
 pub returns-in-Ok-put_all-clause-ran : goal.returns-in-Ok-put_all-clause-ran
@@ -72,3 +73,11 @@ pub returns-in-Err-put_all-clause-behind : goal.returns-in-Err-put_all-clause-be
 returns-in-Err-put_all-clause-behind g c told firm =
     let old = g.P.Device.view c.args.port.now in
     behind_said (behind (size_of_image old.reads)) _ old (g.P.Device.view c.answer.new.dev) (g.P.Device.view c.put_all.new.port) (g.met.P.Device.sound c.answer.new.dev told) (c.answer.ensures.behind told firm) (c.put_all.ensures.any_moment told)
+
+pub returns-in-Ok-put_all-clause-only : goal.returns-in-Ok-put_all-clause-only
+returns-in-Ok-put_all-clause-only g c told =
+    looked_put g.P.Device.told _ (g.P.Device.view c.args.port.now) (g.P.Device.view c.answer.new.dev) (g.P.Device.view c.put_all.new.port) c.put_all.result c.put_all.ensures (c.answer.ensures.only told)
+
+pub returns-in-Err-put_all-clause-only : goal.returns-in-Err-put_all-clause-only
+returns-in-Err-put_all-clause-only g c told =
+    looked_put g.P.Device.told _ (g.P.Device.view c.args.port.now) (g.P.Device.view c.answer.new.dev) (g.P.Device.view c.put_all.new.port) c.put_all.result c.put_all.ensures (c.answer.ensures.only told)
