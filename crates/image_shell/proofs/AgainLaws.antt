@@ -12,7 +12,7 @@ use Rattle.fs_trees.specs.declared.ask.ShellKind.{ShellKind}
 use Rattle.fs_laws.proofs.OutsideLaws.{outside_twice}
 use Rattle.fs_port.specs.Files.{FilesView}
 use Rattle.serving.specs.Runs.{Run}
-use Rattle.shell_server.specs.Shell.{AnswersByLine, ShellState, IsLeftOf, files_after, heard, shell_service, tree_under}
+use Rattle.shell_server.specs.Shell.{AnswersByLine, ShellState, IsLeftOf, files_after, heard, shell_service, tree_of, tree_under}
 use Rattle.image_shell.specs.Served.{IsFirstState}
 use Rattle.image_shell.specs.Told.{IsFoundAgain, WhatACrashLeftIsMounted}
 
@@ -49,13 +49,14 @@ module _ (f : FilesView) (start : World) (first second : ShellState) (x : Image)
   found s same left =
       let kind : s.files.kind ≡ f.kind = same.0 ∙ ap (λ (h : FilesView). h.kind) is_first.files in
       let root : s.files.root ≡ f.root = same.1 ∙ ap (λ (h : FilesView). h.root) is_first.files in
-      let here : tree_under f (world_of x) ≡ tree_under s.files s.world =
+      let here : tree_under f (world_of x) ≡ tree_of s =
       ap (λ (k : ShellKind). tree_at k (world_of x) f.root) (sym kind) ∙ ap (λ (n : ℕ). tree_at s.files.kind (world_of x) n) (sym root) ∙ ap (λ (w : World). tree_under s.files w) (sym left.stands.world) ∙ left.tree in
       let root_there : second.files.root ≡ s.files.root = ap (λ (h : FilesView). h.root) is_second.files ∙ sym root in
       record {
         tree = ap (λ (h : FilesView). tree_under h second.world) is_second.files ∙ is_second.tree ∙ here;
         mounted = ap (λ (h : FilesView). h.mounted) is_second.files ∙ ap is_there here;
-        tidy = is_second.tidy;
+        tidy = is_second.kept.tidy is_second.at_rest;
+        geometry = is_second.kept.geometry ∙ ap (λ (w : World). w.geometry) (sym left.stands.world) ∙ left.geometry;
         others = outside_twice s.files.root start (world_of x) second.world (subst (λ (w : World). OthersStay s.files.root start w) left.stands.world left.others)
             (subst (λ (n : ℕ). OthersStay n (world_of x) second.world) root_there is_second.kept.others);
       }

@@ -1,6 +1,6 @@
 -- A session begun on a core with none.
-use Rattle.std.proofs.Common.{◌≡◌, inl, inr, ℕ, Bool, true, false, List, [], ◌∷◌, refl, sym, ◌∙◌, ap, subst}
-use Rattle.std.specs.Prelude.{Option, Some, None, Ok, Err, is_some, option_map}
+use Rattle.std.proofs.Common.{◌≡◌, ◌≢◌, inl, inr, ℕ, zero, suc, ◌-◌, ◌==◌, Bool, true, false, cond, List, [], ◌∷◌, refl, sym, ◌∙◌, ap, subst, arith}
+use Rattle.std.specs.Prelude.{Option, Some, None, Ok, Err, is_some, option_map, replicate, slice_index_or}
 use Rattle.tsd_model.specs.World.{World}
 use Rattle.tsd_model.specs.Sessions.{Fits, Held, Sessions, session_begun, fitted, held_by, is_open, no_sessions}
 use Rattle.tsd_model.specs.Step.{Outcome, State, judged}
@@ -69,6 +69,37 @@ module _ (kind : PlaceKind) (s : State) (none : s.sessions ≡ no_sessions) wher
   begin_opens false e = opens_by (verdict s.world s.sessions (ask.Begin 1)) false e
   begin_opens true e = opens_by (verdict s.world s.sessions (ask.Begin 1)) true e
 
+abbrev no_held : Option Held
+no_held = None
+
+none_at : (k n : ℕ) → slice_index_or (replicate k no_held) n None ≡ None
+none_at zero n = refl
+none_at (suc k) zero = refl
+none_at (suc k) (suc n) = none_at k n
+
+open_by : (o : Option Held) (t : Bool) → o ≡ None → is_some (cond t None o) ≡ false
+open_by o true e = refl
+open_by o false e = ap is_some e
+
+-- and no other is open
+one_open : (w : World) (n : ℕ) → n ≢ 1 → is_open (session_begun w no_sessions 1) n ≡ false
+one_open w zero other = refl
+one_open w (suc zero) other = absurd (other refl)
+one_open w (suc (suc n)) other =
+    let e : suc (suc n) - 1 ≡ suc n = omega arith in
+    open_by (slice_index_or (session_begun w no_sessions 1) (suc (suc n) - 1) None) (suc (suc n) == 0) (ap (λ k. slice_index_or (session_begun w no_sessions 1) k None) e ∙ none_at 63 n)
+
+module _ (kind : PlaceKind) (s : State) (none : s.sessions ≡ no_sessions) (n : ℕ) (other : n ≢ 1) where
+  opens_one : (o : Option Rule) (want : Bool) → (by_rule kind s none o want).reply ≡ reply.Done → is_open (by_rule kind s none o want).state.sessions n ≡ false
+  opens_one (Some r) false e = absurd (no_refusal r e)
+  opens_one (Some r) true e = absurd (no_refusal r e)
+  opens_one None true e = absurd (no_memory e)
+  opens_one None false e = open_fitted s.world (session_begun s.world s.sessions 1) n ∙ ap (λ (v : Sessions). is_open (session_begun s.world v 1) n) none ∙ one_open s.world n other
+
+  begin_opens_one : (want : Bool) → (answer kind s (ask.Begin 1) want).reply ≡ reply.Done → is_open (answer kind s (ask.Begin 1) want).state.sessions n ≡ false
+  begin_opens_one false e = opens_one (verdict s.world s.sessions (ask.Begin 1)) false e
+  begin_opens_one true e = opens_one (verdict s.world s.sessions (ask.Begin 1)) true e
+
 begin_world : (kind : PlaceKind) (s : State) (want : Bool) → (answer kind s (ask.Begin 1) want).state.world ≡ s.world
 begin_world kind s want = after_answer (λ t. t.world ≡ s.world) kind s (ask.Begin 1) want refl (λ _. refl)
 
@@ -98,14 +129,15 @@ module _ (told : Type 0) (start : World) (kind : PlaceKind) (c0 c1 : Core) (v w 
       }
 
   pub begun_done : {X : Type 0} (x : X) (r : Reply) → r ≡ reply.Done → IsCoreReady c1 → (told → IsCoreAt c1 w) → (told → IsAnswer kind (state_on c0 v.reads) (ask.Begin 1) r (state_on c1 w.reads)) → IsToldAnswer kind c0 (ask.Begin 1) r c1
-      → w.faults ≡ v.faults → IsSessionBegun {X = X} told start c0 c1 v w (Ok x)
-  begun_done {X = X} x r done ready core given told_first faultless =
+      → w.faults ≡ v.faults → w.writes ≡ v.writes → IsSessionBegun {X = X} told start c0 c1 v w (Ok x)
+  begun_done {X = X} x r done ready core given told_first faultless idle =
       let s = told_state c0 in
       let told_given : IsToldAnswer kind c0 (ask.Begin 1) reply.Done c1 = subst (λ (o : Reply). IsToldAnswer kind c0 (ask.Begin 1) o c1) done told_first in
       let is : (answer kind s (ask.Begin 1) told_given.want).reply ≡ reply.Done = done_like _ told_given.reply in
       record {
         ready = ready;
         begun = ap (λ (u : Sessions). is_open u 1) told_given.sessions ∙ begin_opens kind s (ap (fitted (told_world c0)) none) told_given.want is;
+        others = λ n other. ap (λ (u : Sessions). is_open u n) told_given.sessions ∙ begin_opens_one kind s (ap (fitted (told_world c0)) none) n other told_given.want is;
         like = subst (λ (u : World). AreLike (told_world c1) u) (begin_world kind s told_given.want) told_given.world;
         at = λ t. at_next t (core t) (subst (λ (o : Reply). IsAnswer kind (state_on c0 v.reads) (ask.Begin 1) o (state_on c1 w.reads)) done (given t));
         sent = sent;
@@ -115,12 +147,14 @@ module _ (told : Type 0) (start : World) (kind : PlaceKind) (c0 c1 : Core) (v w 
         clock = works.clock;
         put_faults = works.put_faults;
         faults = (λ e. absurd (cc), λ ne. faultless);
+        idle = λ ne. idle;
       }
 
-  pub begun_not : {X : Type 0} → w.faults ≡ v.faults → IsSessionBegun {X = X} told start c0 c1 v w (Err status.NoMemory)
-  begun_not faultless = record {
+  pub begun_not : {X : Type 0} → w.faults ≡ v.faults → w.writes ≡ v.writes → IsSessionBegun {X = X} told start c0 c1 v w (Err status.NoMemory)
+  begun_not faultless idle = record {
     ready = tt;
     begun = tt;
+    others = tt;
     like = tt;
     at = λ t. tt;
     sent = sent;
@@ -130,12 +164,14 @@ module _ (told : Type 0) (start : World) (kind : PlaceKind) (c0 c1 : Core) (v w 
     clock = works.clock;
     put_faults = works.put_faults;
     faults = (λ e. absurd (cc), λ ne. faultless);
+    idle = λ ne. idle;
   }
 
   pub begun_fault : {X : Type 0} → Rose v.faults w.faults → IsSessionBegun {X = X} told start c0 c1 v w (Err status.DeviceFault)
   begun_fault rose = record {
     ready = tt;
     begun = tt;
+    others = tt;
     like = tt;
     at = λ t. tt;
     sent = sent;
@@ -145,4 +181,5 @@ module _ (told : Type 0) (start : World) (kind : PlaceKind) (c0 c1 : Core) (v w 
     clock = works.clock;
     put_faults = works.put_faults;
     faults = (λ e. rose, λ ne. absurd (ne refl));
+    idle = λ ne. absurd (ne refl);
   }

@@ -1,7 +1,7 @@
 -- A run from a core that was opened, joined from its steps.
 use Rattle.std.proofs.Common.{◌≡◌, ◌≢◌, ◌⊎◌, inl, inr, ℕ, ◌≤◌, Bool, true, false, cond, nat_lt, List, [], ◌++◌, refl, sym, ◌∙◌, ap, subst, arith, append-nil}
 use Rattle.std.proofs.lemmas.Bool.{ltb-true}
-use Rattle.std.specs.Prelude.{IsTrue, slice_get}
+use Rattle.std.specs.Prelude.{Result, Err, IsTrue, None, slice_get}
 use Rattle.tsd_model.specs.World.{World}
 use Rattle.tsd_model.specs.Records.{kept_of}
 use Rattle.tsd_model.specs.Sessions.{is_open}
@@ -27,6 +27,7 @@ use Rattle.fs_trees.specs.declared.ask.ShellKind.{ShellKind}
 use Rattle.fs_trees.specs.declared.refusal.FsRefusal.{FsRefusal}
 use Rattle.fs_trees.specs.declared.refusal.FsRefusal.TheVariants as no
 use Rattle.fs_port.specs.Files.{FilesView}
+use Rattle.serving.specs.Prompt.{Mark}
 use Rattle.serving.specs.Ran.{ByStatus, Ends, Moments, Ran, Taking}
 use Rattle.serving.specs.Runs.{IsAcknowledged, texts}
 use Rattle.serving.specs.Seen.{AreSeen, IsSeenRun}
@@ -35,9 +36,9 @@ use Rattle.tsd_core.specs.Core.{Core, sessions_of, told_world}
 use Rattle.tsd_core.specs.Core.{IsCoreAt}
 use Rattle.tsd_core.proofs.AtLaws.{at_volume, like_at}
 use Rattle.shell_server.specs.Lines.{shell_spelling}
-use Rattle.shell_server.specs.Shell.{ShellState, IsLeftOf, shell_service, shell_work, tree_under, unmounted}
+use Rattle.shell_server.specs.Shell.{ShellState, IsLeftOf, resting, shell_service, shell_work, tree_by, tree_under, unmounted}
 use Rattle.shell_server.specs.Kept.{IsClient, shell_state}
-use Rattle.image_shell.specs.Served.{IsFirstState, IsNotServed, level_at}
+use Rattle.image_shell.specs.Served.{IsPromptShell, IsFirstState, IsNotServed, IsOpeningAlone, level_at}
 use Rattle.image_shell.specs.FromCore.{EndsFrom, IsAdmitted, IsAsAtStart, IsAtStart, IsLetIn, NoAskServedFrom, RanFrom, is_below_write, is_device}
 
 pub not_device : (e : FsRefusal) (b : Bool) → b ≡ is_device e → b ≡ false → e ≢ no.Device
@@ -77,7 +78,7 @@ pub allowed_by : (root : ℕ) (cap : Cap) (start : World) (r : Status) → IsLet
 allowed_by root cap start (status.RootDenied attained) in_here is = absurd in_here
 allowed_by root cap start (status.NotImage why) in_here is = absurd in_here
 allowed_by root cap start status.DeviceFault in_here is = tt
-allowed_by root cap start status.NoMemory in_here is = tt
+allowed_by root cap start status.NoMemory in_here is = absurd in_here
 allowed_by root cap start status.Done in_here is = is
 allowed_by root cap start status.Usage in_here is = is
 allowed_by root cap start status.SourceFault in_here is = is
@@ -103,12 +104,13 @@ first_moment start s before qs x f left e = inl (
   left,
 )
 
-left_first : (f : FilesView) (start : World) (s : ShellState) → IsFirstState f start s → (x : Image) → IsLeftOf start (record { files = f; world = start }) x → IsLeftOf start s x
+left_first : (f : FilesView) (start : World) (s : ShellState) → IsFirstState f start s → (x : Image) → IsLeftOf start (resting f start) x → IsLeftOf start s x
 left_first f start s first x left = record {
   world = left.world;
   stands = left.stands;
   valid = left.valid;
-  tree = subst (λ (h : FilesView). tree_under h left.world ≡ tree_under h s.world) (sym first.files) (left.tree ∙ sym first.tree);
+  geometry = left.geometry;
+  tree = subst (λ (h : FilesView). tree_under h left.world ≡ tree_under h s.world) (sym first.files) (left.tree ∙ sym first.tree) ∙ sym (ap (tree_by s.files s.world) first.at_rest);
   others = subst (λ (h : FilesView). OthersStay h.root start left.world) (sym first.files) left.others;
 }
 
@@ -116,8 +118,8 @@ pub stays_put : (root : ℕ) (w : World) → OthersStay root w w
 stays_put root w = record { records = refl; bytes = λ b live away. refl; pairs = λ a b live away. refl; apart = λ b live away. away }
 
 -- an image of the world at the start is one that may be left of it
-pub left_at_start : (f : FilesView) (start : World) → IsValid start → (x : Image) → Stands x start → IsLeftOf start (record { files = f; world = start }) x
-left_at_start f start valid x stands = record { world = start; stands = stands; valid = valid; tree = refl; others = stays_put f.root start }
+pub left_at_start : (f : FilesView) (start : World) → IsValid start → (x : Image) → Stands x start → IsLeftOf start (resting f start) x
+left_at_start f start valid x stands = record { world = start; stands = stands; valid = valid; geometry = refl; tree = refl; others = stays_put f.root start }
 
 -- states that were seen, with other bytes sent before that are the same
 abbrev pub seen_before : {Q : Type 0} (k : Service Q) (left : Image → List ℕ → Type 0) (s : k.States) (one other : List ℕ) (qs : List Q) (now : List ℕ) → one ≡ other → IsSeenRun k left s one qs now → IsSeenRun k left s other qs now
@@ -141,13 +143,13 @@ done_or_fault r e f = cc
 -- ---- mounting before the loop
 
 module _ (r : Status) (f g : FilesView) (kind : ShellKind) (limit : ℕ) (source : Taking) (told later_same same : Type 0) (start : World) (c : Core) (v m new : View) (due : ℕ)
-    (valid : told → IsValid start) (sent : told → m.sent ≡ v.sent) (any : told → LeavesOnly v m (λ x h. IsLeftOf start (record { files = f; world = start }) x × (h ≡ v.sent))) (clock : v.clock ≤ m.clock)
+    (valid : told → IsValid start) (sent : told → m.sent ≡ v.sent) (any : told → LeavesOnly v m (λ x h. IsLeftOf start (resting f start) x × (h ≡ v.sent))) (clock : v.clock ≤ m.clock)
     (first : told → IsFirstState f start (shell_state g m.reads)) (at : r ≢ status.DeviceFault → told → IsCoreAt c new) (closed : r ≡ status.Done → told → IsQuiet new.reads) where
   abbrev one : ShellState
   one = shell_state g m.reads
 
-  ends_mounted : (t : told) (final : ShellState) (asked : List ShellAsk) → final.world ≡ world_of new.reads → Ends r (shell_service start) shell_work one final due m new asked → EndsFrom r f start v new asked
-  ends_mounted t final asked last ends =
+  ends_mounted : (t : told) (final : ShellState) (asked : List ShellAsk) → final.world ≡ world_of new.reads → final.under_way ≡ None → Ends r (shell_service start) shell_work one final due m new asked → EndsFrom r f start v new asked
+  ends_mounted t final asked last still ends =
       let k = shell_service start in
       let later : (n : ℕ) → n ≤ v.clock → n ≤ m.clock = λ n le. omega (arith, le, clock) in
       record {
@@ -155,9 +157,10 @@ module _ (r : Status) (f g : FilesView) (kind : ShellKind) (limit : ℕ) (source
         is_first = first t;
         at_start = λ x stands. left_first f start one (first t) x (left_at_start f start (valid t) x stands);
         final = final;
+        at_rest = still;
         sent = subst (λ (b : List ℕ). ByStatus r k one b asked final new.sent) (sent t) ends.sent;
         any_moment = joined v m new (IsAcknowledged k one v.sent asked) (IsAcknowledged k one v.sent asked)
-            (weakened v m (λ x h. IsLeftOf start (record { files = f; world = start }) x × (h ≡ v.sent)) (IsAcknowledged k one v.sent asked) (any t)
+            (weakened v m (λ x h. IsLeftOf start (resting f start) x × (h ≡ v.sent)) (IsAcknowledged k one v.sent asked) (any t)
             (λ x h left. first_moment start one v.sent asked x h (left_first f start one (first t) x left.0) left.1))
             (subst (λ (b : List ℕ). LeavesOnly m new (IsAcknowledged k one b asked)) (sent t) ends.any_moment) (λ x h acked. acked);
         seen = λ n le. seen_before k (new.left n) one m.sent v.sent asked new.sent (sent t) (ends.seen n (later n le));
@@ -167,12 +170,12 @@ module _ (r : Status) (f g : FilesView) (kind : ShellKind) (limit : ℕ) (source
             record { firm = here.0; stands = record { good = here.1.good; world = last }; quiet = closed e t };
       }
 
-  pub ran_mounted : (ran : (final : ShellState) × Ran r (shell_service start) shell_work (shell_spelling kind) one final limit source due (record { tells = told; untouched = later_same; old = m; new = new }) × (final.world ≡ world_of new.reads)) → RanFrom r f kind limit source start (record { tells = told; untouched = same; old = v; new = new })
+  pub ran_mounted : (ran : (final : ShellState) × Ran r (shell_service start) shell_work (shell_spelling kind) one final limit source due (record { tells = told; untouched = later_same; old = m; new = new }) × (final.world ≡ world_of new.reads) × (final.under_way ≡ None)) → RanFrom r f kind limit source start (record { tells = told; untouched = same; old = v; new = new })
   ran_mounted ran = record {
     bytes = ran.1.bytes;
     came_in = ran.1.came_in;
     asked = ran.1.asked;
-    these = inr (ran.1.these, λ t. ends_mounted t ran.0 ran.1.asked ran.2 (ran.1.ends t));
+    these = inr (ran.1.these, λ t. ends_mounted t ran.0 ran.1.asked ran.2 ran.3 (ran.1.ends t));
   }
 
 -- ---- a session begun before that
@@ -194,6 +197,7 @@ module _ (r : Status) (f : FilesView) (kind : ShellKind) (limit : ℕ) (source :
         is_first = ends.is_first;
         at_start = ends.at_start;
         final = ends.final;
+        at_rest = ends.at_rest;
         sent = subst (λ (b : List ℕ). ByStatus r k ends.first b asked ends.final new.sent) (sent t) ends.sent;
         any_moment = joined v m new (IsAcknowledged k ends.first v.sent asked) (IsAcknowledged k ends.first v.sent asked)
             (weakened v m (λ x h. Stands x start × (h ≡ v.sent)) (IsAcknowledged k ends.first v.sent asked) (any t)
@@ -237,3 +241,25 @@ not_served r (inr e) = subst IsNotServed (sym e) tt
 pub allowed_stopped : (root : ℕ) (cap : Cap) (start : World) (r : Status) → (r ≡ status.DeviceFault) ⊎ (r ≡ status.NoMemory) → IsAdmitted root cap start r
 allowed_stopped root cap start r (inl e) = subst (IsAdmitted root cap start) (sym e) tt
 allowed_stopped root cap start r (inr e) = subst (IsAdmitted root cap start) (sym e) tt
+
+-- ---- how much was done
+
+pub opened_or_let_in : (r : Status) → IsOpeningAlone r → IsLetIn r → ⊥
+opened_or_let_in (status.NotImage why) alone in_here = in_here
+opened_or_let_in (status.RootDenied attained) alone in_here = in_here
+opened_or_let_in status.NoMemory alone in_here = in_here
+opened_or_let_in status.Done alone in_here = alone
+opened_or_let_in status.Usage alone in_here = alone
+opened_or_let_in status.DeviceFault alone in_here = alone
+opened_or_let_in status.SourceFault alone in_here = alone
+opened_or_let_in status.PutFault alone in_here = alone
+opened_or_let_in status.TooLong alone in_here = alone
+opened_or_let_in status.Truncated alone in_here = alone
+
+-- the device didn't fail
+pub alone_no_fault : {X : Type 0} (r : Status) → IsOpeningAlone r → (result : Result X Status) → result ≡ Err r → result ≢ Err status.DeviceFault
+alone_no_fault r alone result is e = let both : Err r ≡ result = sym is in let same : r ≡ status.DeviceFault = cc in subst IsOpeningAlone same alone
+
+-- from an earlier moment at which as much was sent
+pub prompt_earlier : (r : Status) (f : FilesView) (port : Mark → Type 0) (start : World) (before earlier : List ℕ) (new : Mark) → before ≡ earlier → IsPromptShell r f port start before new → IsPromptShell r f port start earlier new
+prompt_earlier r f port start before earlier new same prompt = subst (λ (b : List ℕ). IsPromptShell r f port start b new) same prompt

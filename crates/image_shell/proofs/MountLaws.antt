@@ -1,5 +1,5 @@
 -- The tree mounted on the disk, where one is there.
-use Rattle.std.proofs.Common.{◌≡◌, inl, inr, ℕ, Bool, true, false, List, sym, ◌∙◌, ap, subst, arith}
+use Rattle.std.proofs.Common.{◌≡◌, inl, inr, ℕ, Bool, true, false, List, refl, sym, ap, subst, arith}
 use Rattle.std.specs.Prelude.{Result, Ok, Err, IsTrue, MatchResult}
 use Rattle.tsd_model.specs.World.{World}
 use Rattle.tsd_model.specs.declared.requests.PlaceKind.{PlaceKind}
@@ -9,25 +9,22 @@ use Rattle.image_device.proofs.Moments.{weakened}
 use Rattle.image_layout.specs.Image.{Image}
 use Rattle.image_world.specs.Stands.{world_of}
 use Rattle.fs_trees.specs.Tree.{Tree, is_there}
-use Rattle.fs_trees.specs.Layouts.{tree_at}
+use Rattle.fs_trees.specs.Layouts.{tree_at, IsTidy}
 use Rattle.fs_trees.specs.declared.refusal.FsRefusal.{FsRefusal}
 use Rattle.fs_port.specs.View.{DiskView}
 use Rattle.fs_port.specs.Calls.{IsValidNow, Stays}
-use Rattle.fs_port.specs.Files.{FilesView, IsTreeAlone, LeavesTidyWorld, OnAnswer, mounted_now, unmounted_now}
+use Rattle.fs_port.specs.Files.{FilesView, IsTreeAlone, LeavesTidyWorld, OnAnswer, OnlyDeletes, mounted_now, unmounted_now}
 use Rattle.fs_port.specs.Runs.{FindsTree, Runs}
-use Rattle.tsd_core.specs.Core.{Core, IsCoreAt, IsCoreReady}
+use Rattle.tsd_core.specs.Core.{Core, FitsReads, IsCoreAt, IsCoreReady}
 use Rattle.core_blocks.specs.Behind.{KeepsBehind}
 use Rattle.core_blocks.specs.CoreView.{core_view}
 use Rattle.core_blocks.proofs.ImageLaws.{IsImageOf, images_left}
 use Rattle.serving.specs.Handling.{FitsDevice}
-use Rattle.shell_server.specs.Shell.{IsKeptSince, IsLeftOf, tree_under}
+use Rattle.shell_server.specs.Shell.{IsKeptSince, IsLeftOf, resting, tree_under}
 use Rattle.shell_server.specs.Kept.{AreReady, IsClient, FitsShell, shell_state}
 use Rattle.image_shell.specs.Served.{IsFirstState}
 use Rattle.image_shell.specs.FromCore.{IsMounted}
-use Rattle.shell_server.proofs.KeptLaws.{client_still}
-
-there_or_not : {b : Bool} → IsTrue b → b ≡ false → ⊥
-there_or_not is not = let both : true ≡ false = sym is ∙ not in cc
+use Rattle.shell_server.proofs.KeptLaws.{client_still, size_stays}
 
 module _ (start : World) (f g : FilesView) (l m : ℕ × ℕ) (kind placement : PlaceKind) (c0 c1 : Core) (v w : DeviceView) where
   abbrev old : DiskView
@@ -43,23 +40,27 @@ module _ (start : World) (f g : FilesView) (l m : ℕ × ℕ) (kind placement : 
   client_so : (b : Bool) → IsClient f c1 → IsClient (record f { mounted = b }) c1
   client_so b k = record { number = k.number; begun = k.begun; primary = k.primary; attains = k.attains }
 
-  left_of : (x : Image) (h : List ℕ) → IsImageOf (IsTreeAlone f old) v.sent x h → IsLeftOf (world_of v.reads) (record { files = f; world = world_of v.reads }) x × (h ≡ v.sent)
-  left_of x h left = (record { world = left.0; stands = left.1; valid = left.2.1.valid; tree = left.2.0; others = left.2.1.others }, left.3)
+  left_of : (x : Image) (h : List ℕ) → IsImageOf (IsTreeAlone f old) v.sent x h → IsLeftOf (world_of v.reads) (resting f (world_of v.reads)) x × (h ≡ v.sent)
+  left_of x h left = (record { world = left.0; stands = left.1; valid = left.2.1.valid; geometry = left.2.1.geometry; tree = left.2.0; others = left.2.1.others }, left.3)
 
-  kept_now : LeavesTidyWorld f old new → IsValidNow new → (b : Bool) → IsKeptSince (world_of v.reads) (shell_state (record f { mounted = b }) w.reads)
-  kept_now left good b = record { valid = good.valid; others = left.others }
+  kept_now : LeavesTidyWorld f old new → IsValidNow new → (world_of w.reads).geometry ≡ (world_of v.reads).geometry → (b : Bool) → (b ≡ true → IsTidy f.kind (world_of w.reads) f.root)
+      → IsKeptSince (world_of v.reads) (shell_state (record f { mounted = b }) w.reads)
+  kept_now left good size b tidy = record { valid = good.valid; geometry = size; others = left.others; tidy = λ still mounted. tidy mounted }
+
+  deletes_none : (u : World) → u ≡ world_of v.reads → OnlyDeletes f (world_of v.reads) u
+  deletes_none u same = subst (λ (x : World). OnlyDeletes f (world_of v.reads) x) (sym same) (record { pairs = λ a b h. h; bytes = λ b live. refl; named = refl; none = λ gone. refl })
 
   module _ (told : Type 0) (here : told → world_of v.reads ≡ start) where
-    pub mounted_by : {X : Type 0} (result : Result X FsRefusal) → AreReady f c0 → (c1.volume.is_spent ≡ false → IsCoreReady c1) → (told → c1.volume.is_spent ≡ false → IsCoreAt c1 w)
+    pub mounted_by : {X : Type 0} (result : Result X FsRefusal) → AreReady f c0 → (told → FitsReads c0 v.reads) → (c1.volume.is_spent ≡ false → IsCoreReady c1) → (told → c1.volume.is_spent ≡ false → IsCoreAt c1 w)
         → (told → FindsTree f old new result) → Runs told old new (IsTreeAlone f old) result → MatchResult result (λ x. g ≡ mounted_now f) (λ e. g ≡ unmounted_now f)
         → KeepsBehind told c0 c1 v w → IsMounted told start f g c0 c1 v w result
-    mounted_by {X = X} result ready core_ready core_at finds runs mounted aside = record {
+    mounted_by {X = X} result ready fits core_ready core_at finds runs mounted aside = record {
       ready = ready_by result runs.stays runs.unspent mounted;
       at = λ t. subst (λ (u : World). OnAnswer result (FitsDevice (FitsShell u g c1) w)) (here t) (at_by t result (finds t) (runs.valid t) mounted runs.unspent);
-      first = λ t. subst (λ (u : World). OnAnswer result (IsFirstState f u (shell_state g w.reads))) (here t) (first_by result (finds t) (runs.valid t) mounted);
+      first = λ t. subst (λ (u : World). OnAnswer result (IsFirstState f u (shell_state g w.reads))) (here t) (first_by t result (finds t) (runs.valid t) mounted);
       sent = λ t. (runs.crash t).sent;
-      any_moment = λ t. subst (λ (u : World). LeavesOnly v w (λ x h. IsLeftOf u (record { files = f; world = u }) x × (h ≡ v.sent))) (here t)
-          (weakened v w (IsImageOf (IsTreeAlone f old) v.sent) (λ x h. IsLeftOf (world_of v.reads) (record { files = f; world = world_of v.reads }) x × (h ≡ v.sent)) (images_left l m kind placement c0 c1 v w (IsTreeAlone f old) (runs.crash t)) left_of);
+      any_moment = λ t. subst (λ (u : World). LeavesOnly v w (λ x h. IsLeftOf u (resting f u) x × (h ≡ v.sent))) (here t)
+          (weakened v w (IsImageOf (IsTreeAlone f old) v.sent) (λ x h. IsLeftOf (world_of v.reads) (resting f (world_of v.reads)) x × (h ≡ v.sent)) (images_left l m kind placement c0 c1 v w (IsTreeAlone f old) (runs.crash t)) left_of);
       behind = aside;
       clock = omega (arith, runs.counts.clock);
       put_faults = runs.counts.put_faults;
@@ -67,6 +68,9 @@ module _ (start : World) (f g : FilesView) (l m : ℕ × ℕ) (kind placement : 
       cause = runs.cause;
     }
       where
+        size : (t : told) → new.spent ≡ false → (world_of w.reads).geometry ≡ (world_of v.reads).geometry
+        size t fine = size_stays c0 c1 v.reads w.reads (fits t) (core_at t fine).1 aside.size
+
         ready_by : (r : Result X FsRefusal) → OnAnswer r (Stays old new) → OnAnswer r (new.spent ≡ false) → MatchResult r (λ x. g ≡ mounted_now f) (λ e. g ≡ unmounted_now f) → OnAnswer r (AreReady g c1)
         ready_by (Ok x) s u on = (subst (λ (h : FilesView). AreReady h c1) (sym on) (record { core = core_ready u.0; client = client_so true (client_still f l m kind placement c0 c1 v w s.0 runs.counts ready.client) }), tt)
         ready_by (Err e) s u off = (tt, λ other. subst (λ (h : FilesView). AreReady h c1) (sym off) (record { core = core_ready (u.1 other); client = client_so false (client_still f l m kind placement c0 c1 v w (s.1 other) runs.counts ready.client) }))
@@ -78,8 +82,7 @@ module _ (start : World) (f g : FilesView) (l m : ℕ × ℕ) (kind placement : 
             (core_at t u.0).0,
             subst (λ (h : FilesView). FitsShell (world_of v.reads) h c1 w.reads) (sym on) (record {
               core = (core_at t u.0).1;
-              kept = kept_now mount.world.0 good.0 true;
-              tidy = λ so. mount.tidy;
+              kept = kept_now mount.world.0 good.0 (size t u.0) true (λ so. mount.tidy);
               fits = good.0.fits;
               there = λ so. subst (λ (y : Tree). IsTrue (is_there y)) (sym mount.tree) mount.there;
             }),
@@ -92,37 +95,36 @@ module _ (start : World) (f g : FilesView) (l m : ℕ × ℕ) (kind placement : 
             (core_at t (u.1 other)).0,
             subst (λ (h : FilesView). FitsShell (world_of v.reads) h c1 w.reads) (sym off) (record {
               core = (core_at t (u.1 other)).1;
-              kept = kept_now (mount.world.1 other) (good.1 other) false;
-              tidy = λ so. absurd (cc);
+              kept = kept_now (mount.world.1 other) (good.1 other) (size t (u.1 other)) false (λ so. absurd (cc));
               fits = (good.1 other).fits;
               there = λ so. absurd (cc);
             }),
           ),
         )
 
-        first_by : (r : Result X FsRefusal) → FindsTree f old new r → OnAnswer r (IsValidNow new) → MatchResult r (λ x. g ≡ mounted_now f) (λ e. g ≡ unmounted_now f) → OnAnswer r (IsFirstState f (world_of v.reads) (shell_state g w.reads))
-        first_by (Ok x) mount good on = (
+        first_by : told → (r : Result X FsRefusal) → FindsTree f old new r → OnAnswer r (IsValidNow new) → MatchResult r (λ x. g ≡ mounted_now f) (λ e. g ≡ unmounted_now f) → OnAnswer r (IsFirstState f (world_of v.reads) (shell_state g w.reads))
+        first_by t (Ok x) mount good on = (
           subst (λ (h : FilesView). IsFirstState f (world_of v.reads) (shell_state h w.reads)) (sym on) (record {
+            at_rest = refl;
             files = ap (λ b. record f { mounted = b }) (sym mount.there);
             tree = mount.tree;
-            same = λ gone. absurd (there_or_not mount.there gone);
-            kept = kept_now mount.world.0 good.0 true;
-            tidy = λ so. mount.tidy;
+            deletes = mount.deletes;
+            kept = kept_now mount.world.0 good.0 (size t mount.world.0.unspent) true (λ so. mount.tidy);
           }),
           tt,
         )
-        first_by (Err e) mount good off = (
+        first_by t (Err e) mount good off = (
           tt,
           λ other. elim mount.only [
             | inr device ↦ absurd (other device)
             | inl not ↦
                 let gone = mount.not_there not in
                 subst (λ (h : FilesView). IsFirstState f (world_of v.reads) (shell_state h w.reads)) (sym off) (record {
+                  at_rest = refl;
                   files = ap (λ (y : Tree). record f { mounted = is_there y }) (sym gone.0);
                   tree = ap (λ (u : World). tree_under f u) gone.1;
-                  same = λ so. gone.1;
-                  kept = kept_now (mount.world.1 other) (good.1 other) false;
-                  tidy = λ so. absurd (cc);
+                  deletes = deletes_none (world_of w.reads) gone.1;
+                  kept = kept_now (mount.world.1 other) (good.1 other) (ap (λ (u : World). u.geometry) gone.1) false (λ so. absurd (cc));
                 })
           ],
         )

@@ -21,17 +21,14 @@ use Rattle.tsd_words.specs.declared.status.Status.TheVariants as status
 use Rattle.fs_trees.specs.declared.ask.ShellAsk.{ShellAsk}
 use Rattle.fs_trees.specs.declared.ask.ShellKind.{ShellKind}
 use Rattle.fs_port.specs.Files.{FilesView}
-use Rattle.serving.specs.Handling.{FitsDevice}
 use Rattle.serving.specs.Ran.{ByStatus, Moments, Taking}
 use Rattle.serving.specs.Runs.{IsAcknowledged}
 use Rattle.tsd_core.specs.Core.{Core, state_on, told_world}
 use Rattle.tsd_core.specs.Core.{IsCoreAt}
-use Rattle.shell_server.specs.Shell.{IsLeftOf, shell_service, unmounted}
-use Rattle.shell_server.specs.Kept.{FitsShell}
-use Rattle.image_shell.specs.Loop.{MayServe}
+use Rattle.shell_server.specs.Shell.{IsLeftOf, resting, shell_service, unmounted}
 use Rattle.image_shell.specs.Served.{IsAsItWas, IsRootDenied, IsNotServed, IsShellJudged, NoAskServed, ShellEnds, ShellRan, level_at}
 use Rattle.image_shell.specs.FromCore.{EndsFrom, IsAdmitted, IsAsAtStart, IsAtStart, NoAskServedFrom, RanFrom}
-use Rattle.image_shell.proofs.FromLaws.{first_moment, seen_before, stays_put}
+use Rattle.image_shell.proofs.FromLaws.{first_moment, seen_before}
 
 -- ---- an image that was opened
 
@@ -68,16 +65,9 @@ admitted_image root cap start status.NoMemory may h = h
 admitted_image root cap start status.Truncated may h = h
 admitted_image root cap start (status.RootDenied attained) may h = h
 
--- a core at a device may serve from the world as it is
-pub serves_here : (f : FilesView) (c : Core) (v : View) → MayServe f c v → FitsDevice (FitsShell (world_of v.reads) f c) v
-serves_here f c v may = (
-  may.core.0,
-  record { core = may.core.1; kept = record { valid = may.valid; others = stays_put f.root (world_of v.reads) }; tidy = may.tidy; fits = may.fits; there = may.there },
-)
-
 -- ---- one that wasn't
 
-not_served_by : (r : Status) → IsUnopened r → IsNotServed r
+pub not_served_by : (r : Status) → IsUnopened r → IsNotServed r
 not_served_by (status.NotImage why) h = tt
 not_served_by status.DeviceFault h = tt
 not_served_by status.NoMemory h = tt
@@ -142,7 +132,7 @@ module _ (r : Status) (kind : ShellKind) (root : ℕ) (cap : Cap) (limit : ℕ) 
 
   as_it_was : told → (x : Image) → IsAsAtStart r files start x → IsAsItWas r files old.reads x
   as_it_was t x (inl stands) = inl (alike_of old.reads x (good t) (subst (λ (w : World). Stands x w) (is t) stands))
-  as_it_was t x (inr left) = inr (left.0, subst (λ (w : World). IsLeftOf w (record { files = files; world = w }) x) (is t) left.1)
+  as_it_was t x (inr left) = inr (left.0, good t, subst (λ (w : World). IsLeftOf w (resting files w) x) (is t) left.1)
 
   none_from : (asked : List ShellAsk) → NoAskServedFrom r files source start later asked → NoAskServed r files source all asked
   none_from asked none = record {
@@ -159,9 +149,11 @@ module _ (r : Status) (kind : ShellKind) (root : ℕ) (cap : Cap) (limit : ℕ) 
   ends_from t asked ends =
       let k = shell_service (world_of old.reads) in
       record {
+        good = good t;
         first = ends.first;
         is_first = ends.is_first;
         final = ends.final;
+        at_rest = ends.at_rest;
         sent = subst (λ (b : List ℕ). ByStatus r k ends.first b asked ends.final new.sent) (sent t) ends.sent;
         any_moment = λ firm. joined old mid new (IsAcknowledged k ends.first old.sent asked) (IsAcknowledged k ends.first old.sent asked)
             (weakened old mid (λ x s. StandAlike old.reads x × (s ≡ old.sent)) (IsAcknowledged k ends.first old.sent asked) (any t firm)

@@ -1,5 +1,6 @@
 -- A run of the shell from a core that was opened, by its steps: the level, the session, mounting, and the loop.
-use Rattle.std.specs.Prelude.{◌≡◌, ◌≢◌, ◌⊎◌, ℕ, ◌≤◌, Bool, true, false, List, [], Result, OnOk, IfErr, IsTrue, ⊤}
+use Rattle.std.specs.Prelude.{◌≡◌, ◌≢◌, ◌⊎◌, ℕ, ◌≤◌, Bool, true, false, List, [], Result}
+use Rattle.std.specs.Prelude.{Err, OnOk, IfErr, IsTrue, None, ⊤}
 use Rattle.tsd_model.specs.World.{World}
 use Rattle.tsd_model.specs.Sessions.{Fits, is_open}
 use Rattle.tsd_model.specs.Valid.{IsValid}
@@ -27,7 +28,7 @@ use Rattle.tsd_core.specs.Core.{Core, IsCoreAt, IsCoreReady, sessions_of, told_w
 use Rattle.core_blocks.specs.Behind.{KeepsBehind}
 use Rattle.image_runs.specs.Served.{IsAtEase}
 use Rattle.shell_server.specs.Lines.{shell_spelling}
-use Rattle.shell_server.specs.Shell.{ShellState, IsLeftOf, shell_service}
+use Rattle.shell_server.specs.Shell.{ShellState, IsLeftOf, resting, shell_service}
 use Rattle.shell_server.specs.Kept.{AreReady, FitsShell, shell_state}
 use Rattle.image_shell.specs.Served.{IsRootDenied, IsFirstState, IsNotServed, level_at}
 
@@ -40,11 +41,12 @@ pub record IsAtStart (start : World) (c : Core) (v : View) : Type 0 where
   pub valid : IsValid start
   pub fits : Fits start (sessions_of c)
 
--- Session 1 was begun. The world stays.
+-- Session 1 was begun, and no other is open. The world stays, and the device wasn't called unless it failed.
 pub record IsSessionBegun {X : Type 0} (told : Type 0) (start : World) (c0 c1 : Core) (v w : View)
     (result : Result X Status) : Type 0 where
   pub ready : OnOk result (IsCoreReady c1)
   pub begun : OnOk result (IsTrue (is_open (sessions_of c1) 1))
+  pub others : OnOk result ((s : ℕ) → s ≢ 1 → is_open (sessions_of c1) s ≡ false)
   pub like : OnOk result (AreLike (told_world c1) (told_world c0))
   pub at : told → OnOk result (IsAtStart start c1 w)
   pub sent : told → w.sent ≡ v.sent
@@ -54,6 +56,7 @@ pub record IsSessionBegun {X : Type 0} (told : Type 0) (start : World) (c0 c1 : 
   pub clock : v.clock ≤ w.clock
   pub put_faults : w.put_faults ≡ v.put_faults
   pub faults : CountsFaultOf status.DeviceFault result v.faults w.faults
+  pub idle : result ≢ Err status.DeviceFault → w.writes ≡ v.writes
 
 -- A tree was mounted where one is there. The core may be used but after Device.
 pub record IsMounted {X : Type 0} (told : Type 0) (start : World) (f0 f1 : FilesView) (c0 c1 : Core) (v w : View)
@@ -62,7 +65,7 @@ pub record IsMounted {X : Type 0} (told : Type 0) (start : World) (f0 f1 : Files
   pub at : told → OnAnswer result (FitsDevice (FitsShell start f1 c1) w)
   pub first : told → OnAnswer result (IsFirstState f0 start (shell_state f1 w.reads))
   pub sent : told → w.sent ≡ v.sent
-  pub any_moment : told → LeavesOnly v w (λ x f. IsLeftOf start (record { files = f0; world = start }) x × (f ≡ v.sent))
+  pub any_moment : told → LeavesOnly v w (λ x f. IsLeftOf start (resting f0 start) x × (f ≡ v.sent))
   pub behind : KeepsBehind told c0 c1 v w
   pub clock : v.clock ≤ w.clock
   pub put_faults : w.put_faults ≡ v.put_faults
@@ -89,16 +92,17 @@ IsAdmitted root cap start status.DeviceFault = ⊤
 IsAdmitted root cap start status.NoMemory = ⊤
 IsAdmitted root cap start r = level_at start root cap ≡ level.Write
 
--- it was let in
+-- it was let in, and the session was begun
 abbrev pub IsLetIn : Status → Type 0
 IsLetIn (status.RootDenied attained) = ⊥
 IsLetIn (status.NotImage why) = ⊥
+IsLetIn status.NoMemory = ⊥
 IsLetIn r = ⊤
 
 -- the image stands for the world at the start, or where the device failed, for one that mounting may leave of it
 abbrev pub IsAsAtStart : Status → FilesView → World → Image → Type 0
 IsAsAtStart r f start x = Stands x start ⊎ ((r ≡ status.DeviceFault)
-    × IsLeftOf start (record { files = f; world = start }) x)
+    × IsLeftOf start (resting f start) x)
 
 -- No ask was served.
 pub record NoAskServedFrom (r : Status) (f : FilesView) (source : Taking) (start : World) (port : Moments)
@@ -116,6 +120,7 @@ pub record EndsFrom (r : Status) (f : FilesView) (start : World) (old new : View
   -- an image of the world at the start is one of the first state
   pub at_start : (x : Image) → Stands x start → IsLeftOf start first x
   pub final : ShellState
+  pub at_rest : final.under_way ≡ None
   pub sent : ByStatus r (shell_service start) first old.sent asked final new.sent
   pub any_moment : LeavesOnly old new (IsAcknowledged (shell_service start) first old.sent asked)
   pub seen : (t : ℕ) → t ≤ old.clock → IsSeenRun (shell_service start) (new.left t) first old.sent asked new.sent

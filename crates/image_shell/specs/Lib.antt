@@ -1,4 +1,3 @@
 pub mod Served
 pub mod FromCore
 pub mod Told
-pub mod Loop

@@ -1,5 +1,5 @@
 -- What one run of the shell over an image did, from its start to its end.
-use Rattle.std.specs.Prelude.{◌≡◌, ◌≢◌, ◌⊎◌, ℕ, cond, false, nat_lt, List, [], slice_get, ⊤}
+use Rattle.std.specs.Prelude.{◌≡◌, ◌≢◌, ◌⊎◌, ℕ, ◌+◌, ◌≤◌, cond, nat_lt, List, [], None, slice_get, ⊤}
 use Rattle.tsd_model.specs.World.{World}
 use Rattle.tsd_model.specs.Records.{kept_of}
 use Rattle.tsd_model.specs.Attained.{record_level}
@@ -11,20 +11,23 @@ use Rattle.image_device.specs.Runs.{IsFirm, LeavesOnly}
 use Rattle.image_layout.specs.Image.{Image}
 use Rattle.image_world.specs.Faults.{IsGood}
 use Rattle.image_world.specs.Stands.{world_of}
-use Rattle.recovery.specs.Opening.{StandAlike}
+use Rattle.recovery.specs.Opening.{StandAlike, opening_writes}
+use Rattle.volume_laws.specs.Quiet.{IsQuiet}
 use Rattle.tsd_words.specs.declared.status.Status.{Status}
 use Rattle.tsd_words.specs.declared.status.Status.TheVariants as status
 use Rattle.fs_trees.specs.Tree.{is_there}
 use Rattle.fs_trees.specs.declared.ask.ShellAsk.{ShellAsk}
 use Rattle.fs_trees.specs.declared.ask.ShellKind.{ShellKind}
-use Rattle.fs_port.specs.Files.{FilesView}
+use Rattle.fs_port.specs.Files.{FilesView, OnlyDeletes}
+use Rattle.serving.specs.Prompt.{Mark, Promptly}
 use Rattle.serving.specs.Ran.{AskedBy, ByStatus, Moments, Taking}
 use Rattle.serving.specs.Runs.{IsAcknowledged}
 use Rattle.serving.specs.Seen.{IsSeenRun}
 use Rattle.image_runs.specs.Opened.{IsJudged}
 use Rattle.image_runs.specs.Served.{IsAtEase}
 use Rattle.shell_server.specs.Lines.{shell_spelling}
-use Rattle.shell_server.specs.Shell.{ShellState, IsKeptSince, IsLeftOf, IsTidyIn, shell_service, tree_under, unmounted}
+use Rattle.shell_server.specs.Shell.{ShellState, IsKeptSince, IsLeftOf, resting, shell_service, shell_work}
+use Rattle.shell_server.specs.Shell.{tree_under, unmounted}
 
 -- ---- who may come in
 
@@ -50,13 +53,14 @@ IsShellJudged root cap image r = IsGood image × (level_at (world_of image) root
 -- ---- where the run begins
 
 -- The tree of the world at the start is mounted where one is there: the world has the same tree, what the root doesn't
--- reach is as it was, and it is tidy. Where none is there, nothing is mounted, and the world is as it was.
+-- reach is as it was, and it is tidy. Pairs were deleted alone, with what they held, and nothing moved. Where none is
+-- there, nothing is mounted, and the world is as it was.
 pub record IsFirstState (f : FilesView) (w : World) (s : ShellState) : Type 0 where
+  pub at_rest : s.under_way ≡ None
   pub files : s.files ≡ record f { mounted = is_there (tree_under f w) }
   pub tree : tree_under f s.world ≡ tree_under f w
-  pub same : is_there (tree_under f w) ≡ false → s.world ≡ w
+  pub deletes : OnlyDeletes f w s.world
   pub kept : IsKeptSince w s
-  pub tidy : IsTidyIn s
 
 -- ---- the whole
 
@@ -69,10 +73,11 @@ IsNotServed status.DeviceFault = ⊤
 IsNotServed r = ⊥
 
 -- The image stands for the world of the one at the start, or for none where that stands for none. Where the device
--- failed, which it may while a tree is mounted, the tree is as it was, and what the root doesn't reach.
+-- failed, which it may while a tree is mounted, that stood for a world, and the tree is as it was, and what the root
+-- doesn't reach.
 abbrev pub IsAsItWas : Status → FilesView → Image → Image → Type 0
-IsAsItWas r f old x = StandAlike old x ⊎ ((r ≡ status.DeviceFault)
-    × IsLeftOf (world_of old) (record { files = f; world = world_of old }) x)
+IsAsItWas r f old x = StandAlike old x ⊎ ((r ≡ status.DeviceFault) × IsGood old
+    × IsLeftOf (world_of old) (resting f (world_of old)) x)
 
 -- No ask was served: none was taken, and nothing was sent. A crash at any moment leaves all as it was.
 pub record NoAskServed (r : Status) (f : FilesView) (source : Taking) (port : Moments)
@@ -84,13 +89,15 @@ pub record NoAskServed (r : Status) (f : FilesView) (source : Taking) (port : Mo
   pub alike : port.tells → IsFirm port.old → LeavesOnly port.old port.new (λ x sent. IsAsItWas r f port.old.reads x
       × (sent ≡ port.old.sent))
 
--- How a run over these asks ended that began in that state: what was sent; where the disk was firm, what a crash at any
--- moment may have left, opening and mounting included; in which images the states of the run rested; and after Done,
--- what the disk is.
+-- How a run over these asks ended that began in that state, over an image that stood for a world: what was sent; where
+-- the disk was firm, what a crash at any moment may have left, opening and mounting included; in which images the
+-- states of the run rested; and after Done, what the disk is.
 pub record ShellEnds (r : Status) (f : FilesView) (old new : View) (asked : List ShellAsk) : Type 0 where
+  pub good : IsGood old.reads
   pub first : ShellState
   pub is_first : IsFirstState f (world_of old.reads) first
   pub final : ShellState
+  pub at_rest : final.under_way ≡ None
   pub sent : ByStatus r (shell_service (world_of old.reads)) first old.sent asked final new.sent
   pub any_moment : IsFirm old
       → LeavesOnly old new (IsAcknowledged (shell_service (world_of old.reads)) first old.sent asked)
@@ -107,3 +114,28 @@ pub record ShellRan (r : Status) (kind : ShellKind) (root : ℕ) (cap : Cap) (li
   pub these : NoAskServed r (unmounted kind root cap) source port asked
       ⊎ (AskedBy r (shell_spelling kind) limit bytes source.at_end asked
       × (port.tells → ShellEnds r (unmounted kind root cap) port.old port.new asked))
+
+-- ---- how much is done
+
+-- the image was opened at most, and no ask was served
+abbrev pub IsOpeningAlone : Status → Type 0
+IsOpeningAlone (status.NotImage why) = ⊤
+IsOpeningAlone (status.RootDenied attained) = ⊤
+IsOpeningAlone status.NoMemory = ⊤
+IsOpeningAlone r = ⊥
+
+-- No more was written than opening writes: what is replayed, and what is left to be swept and reclaimed. Where nothing
+-- was left to be done, nothing was written.
+pub record OpensNoMore (old new : View) : Type 0 where
+  pub most : new.writes ≤ old.writes + opening_writes old.reads
+  pub quiet : IsQuiet old.reads → new.writes ≤ old.writes
+
+-- How promptly the asks were answered, from a moment at which the tree was mounted, with nothing sent.
+pub record IsPromptShell (r : Status) (f : FilesView) (port : Mark → Type 0) (start : World) (before : List ℕ)
+    (new : Mark) : Type 0 where
+  pub first : ShellState
+  pub is_first : IsFirstState f start first
+  pub mounted : Mark
+  pub of_port : port mounted
+  pub sent : mounted.sent ≡ before
+  pub prompt : Promptly r (shell_service start) shell_work port first mounted new

@@ -1,22 +1,24 @@
 -- A run over what a crash left of another.
-use Rattle.std.specs.Prelude.{◌≡◌, ◌⊎◌, ℕ, List}
+use Rattle.std.specs.Prelude.{◌≡◌, ◌⊎◌, ℕ, true, List}
 use Rattle.tsd_model.specs.World.{World}
 use Rattle.image_layout.specs.Image.{Image}
 use Rattle.fs_trees.specs.Tree.{is_there}
+use Rattle.fs_trees.specs.Layouts.{IsTidy}
 use Rattle.fs_trees.specs.Outside.{OthersStay}
 use Rattle.fs_trees.specs.declared.ask.ShellAsk.{ShellAsk}
 use Rattle.fs_port.specs.Files.{FilesView}
 use Rattle.serving.specs.Runs.{IsAcknowledged, IsBroken, IsCutOff}
 use Rattle.image_world.specs.Stands.{world_of}
-use Rattle.shell_server.specs.Shell.{ShellState, IsTidyIn, shell_service, tree_under}
+use Rattle.shell_server.specs.Shell.{ShellState, shell_service, tree_of, tree_under}
 use Rattle.image_shell.specs.Served.{IsFirstState}
 
--- The tree of a state of the one run is the tree that the other begins with: mounted where it is there, in a tidy
--- world, and with what the root didn't reach at the start of the first run as it was then.
+-- The tree of a state of the one run is the tree that the other begins with: mounted where it is there, in a tidy world
+-- of the same size, and with what the root didn't reach at the start of the first run as it was then.
 pub record IsFoundAgain (start : World) (s second : ShellState) : Type 0 where
-  pub tree : tree_under second.files second.world ≡ tree_under s.files s.world
-  pub mounted : second.files.mounted ≡ is_there (tree_under s.files s.world)
-  pub tidy : IsTidyIn second
+  pub tree : tree_under second.files second.world ≡ tree_of s
+  pub mounted : second.files.mounted ≡ is_there (tree_of s)
+  pub tidy : second.files.mounted ≡ true → IsTidy second.files.kind second.world second.files.root
+  pub geometry : second.world.geometry ≡ start.geometry
   pub others : OthersStay s.files.root start second.world
 
 -- A crash of a run from this world left this image, with these bytes sent. A run over that image, of the same layout

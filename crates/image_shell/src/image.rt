@@ -5,11 +5,13 @@ ghost use Rattle.image_device.specs.Counts.{Rose};
 ghost use Rattle.image_device.specs.Runs.{IsFirm};
 ghost use Rattle.image_world.specs.Behind.{LeavesBehind};
 ghost use Rattle.image_world.specs.Stands.{world_of};
+ghost use Rattle.serving.specs.Prompt.{IsOfPort, mark};
 ghost use Rattle.serving.specs.Ran.{EndsOnce, moments, taking};
 ghost use Rattle.shell_server.specs.Shell.{unmounted};
 ghost use Rattle.image_runs.specs.Opened.{IsNotImage};
 ghost use Rattle.recovery.specs.Opening.{IsForeign, IsSpared, IsUntouched};
-ghost use Rattle.image_shell.specs.Served.{IsShellJudged, ShellRan};
+ghost use Rattle.image_shell.specs.Served.{IsNotServed, IsOpeningAlone, IsPromptShell, IsShellJudged, OpensNoMore};
+ghost use Rattle.image_shell.specs.Served.{ShellRan};
 
 use crate::opened::serve_opened;
 use core_blocks::Placing;
@@ -46,6 +48,10 @@ pub fn serve_shell_image<F: Walks, L: Placing, Y: TreeLayout, S: Source, P: Port
     // rested; and what the disk is after Done.
     ensures ran { ShellRan result Y.layout root cap.now limit
         (taking S.told S.taken S.left_bytes S.ended source.old source.new) (moments P.told P.view port.old port.new) }
+    // How promptly the asks were answered. Where none was, no more was written than opening writes.
+    ensures prompt { P.told → ¬ IsNotServed result → IsPromptShell result (unmounted Y.layout root cap.now)
+        (IsOfPort P.view) (world_of (P.view port.old).reads) (P.view port.old).sent (mark (P.view port.new)) }
+    ensures opened { P.told → IsOpeningAlone result → OpensNoMore (P.view port.old) (P.view port.new) }
     // Where the image fails one of the tests that need no write, nothing is written, and the disk reads as before;
     // where it fails another, nothing is lost that a repair could use.
     ensures untouched { P.told → IsForeign (P.view port.old).reads
@@ -84,6 +90,10 @@ fn serve_from<F: Walks, L: Placing, K: Started, Y: TreeLayout, S: Source, P: Por
     // rested; and what the disk is after Done.
     ensures ran { ShellRan result Y.layout root cap.now limit
         (taking S.told S.taken S.left_bytes S.ended source.old source.new) (moments P.told P.view port.old port.new) }
+    // How promptly the asks were answered. Where none was, no more was written than opening writes.
+    ensures prompt { P.told → ¬ IsNotServed result → IsPromptShell result (unmounted Y.layout root cap.now)
+        (IsOfPort P.view) (world_of (P.view port.old).reads) (P.view port.old).sent (mark (P.view port.new)) }
+    ensures opened { P.told → IsOpeningAlone result → OpensNoMore (P.view port.old) (P.view port.new) }
     // Where the image fails one of the tests that need no write, nothing is written, and the disk reads as before;
     // where it fails another, nothing is lost that a repair could use.
     ensures untouched { P.told → IsForeign (P.view port.old).reads

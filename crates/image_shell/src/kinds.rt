@@ -5,10 +5,14 @@ ghost use Rattle.image_device.specs.Counts.{Rose};
 ghost use Rattle.image_device.specs.Runs.{IsFirm};
 ghost use Rattle.image_world.specs.Behind.{LeavesBehind};
 ghost use Rattle.fs_trees.specs.declared.ask.ShellKind.TheVariants as kind;
+ghost use Rattle.image_world.specs.Stands.{world_of};
+ghost use Rattle.shell_server.specs.Shell.{unmounted};
+ghost use Rattle.serving.specs.Prompt.{IsOfPort, mark};
 ghost use Rattle.serving.specs.Ran.{EndsOnce, moments, taking};
 ghost use Rattle.image_runs.specs.Opened.{IsNotImage};
 ghost use Rattle.recovery.specs.Opening.{IsForeign, IsSpared, IsUntouched};
-ghost use Rattle.image_shell.specs.Served.{IsShellJudged, ShellRan};
+ghost use Rattle.image_shell.specs.Served.{IsNotServed, IsOpeningAlone, IsPromptShell, IsShellJudged, OpensNoMore};
+ghost use Rattle.image_shell.specs.Served.{ShellRan};
 
 use crate::image::serve_shell_image;
 use chain_fs::ChainFs;
@@ -38,16 +42,17 @@ pub fn serve_inode_image<S: Source, P: Port>(
     /// promise: Unless memory or the device is at fault, NotImage comes exactly where the image stands for no world,
     /// and RootDenied exactly where the capability gives no write access to the root, with the access that it gives.
     ensures read { P.told → IsShellJudged root cap.now (P.view port.old).reads result }
-    /// promise: **The run begins** with the tree of the image mounted where one is there, and the world tidy; where
-    /// none is there nothing is mounted, and the world is as it was.
+    /// promise: **The run begins** with the tree of the image mounted where one is there, and the world tidy: mounting
+    /// deletes pairs alone, with what they held, and moves nothing. Where none is there nothing is mounted, and the
+    /// world is as it was.
     /// promise: **What was sent** are the lines of the answers of the asks, each by the step of its ask on the tree and
     /// the room that the world has then; from the state after one answer to the state after the next the world changes
-    /// only by an ask that is done. After a fault of the device within a `cat` or an `ls`, a front of that answer may
-    /// be sent after them.
+    /// only by an ask that is done, is tidy, and has taken no block that the tree doesn't name. After a fault of the
+    /// device within a `cat` or an `ls`, a front of that answer may be sent after them.
     /// promise: **A crash at any moment**, opening and mounting included, leaves an image of a valid world whose tree
-    /// under the root is the one after the asks whose answers were sent whole, or after one more, whatever answer that
-    /// was to get; what the root doesn't reach is as at the start, and so are the capabilities. Of blocks that the tree
-    /// doesn't name, and of the geometry, it says nothing.
+    /// under the root is the one after the asks whose answers were sent whole, or that of the step of one more from
+    /// there; the geometry and what the root doesn't reach are as at the start, and so are the capabilities. Of blocks
+    /// that the tree doesn't name it says nothing.
     /// promise: Each state of the run rested in an image that a crash may have left with exactly the answers before it
     /// sent: there the world is valid and tidy. So the numbers of free blocks and of held pointers in the answers are
     /// those of a world that was there.
@@ -56,6 +61,13 @@ pub fn serve_inode_image<S: Source, P: Port>(
     /// promise: After Done nothing is loose, the disk stands for the last world, and nothing is left to be done.
     ensures ran { ShellRan result kind.Inode root cap.now limit
         (taking S.told S.taken S.left_bytes S.ended source.old source.new) (moments P.told P.view port.old port.new) }
+    /// promise: After SourceFault and TooLong the disk is as it was at some state of the port's type at which the last
+    /// answer was sent; where no ask was answered, as it was once the tree was mounted.
+    ensures prompt { P.told → ¬ IsNotServed result → IsPromptShell result (unmounted kind.Inode root cap.now)
+        (IsOfPort P.view) (world_of (P.view port.old).reads) (P.view port.old).sent (mark (P.view port.new)) }
+    /// promise: With NotImage, RootDenied and NoMemory no more is written than opening the image writes, and nothing
+    /// where nothing was left to be done.
+    ensures opened { P.told → IsOpeningAlone result → OpensNoMore (P.view port.old) (P.view port.new) }
     // Where the image fails one of the tests that need no write, nothing is written, and the disk reads as before;
     // where it fails another, nothing is lost that a repair could use.
     ensures untouched { P.told → IsForeign (P.view port.old).reads
@@ -98,6 +110,9 @@ pub fn serve_chain_image<S: Source, P: Port>(
     ensures read { P.told → IsShellJudged root cap.now (P.view port.old).reads result }
     ensures ran { ShellRan result kind.Chain root cap.now limit
         (taking S.told S.taken S.left_bytes S.ended source.old source.new) (moments P.told P.view port.old port.new) }
+    ensures prompt { P.told → ¬ IsNotServed result → IsPromptShell result (unmounted kind.Chain root cap.now)
+        (IsOfPort P.view) (world_of (P.view port.old).reads) (P.view port.old).sent (mark (P.view port.new)) }
+    ensures opened { P.told → IsOpeningAlone result → OpensNoMore (P.view port.old) (P.view port.new) }
     // Where the image fails one of the tests that need no write, nothing is written, and the disk reads as before;
     // where it fails another, nothing is lost that a repair could use.
     ensures untouched { P.told → IsForeign (P.view port.old).reads

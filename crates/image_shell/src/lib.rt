@@ -6,7 +6,7 @@
 //! - `image`: an image opened and served, by any file system.
 //! - `opened`: the same by its steps, from a core that was opened: the level at the root, the session, mounting, the
 //!   loop.
-//! - `kinds`, `loops`: the two file systems, each over an image, and each on a core that is open.
+//! - `kinds`: the two file systems, each over an image.
 //! - `laws`: what a crash left is mounted again.
 //!
 //! What it promises (`specs/Served`): by its status, which asks the bytes that came in hold, and what of their answers
@@ -20,11 +20,9 @@
 mod image;
 mod kinds;
 mod laws;
-mod loops;
 mod opened;
 
 pub use image::serve_shell_image;
 pub use kinds::{serve_chain_image, serve_inode_image};
 pub use laws::what_a_crash_left_is_mounted;
-pub use loops::{serve_chain, serve_inode};
 pub use opened::{begin_on, mount_on, root_level, serve_begun, serve_opened};

@@ -1,4 +1,10 @@
-use Rattle.std.proofs.Common.{refl, sym, ◌∙◌, ap, subst, append-nil}
+use Rattle.std.proofs.Common.{refl, sym, ◌∙◌, ap, subst, arith, append-nil}
+use Rattle.tsd_model.specs.World.{World}
+use Rattle.fs_port.specs.Files.{FilesView}
+use Rattle.image_world.specs.Stands.{world_of}
+use Rattle.serving.specs.Prompt.{IsOfPort, mark}
+use Rattle.image_shell.specs.Served.{IsPromptShell}
+use Rattle.image_shell.proofs.FromLaws.{prompt_earlier}
 use Rattle.image_device.specs.Runs.{LeavesPart}
 use Rattle.image_runs.proofs.Opened.{not_foreign}
 use Rattle.image_world.specs.Behind.{behind}
@@ -6,7 +12,7 @@ use Rattle.image_world.proofs.CapsLaws.{loaded_is_no_fault}
 use Rattle.tsd_words.specs.declared.status.Status.TheVariants as status
 use Rattle.tsd_model.specs.Step.{State}
 use Rattle.core_blocks.proofs.BehindLaws.{behind_after, size_at}
-use Rattle.image_shell.proofs.StartLaws.{admitted_image, judged_start, ran_opened, ran_unopened, start_here}
+use Rattle.image_shell.proofs.StartLaws.{admitted_image, judged_start, not_served_by, ran_opened, ran_unopened, start_here}
 use Rattle.image_shell.proofs.image.serve_from.Goals as goal
 
 pub serve_opened-requires-clause-at : goal.serve_opened-requires-clause-at
@@ -65,3 +71,23 @@ returns-in-Ok-clause-behind g c told firm =
 
 pub returns-in-Err-clause-behind : goal.returns-in-Err-clause-behind
 returns-in-Err-clause-behind g c = c.open_core.ensures.behind
+
+pub returns-in-Ok-clause-prompt : goal.returns-in-Ok-clause-prompt
+returns-in-Ok-clause-prompt g c told served =
+    subst (λ (f : FilesView). IsPromptShell c.serve_opened.result f (IsOfPort g.P.Device.view) (world_of (g.P.Device.view c.args.port.now).reads) (g.P.Device.view c.args.port.now).sent (mark (g.P.Device.view c.serve_opened.new.port))) c.requires.files
+    (subst (λ (w : World). IsPromptShell c.serve_opened.result (g.F.Files.view c.args.files.now) (IsOfPort g.P.Device.view) w (g.P.Device.view c.args.port.now).sent (mark (g.P.Device.view c.serve_opened.new.port))) (c.requires.start told)
+    (prompt_earlier c.serve_opened.result _ _ g.K.Started.start (g.P.Device.view c.open_core.new.dev).sent (g.P.Device.view c.args.port.now).sent _ (c.in-Ok.ensures.sent told) (c.serve_opened.ensures.prompt told served)))
+
+pub returns-in-Err-clause-prompt : goal.returns-in-Err-clause-prompt
+returns-in-Err-clause-prompt g c told served = absurd (served (not_served_by c.in-Err.why c.in-Err.ensures.stops))
+
+pub returns-in-Ok-clause-opened : goal.returns-in-Ok-clause-opened
+returns-in-Ok-clause-opened g c told alone =
+    let idle = c.serve_opened.ensures.idle alone in
+    let o = c.in-Ok.ensures in
+    record { most = omega (arith, idle, (o.uses told).most); quiet = λ quiet. omega (arith, idle, o.unwritten told quiet) }
+
+pub returns-in-Err-clause-opened : goal.returns-in-Err-clause-opened
+returns-in-Err-clause-opened g c told alone =
+    let o = c.in-Err.ensures in
+    record { most = omega (arith, (o.uses told).most); quiet = λ quiet. omega (arith, o.unwritten told quiet) }

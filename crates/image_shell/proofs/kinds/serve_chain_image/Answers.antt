@@ -1,4 +1,4 @@
-use Rattle.std.proofs.Common.{refl, sym, append-nil}
+use Rattle.std.proofs.Common.{refl, sym, arith, append-nil}
 use Rattle.image_device.proofs.Parts.{part_stays}
 use Rattle.image_world.specs.Behind.{behind, size_of_image}
 use Rattle.image_shell.proofs.StartLaws.{ran_unstarted}
@@ -15,3 +15,9 @@ pub returns-in-Err-clause-behind : goal.returns-in-Err-clause-behind
 returns-in-Err-clause-behind g c told firm =
     let v = g.P.Device.view c.args.port.now in
     part_stays (behind (size_of_image v.reads)) v (g.met.P.Device.sound c.args.port.now told) firm
+
+pub returns-in-Err-clause-prompt : goal.returns-in-Err-clause-prompt
+returns-in-Err-clause-prompt g c told served = absurd (served tt)
+
+pub returns-in-Err-clause-opened : goal.returns-in-Err-clause-opened
+returns-in-Err-clause-opened g c told alone = record { most = omega arith; quiet = λ quiet. omega arith }

@@ -2,6 +2,7 @@ use Rattle.std.proofs.Common.{◌≡◌, ℕ, sym, ◌∙◌, ap}
 use Rattle.image_device.specs.Runs.{IsFirm}
 use Rattle.image_world.specs.Stands.{world_of}
 use Rattle.core_blocks.proofs.BehindLaws.{behind_called}
+use Rattle.tsd_core.specs.Core.{FitsReads}
 use Rattle.shell_server.specs.Kept.{AreReady}
 use Rattle.image_shell.proofs.BeginLaws.{valid_now}
 use Rattle.image_shell.proofs.MountLaws.{mounted_by}
@@ -20,12 +21,13 @@ returns g c =
     let p = c.mount.ensures in
     let ready : AreReady f b.core.now = rw c.new-blocks.ensures.core_now c.requires.ready in
     let here : g.D.Device.told → world_of v.reads ≡ g.K.Started.start = λ told. rw c.new-blocks.ensures.dev_now (c.requires.at told).world in
+    let fits : g.D.Device.told → FitsReads b.core.now v.reads = λ told. rw (c.new-blocks.ensures.core_now, c.new-blocks.ensures.dev_now) (c.requires.at told).core.1 in
     let firm : g.D.Device.told → IsFirm v = λ told. rw c.new-blocks.ensures.dev_now (c.requires.at told).core.0 in
     let core_is : c.core-1.given.0 ≡ d.core.now = c.core-1.given.1 (sym c.new-blocks.ensures.core ∙ sym (ap (λ n. n.0) p.runs.counts.lenders)) in
     let dev_is : c.dev-1.given.0 ≡ d.dev.now = c.dev-1.given.1 (sym c.new-blocks.ensures.dev ∙ sym (ap (λ n. n.1) p.runs.counts.lenders)) in
     rw (core_is, dev_is, ← c.new-blocks.ensures.core_now, ← c.new-blocks.ensures.dev_now)
     (mounted_by g.K.Started.start f (g.F.Files.view c.mount.new.self) l (d.core.ghost_name, d.dev.ghost_name) (g.L.Placing.kind b.placement.now) (g.L.Placing.kind d.placement.now) b.core.now d.core.now v (g.D.Device.view d.dev.now)
-    g.D.Device.told here c.mount.result ready d.ready d.at
+    g.D.Device.told here c.mount.result ready fits d.ready d.at
     p.finds p.runs p.mounted
     (behind_called g.D.Device.told l (d.core.ghost_name, d.dev.ghost_name) (g.L.Placing.kind b.placement.now) (g.L.Placing.kind d.placement.now) b.core.now d.core.now v (g.D.Device.view d.dev.now) _
     (λ told. g.met.D.Device.sound b.dev.now told) (λ told. g.met.D.Device.sound d.dev.now told) firm p.runs.counts p.runs.crash))

@@ -2,7 +2,9 @@ use Rattle.std.proofs.Common.{◌≡◌, inl, inr, [], refl, sym, append-nil}
 use Rattle.image_device.proofs.Moments.{weakened}
 use Rattle.tsd_words.specs.declared.status.Status.TheVariants as status
 use Rattle.core_blocks.proofs.BehindLaws.{behind_until}
-use Rattle.shell_server.specs.Shell.{IsLeftOf}
+use Rattle.shell_server.specs.Shell.{IsLeftOf, resting}
+use Rattle.shell_server.specs.Kept.{shell_state}
+use Rattle.serving.specs.Prompt.{mark}
 use Rattle.image_shell.specs.FromCore.{IsAsAtStart}
 use Rattle.image_shell.proofs.FromLaws.{not_device, ran_mounted}
 use Rattle.image_shell.proofs.opened.serve_begun.Goals as goal
@@ -23,7 +25,7 @@ returns-then-is_device-clause-ran g c =
         untouched = refl;
         none = refl;
         sent = m.sent;
-        alike = λ t. weakened v w (λ x h. IsLeftOf start (record { files = f; world = start }) x × (h ≡ v.sent)) (λ x h. IsAsAtStart status.DeviceFault f start x × (h ≡ v.sent)) (m.any_moment t) (λ x h left. (inr (refl, left.0), left.1));
+        alike = λ t. weakened v w (λ x h. IsLeftOf start (resting f start) x × (h ≡ v.sent)) (λ x h. IsAsAtStart status.DeviceFault f start x × (h ≡ v.sent)) (m.any_moment t) (λ x h left. (inr (refl, left.0), left.1));
       });
     }
 
@@ -60,3 +62,21 @@ returns-in-Ok-clause-behind g c =
 pub returns-else-is_device-clause-behind : goal.returns-else-is_device-clause-behind
 returns-else-is_device-clause-behind g c =
     behind_until g.P.Device.told c.args.core.now c.mount_on.new.core (g.P.Device.view c.args.port.now) (g.P.Device.view c.mount_on.new.dev) (g.P.Device.view c.serve_shell-in-Err.new.port) c.in-Err.ensures.behind c.serve_shell-in-Err.ensures.behind
+
+pub returns-in-Ok-clause-prompt : goal.returns-in-Ok-clause-prompt
+returns-in-Ok-clause-prompt g c told served =
+    let m = c.in-Ok.ensures in
+    let mid = c.mount_on.new.dev in
+    let first = shell_state (g.F.Files.view c.mount_on.new.files) (g.P.Device.view mid).reads in
+    record { first = first; is_first = (m.first told).0; mounted = mark (g.P.Device.view mid); of_port = (mid, refl); sent = m.sent told; prompt = c.serve_shell.ensures.prompt told }
+
+pub returns-then-is_device-clause-prompt : goal.returns-then-is_device-clause-prompt
+returns-then-is_device-clause-prompt g c told served = absurd (served tt)
+
+pub returns-else-is_device-clause-prompt : goal.returns-else-is_device-clause-prompt
+returns-else-is_device-clause-prompt g c told served =
+    let m = c.in-Err.ensures in
+    let mid = c.mount_on.new.dev in
+    let first = shell_state (g.F.Files.view c.mount_on.new.files) (g.P.Device.view mid).reads in
+    let is_first = (m.first told).1 (not_device c.in-Err.why c.is_device.result c.is_device.ensures c.if-is_device.false) in
+    record { first = first; is_first = is_first; mounted = mark (g.P.Device.view mid); of_port = (mid, refl); sent = m.sent told; prompt = c.serve_shell-in-Err.ensures.prompt told }

@@ -8,7 +8,7 @@ use Rattle.tsd_core.specs.Core.{told_world}
 use Rattle.core_blocks.proofs.BehindLaws.{behind_until}
 use Rattle.tsd_words.specs.declared.status.Status.TheVariants as status
 use Rattle.image_shell.specs.FromCore.{IsAsAtStart}
-use Rattle.image_shell.proofs.FromLaws.{allowed_by, is_write, level_told, moments_of_start, not_served, not_write, ran_earlier}
+use Rattle.image_shell.proofs.FromLaws.{allowed_by, alone_no_fault, is_write, level_told, moments_of_start, not_served, not_write, opened_or_let_in, prompt_earlier, ran_earlier}
 use Rattle.image_shell.proofs.opened.serve_opened.Goals as goal
 
 pub returns-then-is_below_write-clause-allowed : goal.returns-then-is_below_write-clause-allowed
@@ -77,3 +77,19 @@ returns-in-Ok-clause-behind g c =
 
 pub returns-in-Err-clause-behind : goal.returns-in-Err-clause-behind
 returns-in-Err-clause-behind g c = c.begin_on.ensures.behind.any_moment
+
+pub returns-in-Ok-clause-idle : goal.returns-in-Ok-clause-idle
+returns-in-Ok-clause-idle g c alone = absurd (opened_or_let_in c.serve_begun.result alone c.serve_begun.ensures.let_in)
+
+pub returns-in-Err-clause-idle : goal.returns-in-Err-clause-idle
+returns-in-Err-clause-idle g c alone = c.in-Err.ensures.idle (alone_no_fault c.in-Err.why alone _ refl)
+
+pub returns-then-is_below_write-clause-prompt : goal.returns-then-is_below_write-clause-prompt
+returns-then-is_below_write-clause-prompt g c told served = absurd (served tt)
+
+pub returns-in-Ok-clause-prompt : goal.returns-in-Ok-clause-prompt
+returns-in-Ok-clause-prompt g c told served =
+    prompt_earlier c.serve_begun.result _ _ g.K.Started.start (g.P.Device.view c.begin_on.new.dev).sent (g.P.Device.view c.args.port.now).sent _ (c.begin_on.ensures.sent told) (c.serve_begun.ensures.prompt told served)
+
+pub returns-in-Err-clause-prompt : goal.returns-in-Err-clause-prompt
+returns-in-Err-clause-prompt g c told served = absurd (served (not_served c.in-Err.why c.in-Err.ensures.stops))
