@@ -19,7 +19,7 @@ either m n = by (name_lt m n) refl
 not_above : (a m x : Name) → name_lt a m ≡ true → name_lt a x ≡ false → name_lt m x ≡ false
 not_above a m x am ax = elim (either m x) [
   | inl mx ↦ absurd (clash (name_lt a x) (lt_trans a m x am mx) ax)
-  | inr no ↦ no
+  | inr other ↦ other
 ]
 
 -- what is below a name is below what isn't below that one
@@ -144,7 +144,7 @@ module _ (k : ℕ) (a m : Name) (ms : List Name) (ih : (b : Name) → least_name
 
   -- behind a name that the new one isn't above nothing is new
   nothing_new : (n : Name) → name_lt n m ≡ false → now n ≡ was n
-  nothing_new n no = ih n ∙ ap (λ t. cond t (take k (with_name m (was n))) (was n)) no
+  nothing_new n other = ih n ∙ ap (λ t. cond t (take k (with_name m (was n))) (was n)) other
 
   lower : name_lt a m ≡ false → (o : Option Name) → ((n : Name) → o ≡ Some n → name_lt a n ≡ true) → and_on now o ≡ and_on was o
   lower am None higher = refl
