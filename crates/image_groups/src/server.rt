@@ -56,9 +56,14 @@ impl<'a> Handler for GroupServer<'a> {
 
     ghost given_form = { λ s q r t given. given.1 };
 
-    fn apply<D: Device>(&mut self, dev: &mut D, request: &Request) -> Result<Reply, Failed> {
+    fn apply<D: Device>(
+        &mut self,
+        dev: &mut D,
+        request: &Request,
+        into: &mut Reply,
+    ) -> Result<(), Failed> {
         self.owes = true;
-        self.core.apply(dev, self.placement, request)
+        self.core.apply_into(dev, self.placement, request, into)
     }
 
     fn settle_some<D: Device>(&mut self, dev: &mut D) -> Result<bool, Failed> {
