@@ -124,6 +124,9 @@ module _ (told : Type 0) (f g : FilesView) (old : DiskView) (was_apart : told �
     -- ---- and copied
 
     module _ (new : DiskView) (sound_now : told → new.spent ≡ false → IsDiskSound new) where
+      still_holds : told → CanHold g.kind (tree_at f.kind mid.world f.root) → CanHold g.kind (tree_under f start)
+      still_holds t = subst (λ (u : Tree). CanHold g.kind u) (finds t).tree
+
       partly : told → (w : World) → IsPartOfCopy (mounted_now f) g mid w → IsUnderWay f g start w
       partly t w left = inr (record {
         mounted = mid.world;
@@ -133,6 +136,7 @@ module _ (told : Type 0) (f g : FilesView) (old : DiskView) (was_apart : told �
         source = left.source ∙ (finds t).tree;
         target = ⊎_elim (λ same. inl (same ∙ (is_mounted t).trimmed.target))
             (λ some. inr (some.0, some.1, some.2 ∙ ap (λ (u : Tree). partial u some.0) (finds t).tree)) left.target;
+        held = ⊎_elim (λ holds. inl (still_holds t holds)) inr left.held;
         others = left.left.others;
       })
 
@@ -151,9 +155,6 @@ module _ (told : Type 0) (f g : FilesView) (old : DiskView) (was_apart : told �
         apart = stays.apart;
         others = stays.others;
       }
-
-      still_holds : told → CanHold g.kind (tree_at f.kind mid.world f.root) → CanHold g.kind (tree_under f start)
-      still_holds t = subst (λ (u : Tree). CanHold g.kind u) (finds t).tree
 
       ends_by : (t : told) (r : Result Copied CopyRefusal) → CopiesTree (mounted_now f) g mid new r → CopyRuns mid new r → IfOk (copy_end r) (λ e. EndsAs f g start e new.world)
       ends_by t (Ok c) copies ran = record {

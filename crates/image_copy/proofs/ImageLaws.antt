@@ -1,5 +1,5 @@
 -- A copy over an image, joined from its steps.
-use Rattle.std.proofs.Common.{◌≡◌, ◌≢◌, ◌<◌, ◌⊎◌, inl, inr, ℕ, Bool, true, false, cond, nat_lt, refl, sym, ◌∙◌, ap, subst, arith}
+use Rattle.std.proofs.Common.{◌≡◌, ◌≢◌, ◌<◌, ◌≤◌, ◌⊎◌, inl, inr, ℕ, Bool, true, false, cond, nat_lt, refl, sym, ◌∙◌, ap, subst, arith}
 use Rattle.std.proofs.lemmas.Bool.{ltb-true}
 use Rattle.std.specs.Prelude.{Option, Some, None, Result, Ok, Err, OnOk, IfOk, IfErr}
 use Rattle.tsd_model.specs.World.{World}
@@ -9,6 +9,7 @@ use Rattle.tsd_model.specs.declared.requests.Level.{Level}
 use Rattle.tsd_model.specs.declared.requests.Level.TheVariants as level
 use Rattle.disk_laws.specs.Bytes.{AreLike}
 use Rattle.disk_laws.proofs.FreshLaws.{no_sessions_fit}
+use Rattle.image_device.specs.Calls.{Uses}
 use Rattle.image_device.specs.Counts.{CountsFaultOf, Rose}
 use Rattle.image_device.specs.View.{IsSound, View}
 use Rattle.image_device.specs.Runs.{IsFirm, LeavesOnly}
@@ -21,7 +22,7 @@ use Rattle.image_world.specs.Stands.{Stands, world_of}
 use Rattle.image_world.proofs.WorldLaws.{world_valid}
 use Rattle.volume_laws.specs.Quiet.{IsQuiet}
 use Rattle.volume_laws.specs.Volume.{IsVolumeAt, Volume, told_by}
-use Rattle.recovery.specs.Opening.{IsForeign, IsSpared, IsUntouched, StandAlike}
+use Rattle.recovery.specs.Opening.{IsForeign, IsSpared, IsUntouched, StandAlike, opening_writes}
 use Rattle.tsd_words.specs.declared.status.Status.{Status}
 use Rattle.tsd_words.specs.declared.status.Status.TheVariants as status
 use Rattle.tsd_core.specs.Core.{Core, IsCoreAt, IsCoreReady, told_world}
@@ -33,7 +34,7 @@ use Rattle.image_runs.specs.Served.{IsAtEase}
 use Rattle.image_runs.proofs.Opened.{not_foreign}
 use Rattle.image_shell.specs.Served.{IsRootDenied, level_at}
 use Rattle.image_shell.proofs.FromLaws.{level_like}
-use Rattle.image_copy.specs.Copied.{AreAdmitted, HasEnded, IsCopyJudged, IsNotBegun, IsSideDenied, level_under, source, target}
+use Rattle.image_copy.specs.Copied.{AreAdmitted, HasEnded, IsCopyJudged, IsKeptOut, IsNotBegun, IsSideDenied, OnlyLooks, level_under, source, target}
 use Rattle.image_copy.specs.Ends.{EndsAs}
 use Rattle.image_copy.specs.Steps.{CarriesOut, CopiesFrom, CopiesOn, IsDenial, IsLeftBy, IsLeftFrom, IsSharing, IsStartOf, IsStop, IsUnended}
 use Rattle.image_copy.specs.declared.ending.CopyEnd.{CopyEnd}
@@ -80,6 +81,7 @@ module _ (told : Type 0) (words : CopyFs) (vol : Volume) (v : View) (sound : tol
     any_moment = λ t. weakened v v (λ x s. Stands x (world_of v.reads) × (s ≡ v.sent)) (λ x s. IsLeftBy (source words) (target words) (world_of v.reads) x × (s ≡ v.sent)) (here t) (λ x s left. (inl left.0, left.1));
     behind = λ t. part_stays (behind (size_of_image v.reads)) v (sound t) (at t).firm;
     not_begun = λ t not. here t;
+    looked = λ out. refl;
     clock = omega arith;
     put_faults = refl;
     faults = (λ is. absurd (other (cc)), λ ne. refl);
@@ -154,12 +156,16 @@ module _ (told : Type 0) (words : CopyFs) (vol : Volume) (v : View) (sound : tol
           any_moment = copies.any_moment;
           behind = copies.behind;
           not_begun = λ t. not_begun_so _ r copies.stops (copies.no_memory t);
+          looked = stops_so (λ why. IsKeptOut why → w.writes ≡ v.writes) r (λ out. absurd out) (λ out. absurd out) copies.stops;
           clock = copies.clock;
           put_faults = copies.put_faults;
           faults = copies.faults;
         }
 
 -- ---- over an image that was opened
+
+pub opening_looks : (old mid : View) → Uses (opening_writes old.reads) old mid → (IsQuiet old.reads → mid.writes ≤ old.writes) → OnlyLooks old mid
+opening_looks old mid uses unwritten = record { quiet = λ quiet. omega (arith, uses.writes, unwritten quiet); most = uses.most }
 
 stop_judged : (words : CopyFs) (image : Image) (start : World) (why : Status) → start ≡ world_of image → IsGood image → IsStop start words why → IsCopyJudged words image why
 stop_judged words image start (status.RootDenied attained) is good stop = (good, subst (λ (w : World). IsSideDenied w words attained) is stop)
@@ -190,7 +196,11 @@ alike_of old x good stands w = (λ s. record { good = stands.good; world = s.wor
 
 module _ (told : Type 0) (words : CopyFs) (old mid new : View) (good : told → IsGood old.reads) (same : told → world_of mid.reads ≡ world_of old.reads) (sent : told → mid.sent ≡ old.sent)
     (any : told → IsFirm old → LeavesOnly old mid (λ x s. StandAlike old.reads x × (s ≡ old.sent))) (put_faults : mid.put_faults ≡ old.put_faults) (faults : mid.faults ≡ old.faults)
-    (sound : told → IsSound mid) (aside : told → IsFirm old → LeavesBehind old mid) where
+    (sound : told → IsSound mid) (aside : told → IsFirm old → LeavesBehind old mid) (looks : told → OnlyLooks old mid) where
+  looked_so : told → (r : Result CopyEnd Status) → IfErr r (λ why. IsKeptOut why → new.writes ≡ mid.writes) → IfErr r (λ why. IsKeptOut why → OnlyLooks old new)
+  looked_so t (Ok e) same = tt
+  looked_so t (Err why) same = λ out. let opened = looks t in record { quiet = λ quiet. same out ∙ opened.quiet quiet; most = omega (arith, same out, opened.most) }
+
   ends_so : told → (r : Result CopyEnd Status) → IfOk r (λ e. EndsAs (source words) (target words) (world_of mid.reads) e (world_of new.reads)) → OnOk r (IsAtEase new (world_of new.reads)) → IfOk r (HasEnded words old new)
   ends_so t (Ok e) ends ease = record { world = world_of new.reads; ends = subst (λ (w : World). EndsAs (source words) (target words) w e (world_of new.reads)) (same t) ends; at_ease = ease }
   ends_so t (Err why) ends ease = tt
@@ -233,6 +243,7 @@ module _ (told : Type 0) (words : CopyFs) (old mid new : View) (good : told → 
     any_moment = λ t firm. moments_all t firm (copies.any_moment t);
     behind = λ t firm. behind_after old mid new (sound t) (same t) (aside t firm) (copies.behind t);
     not_begun = λ t. not_begun_all t r (copies.not_begun t);
+    looked = λ t. looked_so t r copies.looked;
     untouched = λ t foreign. absurd (not_foreign old.reads (good t) foreign);
     spared = λ t. spared_so t r (copies.denied t);
     put_faults = copies.put_faults ∙ put_faults;
@@ -267,8 +278,8 @@ unopened_judged words image status.Truncated h judged = absurd h
 
 pub not_carried_out : (told : Type 0) (words : CopyFs) (old new : View) (why : Status) → IsUnopened why → (told → IsJudged old.reads why) → (told → new.sent ≡ old.sent) → (told → IsFirm old → LeavesOnly old new (λ x s. StandAlike old.reads x × (s ≡ old.sent)))
     → (told → IsForeign old.reads → IsUntouched old new) → (told → IsNotImage why → IsSpared old new) → new.put_faults ≡ old.put_faults
-    → ((why ≡ status.DeviceFault → Rose old.faults new.faults) × (why ≢ status.DeviceFault → new.faults ≡ old.faults)) → (told → IsFirm old → LeavesBehind old new) → CarriesOut told words old new (Err why)
-not_carried_out told words old new why stops judged sent any untouched spared put_faults faults aside = record {
+    → ((why ≡ status.DeviceFault → Rose old.faults new.faults) × (why ≢ status.DeviceFault → new.faults ≡ old.faults)) → (told → IsFirm old → LeavesBehind old new) → (told → OnlyLooks old new) → CarriesOut told words old new (Err why)
+not_carried_out told words old new why stops judged sent any untouched spared put_faults faults aside looks = record {
   has_words = tt;
   ends = λ t. tt;
   stops = unopened_unended why stops;
@@ -278,6 +289,7 @@ not_carried_out told words old new why stops judged sent any untouched spared pu
   any_moment = λ t firm. weakened old new (λ x s. StandAlike old.reads x × (s ≡ old.sent)) (λ x s. IsLeftFrom words old.reads x × (s ≡ old.sent)) (any t firm) (λ x s left. (inl left.0, left.1));
   behind = aside;
   not_begun = λ t not firm. any t firm;
+  looked = λ t out. looks t;
   untouched = untouched;
   spared = spared;
   put_faults = put_faults;

@@ -1,5 +1,6 @@
 -- A session begun on a core, beside those that are open.
-use Rattle.std.proofs.Common.{◌≡◌, ◌≤◌, inl, inr, ℕ, Bool, true, false, List, length, [], ◌∷◌, refl, sym, ◌∙◌, ap, subst, arith}
+use Rattle.std.proofs.Common.{◌≡◌, ◌≤◌, ◌⊎◌, inl, inr, ⊎_elim, ℕ, Bool, true, false, List, length, [], ◌∷◌, refl, sym, ◌∙◌, ap, subst, arith}
+use Rattle.std.proofs.lemmas.Bool.{cases_eq}
 use Rattle.std.proofs.lemmas.List.{length-map}
 use Rattle.std.specs.Prelude.{Option, Some, None, Result, Ok, Err, is_some, option_map}
 use Rattle.tsd_model.specs.World.{World}
@@ -12,7 +13,7 @@ use Rattle.tsd_model.specs.declared.replies.Reply.TheVariants as reply
 use Rattle.tsd_model.specs.declared.replies.Rule.{Rule}
 use Rattle.tsd_model.specs.declared.requests.PlaceKind.{PlaceKind}
 use Rattle.tsd_model.specs.declared.requests.Request.TheVariants as ask
-use Rattle.tsd_model.proofs.SessionLaws.{held-map, held-with_same, held_keeps, length-with_held}
+use Rattle.tsd_model.proofs.SessionLaws.{held-map, held-with_other, held-with_same, held_keeps, length-with_held, no_held}
 use Rattle.disk_laws.specs.Bytes.{AreLike}
 use Rattle.disk_laws.proofs.AnswerLaws.{after_answer}
 use Rattle.disk_laws.proofs.RunLaws.{run_valid}
@@ -58,6 +59,7 @@ done_like r (inr x) = absurd (no_bytes x.0 x.2)
 pub record HasOneMore (session : ℕ) (v u : Sessions) : Type 0 where
   pub this : is_open u session ≡ true
   pub others : (n : ℕ) → is_open v n ≡ true → is_open u n ≡ true
+  pub only : (n : ℕ) → is_open u n ≡ true → (n ≡ session) ⊎ (is_open v n ≡ true)
   pub count : length u ≡ length v
 
 -- a begin that is answered Done opens the session
@@ -66,6 +68,10 @@ module _ (session : ℕ) (low : 1 ≤ session) (high : session ≤ sessions_max)
   one_more w v all = record {
     this = open_fitted w (session_begun w v session) session ∙ ap is_some (held-with_same v session _ low (subst (λ n. session ≤ n) (sym all) high));
     others = λ n h. open_fitted w (session_begun w v session) n ∙ held_keeps (λ (o : Option Held). is_some o ≡ true) v session n _ refl h;
+    only = λ n h. elim (cases_eq n session) [
+      | inl same ↦ inl same
+      | inr other ↦ inr (sym (ap is_some (held-with_other v session n _ other)) ∙ (sym (open_fitted w (session_begun w v session) n) ∙ h))
+    ];
     count = length-map (session_begun w v session) _ ∙ length-with_held v session _;
   }
 
@@ -116,7 +122,7 @@ module _ (session : ℕ) (low : 1 ≤ session) (high : session ≤ sessions_max)
         let more : HasOneMore session (sessions_of c0) (sessions_of c1) = subst (λ (u : Sessions). HasOneMore session (sessions_of c0) u) (sym told_given.sessions) (begin_opens kind s all told_given.want is) in
         record {
           ready = ready;
-          begun = record { this = more.this; others = more.others; count = more.count };
+          begun = record { this = more.this; others = more.others; only = more.only; count = more.count };
           like = subst (λ (u : World). AreLike (told_world c1) u) (begin_world kind s told_given.want) told_given.world;
           at = λ t. at_next t (core t) (subst (λ (o : Reply). IsAnswer kind (state_on c0 v.reads) (ask.Begin session) o (state_on c1 w.reads)) done (given t));
           sent = sent;
@@ -164,6 +170,12 @@ module _ (session : ℕ) (low : 1 ≤ session) (high : session ≤ sessions_max)
 pub all_closed : (c : Core) → c.grants.sessions ≡ no_sessions → length (sessions_of c) ≡ sessions_max
 all_closed c none = ap (λ (v : Sessions). length (fitted (told_world c) v)) none
 
+-- and none is open on it
+none_open : (c : Core) → c.grants.sessions ≡ no_sessions → (n : ℕ) → is_open (sessions_of c) n ≡ true → ⊥
+none_open c none n h =
+    let closed : is_open (sessions_of c) n ≡ false = open_fitted (told_world c) c.grants.sessions n ∙ (ap (λ (v : Sessions). is_open v n) none ∙ ap is_some (no_held n)) in
+    absurd (cc)
+
 like_twice : (u v w : World) → AreLike u v → AreLike v w → AreLike u w
 like_twice u v w a b = record { geometry = a.geometry ∙ b.geometry; version = a.version ∙ b.version; count = a.count ∙ b.count; live = λ n. a.live n ∙ b.live n; pairs = a.pairs ∙ b.pairs; records = a.records ∙ b.records }
 
@@ -184,7 +196,7 @@ module _ (told : Type 0) (c0 c1 : Core) (u v : View) where
     faults = b.faults;
   }
 
-  module _ (c2 : Core) (w : View) {X : Type 0} (x : X) (first : AreBegun {X = X} told (IsOneMore 1 c0 c1) c0 c1 u v (Ok x)) where
+  module _ (none : c0.grants.sessions ≡ no_sessions) (c2 : Core) (w : View) {X : Type 0} (x : X) (first : AreBegun {X = X} told (IsOneMore 1 c0 c1) c0 c1 u v (Ok x)) where
     all_moments : (second : told → LeavesOnly v w (λ x f. Stands x (world_of v.reads) × (f ≡ v.sent))) → told → LeavesOnly u w (λ x f. Stands x (world_of u.reads) × (f ≡ u.sent))
     all_moments second t = joined u v w (λ x f. Stands x (world_of u.reads) × (f ≡ u.sent)) (λ x f. Stands x (world_of v.reads) × (f ≡ v.sent)) (first.any_moment t) (second t)
         (λ x f left. (subst (λ (s : World). Stands x s) (first.at t).world left.0, left.1 ∙ first.sent t))
@@ -192,7 +204,11 @@ module _ (told : Type 0) (c0 c1 : Core) (u v : View) where
     pub second_done : (y : X) → AreBegun {X = X} told (IsOneMore 2 c1 c2) c1 c2 v w (Ok y) → AreBegun {X = X} told (AreBothOpen c2) c0 c2 u w (Ok y)
     second_done y b = record {
       ready = b.ready;
-      begun = record { source = b.begun.others 1 first.begun.this; target = b.begun.this };
+      begun = record {
+        source = b.begun.others 1 first.begun.this;
+        target = b.begun.this;
+        others = λ n h. ⊎_elim inr (λ before. ⊎_elim inl (λ never. absurd (none_open c0 none n never)) (first.begun.only n before)) (b.begun.only n h);
+      };
       like = like_twice (told_world c2) (told_world c1) (told_world c0) b.like first.like;
       at = λ t. subst (λ (s : World). IsAtStart s c2 w) (first.at t).world (b.at t);
       sent = λ t. b.sent t ∙ first.sent t;

@@ -51,7 +51,8 @@ pub record IsSourceMounted (f g : FilesView) (start w : World) : Type 0 where
 -- ---- the copy
 
 -- What a crash leaves of it: the source's tree as it is, and under the target's root what was there before, or the tree
--- after some of the steps. What the target's root didn't reach once the source was mounted is as it was then.
+-- after some of the steps. Where the target can't hold the tree, all is as it was once the source was mounted; and what
+-- the target's root didn't reach is so anyway.
 pub record IsPartlyCopied (f g : FilesView) (start w : World) : Type 0 where
   pub mounted : World
   pub is_mounted : IsSourceMounted f g start mounted
@@ -60,6 +61,7 @@ pub record IsPartlyCopied (f g : FilesView) (start w : World) : Type 0 where
   pub source : tree_under f w ≡ tree_under f start
   pub target : (tree_under g w ≡ tree_under g start)
       ⊎ ((j : ℕ) × (1 ≤ j) × (tree_under g w ≡ partial (tree_under f start) j))
+  pub held : CanHold g.kind (tree_under f start) ⊎ (w ≡ mounted)
   pub others : OthersStay g.root mounted w
 
 -- what a crash leaves of mounting and copying

@@ -34,7 +34,8 @@ use Rattle.fs_copy.specs.declared.refusal.CopyRefusal.TheVariants as no
 use Rattle.core_blocks.specs.Behind.{KeepsBehind}
 use Rattle.image_shell.specs.FromCore.{IsAtStart}
 use Rattle.image_shell.specs.Served.{level_at}
-use Rattle.image_copy.specs.Copied.{AreAdmitted, HasEnded, IsCopyJudged, IsNotBegun, IsSideDenied, source}
+use Rattle.image_copy.specs.Copied.{AreAdmitted, HasEnded, IsCopyJudged, IsKeptOut, IsNotBegun, IsSideDenied}
+use Rattle.image_copy.specs.Copied.{OnlyLooks, source}
 use Rattle.image_copy.specs.Copied.{source_session, target, target_session}
 use Rattle.image_copy.specs.Ends.{EndsAs, IsFirstShared, IsUnderWay}
 use Rattle.image_copy.specs.Lines.{HasWords}
@@ -77,16 +78,18 @@ pub record AreBegun {X : Type 0} (told : Type 0) (open_now : Type 0) (c0 c1 : Co
   pub put_faults : w.put_faults ≡ v.put_faults
   pub faults : CountsFaultOf status.DeviceFault result v.faults w.faults
 
--- this one is open, and those that were
+-- this one is open, and those that were, and no other
 pub record IsOneMore (session : ℕ) (c0 c1 : Core) : Type 0 where
   pub this : IsTrue (is_open (sessions_of c1) session)
   pub others : (n : ℕ) → IsTrue (is_open (sessions_of c0) n) → IsTrue (is_open (sessions_of c1) n)
+  pub only : (n : ℕ) → IsTrue (is_open (sessions_of c1) n) → (n ≡ session) ⊎ IsTrue (is_open (sessions_of c0) n)
   pub count : length (sessions_of c1) ≡ length (sessions_of c0)
 
--- the source's is open, and the target's
+-- the source's is open, and the target's, and no other
 pub record AreBothOpen (c : Core) : Type 0 where
   pub source : IsTrue (is_open (sessions_of c) source_session)
   pub target : IsTrue (is_open (sessions_of c) target_session)
+  pub others : (n : ℕ) → IsTrue (is_open (sessions_of c) n) → (n ≡ source_session) ⊎ (n ≡ target_session)
 
 -- ---- mounting and copying
 
@@ -195,6 +198,7 @@ pub record CopiesFrom (told : Type 0) (words : CopyFs) (v w : View) (result : Re
   pub behind : told → LeavesBehind v w
   pub not_begun : told → IfErr result (λ why. IsNotBegun why
       → LeavesOnly v w (λ x s. Stands x (world_of v.reads) × (s ≡ v.sent)))
+  pub looked : IfErr result (λ why. IsKeptOut why → w.writes ≡ v.writes)
   pub clock : v.clock ≤ w.clock
   pub put_faults : w.put_faults ≡ v.put_faults
   pub faults : CountsFaultOf status.DeviceFault result v.faults w.faults
@@ -219,6 +223,7 @@ pub record CarriesOut (told : Type 0) (words : CopyFs) (v w : View) (result : Re
   pub behind : told → IsFirm v → LeavesBehind v w
   pub not_begun : told → IfErr result (λ why. IsNotBegun why → IsFirm v
       → LeavesOnly v w (λ x s. StandAlike v.reads x × (s ≡ v.sent)))
+  pub looked : told → IfErr result (λ why. IsKeptOut why → OnlyLooks v w)
   pub untouched : told → IsForeign v.reads → IsUntouched v w
   pub spared : told → IfErr result (λ why. IsNotImage why → IsSpared v w)
   pub put_faults : w.put_faults ≡ v.put_faults

@@ -7,8 +7,8 @@ ghost use Rattle.image_world.specs.Behind.{LeavesBehind};
 ghost use Rattle.image_runs.specs.Opened.{IsNotImage};
 ghost use Rattle.recovery.specs.Opening.{IsForeign, IsSpared, IsUntouched, StandAlike};
 ghost use Rattle.volume_laws.specs.Volume.{IsVolumeAt, IsVolumeReady, told_by};
-ghost use Rattle.image_copy.specs.Copied.{HasCopied, IsCopyEnding, IsCopyJudged, IsLeftOfCopy, IsNotBegun};
-ghost use Rattle.image_copy.specs.Copied.{AreAdmitted, source, target};
+ghost use Rattle.image_copy.specs.Copied.{HasCopied, IsCopyEnding, IsCopyJudged, IsKeptOut, IsLeftOfCopy, IsNotBegun};
+ghost use Rattle.image_copy.specs.Copied.{AreAdmitted, OnlyLooks, source, target};
 ghost use Rattle.image_copy.specs.Steps.{CarriesOut, CopiesFrom};
 
 use crate::denied::denied;
@@ -53,6 +53,8 @@ pub fn copy_over_image<A: Files, B: Files, L: Placing, P: Port>(
     ensures not_begun { P.told → IsNotBegun result → IsFirm (P.view port.old)
         → LeavesOnly (P.view port.old) (P.view port.new) (λ x f. StandAlike (P.view port.old).reads x
         × (f ≡ (P.view port.old).sent)) }
+    // Where no image was opened, or a capability doesn't attain write, no more is written than an opening writes.
+    ensures looked { P.told → IsKeptOut result → OnlyLooks (P.view port.old) (P.view port.new) }
     // Where the image fails one of the tests that need no write, nothing is written, and the disk reads as before;
     // where it fails another, nothing is lost that a repair could use.
     ensures untouched { P.told → IsForeign (P.view port.old).reads

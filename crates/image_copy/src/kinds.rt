@@ -7,7 +7,8 @@ ghost use Rattle.image_world.specs.Behind.{LeavesBehind};
 ghost use Rattle.image_runs.specs.Opened.{IsNotImage};
 ghost use Rattle.recovery.specs.Opening.{IsForeign, IsSpared, IsUntouched, StandAlike};
 ghost use Rattle.fs_trees.specs.declared.ask.ShellKind.TheVariants as kind;
-ghost use Rattle.image_copy.specs.Copied.{HasCopied, IsCopyEnding, IsCopyJudged, IsLeftOfCopy, IsNotBegun, source};
+ghost use Rattle.image_copy.specs.Copied.{HasCopied, IsCopyEnding, IsCopyJudged, IsKeptOut, IsLeftOfCopy, IsNotBegun};
+ghost use Rattle.image_copy.specs.Copied.{OnlyLooks, source};
 
 use crate::image::copy_over_image;
 use crate::sessions::{SOURCE_SESSION, TARGET_SESSION};
@@ -46,9 +47,9 @@ pub fn copy_image<P: Port>(
     // A crash at any moment leaves the world at the start, one on the way, or with a front of the line the one that it
     // tells.
     /// promise: **A crash at any moment** leaves an image of a valid world with the source's tree under the source's
-    /// root and, under the target's, what was there before or the tree after some of the steps; where a byte of the
-    /// line was sent, the world that the line tells. What the source's root doesn't reach is as it was while that is
-    /// mounted, and what the target's root doesn't reach from then on.
+    /// root and, under the target's, what was there before or the tree after some of the steps (no step where its
+    /// layout can't hold the tree); where a byte of the line was sent, the world that the line tells. What the source's
+    /// root doesn't reach is as it was while that is mounted, and what the target's root doesn't reach from then on.
     ensures any_moment { P.told → IsFirm (P.view port.old) → LeavesOnly (P.view port.old) (P.view port.new)
         (IsLeftOfCopy words.now (P.view port.old)) }
     // Where no copy was begun, all is as it was.
@@ -57,6 +58,10 @@ pub fn copy_image<P: Port>(
     ensures not_begun { P.told → IsNotBegun result → IsFirm (P.view port.old)
         → LeavesOnly (P.view port.old) (P.view port.new) (λ x f. StandAlike (P.view port.old).reads x
         × (f ≡ (P.view port.old).sent)) }
+    // Where no image was opened, or a capability doesn't attain write, no more is written than an opening writes.
+    /// promise: Where the status is NotImage or RootDenied, nothing is written where nothing is left to be done on the
+    /// image, and else no more than an opening writes.
+    ensures looked { P.told → IsKeptOut result → OnlyLooks (P.view port.old) (P.view port.new) }
     // Where the image fails one of the tests that need no write, nothing is written, and the disk reads as before;
     // where it fails another, nothing is lost that a repair could use.
     /// promise (with spared, behind): Where the image fails one of the first three tests, nothing is written, and it
@@ -118,6 +123,8 @@ fn copy_from<A: Files, P: Port>(
     ensures not_begun { P.told → IsNotBegun result → IsFirm (P.view port.old)
         → LeavesOnly (P.view port.old) (P.view port.new) (λ x f. StandAlike (P.view port.old).reads x
         × (f ≡ (P.view port.old).sent)) }
+    // Where no image was opened, or a capability doesn't attain write, no more is written than an opening writes.
+    ensures looked { P.told → IsKeptOut result → OnlyLooks (P.view port.old) (P.view port.new) }
     // Where the image fails one of the tests that need no write, nothing is written, and the disk reads as before;
     // where it fails another, nothing is lost that a repair could use.
     ensures untouched { P.told → IsForeign (P.view port.old).reads
