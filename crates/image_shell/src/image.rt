@@ -15,7 +15,7 @@ ghost use Rattle.image_shell.specs.Served.{ShellRan};
 
 use crate::opened::serve_opened;
 use core_blocks::Placing;
-use fs_port::Files;
+use fs_walks::Walks;
 use image_device::{Port, Source};
 use image_runs::open_core;
 use serving::INPUT_MAX;

@@ -16,6 +16,7 @@ ghost use Rattle.image_shell.specs.FromCore.{TellsFaults, is_below_write, is_dev
 
 use core_blocks::{CoreBlocks, Placing};
 use fs_port::{Files, FsRefusal};
+use fs_walks::Walks;
 use image_device::{Device, Port, Source};
 use serving::INPUT_MAX;
 use shell_server::{Started, TreeLayout, serve_shell};

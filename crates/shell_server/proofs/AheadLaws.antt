@@ -1,6 +1,6 @@
 -- Names that were read ahead.
-use Rattle.std.proofs.Common.{◌≡◌, List, [], ◌∷◌, refl, sym, ◌∙◌, ap, subst, Option, Some, None, Result, Ok, Err, slice_get, remove, IfSome}
-use Rattle.shell_server.proofs.Common.{World, DeviceView, IsSound, firm_image, started, Answer, ShellAsk, FsRefusal, FilesView, TellsNext, Name, Core, behind_stays, IsLeftOf, shell_stands, AreReady, FitsShell, shell_state, IsLooked}
+use Rattle.std.proofs.Common.{◌≡◌, ℕ, false, List, [], ◌∷◌, refl, sym, ap, subst, Option, Some, None, Result, Ok, Err, slice_get, remove, IfSome, OnSome}
+use Rattle.shell_server.proofs.Common.{World, DeviceView, IsSound, firm_image, started, Answer, ShellAsk, FsRefusal, FilesView, TellsNext, Name, Core, behind_stays, IsLeftOf, shell_stands, AreReady, FitsShell, shell_state, shell_step, IsLooked}
 use Rattle.fs_walks.specs.Nexts.{AreBehind, TellsNames}
 
 -- the first of those that were read ahead is the next, and the others come behind it
@@ -13,7 +13,7 @@ taken_first after (m ∷ ns) rest n answer is left behind =
     )
 
 -- the first of those that were read now
-pub read_first : (after : Name) (ns rest : List Name) (o : Option Name) (answer : Answer) → o ≡ slice_get ns 0 → (IfSome o (λ n. rest ≡ remove ns 0)) → TellsNames after ns answer → TellsNext after o answer × IfSome o (λ n. AreBehind n rest answer)
+pub read_first : (after : Name) (ns rest : List Name) (o : Option Name) (answer : Answer) → o ≡ slice_get ns 0 → OnSome o (rest ≡ remove ns 0) → TellsNames after ns answer → TellsNext after o answer × IfSome o (λ n. AreBehind n rest answer)
 read_first after [] rest None answer is left tells = (tells, tt)
 read_first after [] rest (Some n) answer is left tells = absurd (cc)
 read_first after (m ∷ ns) rest None answer is left tells = absurd (cc)
