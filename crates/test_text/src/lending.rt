@@ -47,8 +47,13 @@ impl<'a, H: Handler> Handler for Lent<'a, H> {
 
     ghost given_form = { H.given_form };
 
-    fn apply<D: Device>(&mut self, dev: &mut D, request: &Request) -> Result<Reply, Failed> {
-        self.handler.apply(dev, request)
+    fn apply<D: Device>(
+        &mut self,
+        dev: &mut D,
+        request: &Request,
+        into: &mut Reply,
+    ) -> Result<(), Failed> {
+        self.handler.apply(dev, request, into)
     }
 
     fn settle_some<D: Device>(&mut self, dev: &mut D) -> Result<bool, Failed> {

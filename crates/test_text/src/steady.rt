@@ -36,11 +36,14 @@ impl Handler for Steady {
 
     ghost given_form = { λ s q r t e. done_form r e };
 
-    fn apply<D: Device>(&mut self, dev: &mut D, _request: &Request) -> Result<Reply, Failed> {
-        match dev.sync() {
-            Ok(()) => Ok(Reply::Done),
-            Err(why) => Err(why),
-        }
+    fn apply<D: Device>(
+        &mut self,
+        dev: &mut D,
+        _request: &Request,
+        into: &mut Reply,
+    ) -> Result<(), Failed> {
+        *into = Reply::Done;
+        dev.sync()
     }
 
     fn settle_some<D: Device>(&mut self, dev: &mut D) -> Result<bool, Failed> {
