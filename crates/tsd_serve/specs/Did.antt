@@ -34,7 +34,7 @@ use Rattle.image_runs.specs.Upgrade.{HasUpgraded, IsLeftOfUpgrade}
 use Rattle.image_runs.specs.Fresh.{FreshRan, single_world}
 use Rattle.image_runs.specs.Opened.{IsJudged, IsNotImage}
 use Rattle.image_runs.specs.Served.{ImageRan}
-use Rattle.image_shell.specs.Served.{IsShellJudged, ShellRan}
+use Rattle.image_shell.specs.Served.{IsOpeningAlone, IsShellJudged, OpensNoMore, ShellRan}
 use Rattle.tsd_serve.specs.Grouped.{OpenedInGroups}
 
 -- What a command that opens an image leaves alone. Of one that stands for no world: where it fails one of the first
@@ -65,10 +65,11 @@ pub record HasNoCutter (r : Status) (source : Taking) (port : Moments) : Type 0 
   pub unused : port.untouched
 
 -- An image was opened, the tree under a root mounted, and asks of it were served, at most 2^40 bytes of them. A refusal
--- says what is wrong with the image, or with the capability.
+-- says what is wrong with the image, or with the capability, and no more was written than opening writes.
 pub record Mounted (r : Status) (shell : Shell) (source : Taking) (port : Moments) : Type 0 where
   pub judged : port.tells → IsShellJudged shell.root shell.cap port.old.reads r
   pub ran : ShellRan r shell.layout shell.root shell.cap (2 ^ 40) source port
+  pub opened : port.tells → IsOpeningAlone r → OpensNoMore port.old port.new
   pub spared : SparesImage r port
 
 -- A certificate was read and its answer told, or a front of it.

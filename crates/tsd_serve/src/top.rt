@@ -59,7 +59,7 @@ pub fn tsd<S: Source, P: Port>(
     // nothing is done behind the last one but that.
     /// promise: With `run`, `serve` and `fresh` each reply is sent whole when so often was written since its request
     /// came as is said of `serve_core`, and at most 400 writes come after it; after SourceFault, TooLong and Truncated
-    /// nothing is written but these.
+    /// nothing is written but these. With `shell` the last is alone said, of the last answer.
     ensures prompt { P.told → AnswersPromptly (command_of (map string_bytes words.now.items)) result P.view port.old
         port.new }
     // Nothing more is taken once the end was found.
@@ -239,6 +239,7 @@ fn shell_lines<S: Source, P: Port>(
     ensures other { result ≢ Status.Usage }
     ensures did { Did (Some (command.Shell shell.now)) result
         (taking S.told S.taken S.left_bytes S.ended source.old source.new) (moments P.told P.view port.old port.new) }
+    ensures prompt { P.told → AnswersPromptly (Some (command.Shell shell.now)) result P.view port.old port.new }
     ensures once { EndsOnce (S.ends source.old) (S.ends source.new) }
     ensures source_fault { result ≡ Status.SourceFault → Rose (S.faults source.old) (S.faults source.new) }
     ensures device_fault { result ≡ Status.DeviceFault → Rose (P.view port.old).faults (P.view port.new).faults }
