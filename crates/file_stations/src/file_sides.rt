@@ -68,8 +68,8 @@ impl<'a, O, C, E, F> FileSides<'a, O, C, E, F> {
 }
 
 impl<O, C: Clock, E: Write, F: Write> FileSides<'_, O, C, E, F> {
-    /// Ends: wipes what is told of long work, before anything else is written, and hands what waits to the system. Tells
-    /// of the first image and of the second whether that failed: it does where a write did that was answered Ok.
+    /// Ends: wipes what is told of long work, before anything else is written, and hands what waits to the system.
+    /// Tells of the first image and of the second whether that failed: it does where a write did that was answered Ok.
     pub fn finish(&mut self) -> (Result<(), Failed>, Result<(), Failed>) {
         self.progress.wipe();
         let first = self.first.send();

@@ -1,8 +1,8 @@
 //! A boxed value behind a pointer that may be null, for a struct that C holds between calls.
 //!
 //! It stands on nothing. A [`Slot`] is one boxed value, or none where its pointer is null; what it holds is a ghost
-//! value that its contracts speak of, and what it owns is said by `specs/Slots.antt`. Here alone a raw pointer becomes a
-//! box again, by one `unsafe` block whose proof is written by hand.
+//! value that its contracts speak of, and what it owns is said by `specs/Slots.antt`. Here alone a raw pointer becomes
+//! a box again, by one `unsafe` block whose proof is written by hand.
 #![tactic(auto)]
 
 ghost use Rattle.std.specs.Prelude.{◌≡◌, Option, None, Some, option_map};

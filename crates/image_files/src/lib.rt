@@ -7,8 +7,8 @@
 //! standard stream that is closed.
 //!
 //! That a sector which was read ahead, or waits to be written, is read as it is, and that after a write or a sync that
-//! failed each call fails, is proved, over any file that tells its bytes. What the files of a system hold is trusted: no
-//! clause can say it, and tests alone show it, in the script `tests/edge`.
+//! failed each call fails, is proved, over any file that tells its bytes. What the files of a system hold is trusted:
+//! no clause can say it, and tests alone show it, in the script `tests/edge`.
 #![tactic(auto)]
 
 mod content;

@@ -4,8 +4,8 @@
 //! standard streams; the closures that rank blocks are made here.
 //!
 //! What it promises: the contract of the top call over the objects that are made here. What the command line and a file
-//! that a word names are on a real machine is trusted. Tests alone show it: its stored run, and the script `tests/edge`,
-//! which runs the built program.
+//! that a word names are on a real machine is trusted. Tests alone show it: its stored run, and the script
+//! `tests/edge`, which runs the built program.
 #![tactic(auto)]
 
 mod asking;

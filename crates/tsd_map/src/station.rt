@@ -27,8 +27,8 @@ pub struct MapStation<'a> {
 }
 
 impl<'a> MapStation<'a> {
-    /// An image, of whose replies none is in the room yet. A sync is asked for by a byte to `ask`, and done when a byte 1
-    /// comes from `answer`.
+    /// An image, of whose replies none is in the room yet. A sync is asked for by a byte to `ask`, and done when a
+    /// byte 1 comes from `answer`.
     pub fn new(image: &'a mut [u8], ask: i32, answer: i32, room: &'a mut [u8]) -> MapStation<'a>
         ensures filled { result.filled ≡ 0 }
         ensures room { length result.room.now ≡ length room.old }
