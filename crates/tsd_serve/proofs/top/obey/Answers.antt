@@ -6,6 +6,7 @@ use Rattle.serving.specs.Ran.{moments, taking}
 use Rattle.tsd_words.specs.declared.commands.Command.{Command}
 use Rattle.image_runs.specs.Load.{HasLoaded, IsLeftOfLoad}
 use Rattle.tsd_serve.specs.Did.{Did}
+use Rattle.tsd_serve.specs.Prompt.{AnswersPromptly}
 use Rattle.tsd_serve.proofs.top.obey.Goals as goal
 
 pub returns-in-Load-clause-did : goal.returns-in-Load-clause-did
@@ -41,3 +42,8 @@ returns-in-CopyFs-clause-did g c =
         spared = record { foreign = c.copy_image.ensures.untouched; damaged = c.copy_image.ensures.spared; behind = c.copy_image.ensures.behind };
       },
     )
+
+pub returns-in-Shell-clause-prompt : goal.returns-in-Shell-clause-prompt
+returns-in-Shell-clause-prompt g c told =
+    subst (λ (x : Command). AnswersPromptly (Some x) c.shell_lines.result g.P.Device.view c.args.port.now c.shell_lines.new.port) (sym c.in-Shell.is)
+    (c.shell_lines.ensures.prompt told)
