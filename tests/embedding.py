@@ -292,7 +292,8 @@ def run(context: Context) -> Iterator[Result]:
     checked = []
     if shutil.which("valgrind"):
         # A child of a fork keeps what the library holds of the disk until it ends, so nothing is said of a child.
-        words = ["valgrind", "--quiet", "--error-exitcode=99", "--leak-check=full", "--child-silent-after-fork=yes"]
+        words = ["valgrind", "--quiet", "--fair-sched=try", "--error-exitcode=99", "--leak-check=full",
+                 "--child-silent-after-fork=yes"]
         checked.append(Host(context, context.folder / "host", words, "under valgrind, "))
     else:
         yield skipped("under valgrind", "it isn't installed")

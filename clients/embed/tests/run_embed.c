@@ -13,6 +13,7 @@
 
 #include <errno.h>
 #include <pthread.h>
+#include <sched.h>
 #include <stdatomic.h>
 #include <stdbool.h>
 #include <stdio.h>
@@ -162,6 +163,7 @@ static int run_refused(const char *path) {
     tsd_embed_status status = TSD_EMBED_OK;
     for (long turns = 0; turns < 100000000 && status == TSD_EMBED_OK; turns++) {
         status = tsd_embed_apply(disk, asked, length, room, sizeof room, &filled);
+        sched_yield(); /* between its calls, so that the other one comes to begin */
     }
     say("a second thread", status);
     busy.is_over = true;
