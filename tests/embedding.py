@@ -230,6 +230,20 @@ def tried_kills(host: Host) -> Iterator[Result]:
         yield passed(name) if not (lost or unclean or late) else failed(name, f"{lost} {unclean} {late}")
 
 
+def tried_signals(host: Host) -> Iterator[Result]:
+    """Signals in mid-call, whose handler ends each wait and calls the disk: each write is answered and stays."""
+    context, image, count = host.context, host.context.folder / "signals.img", 2000
+    cap = make_disk(context.program, image, SIZE)
+    found, said = host.run("signals", image, cap[1], count)
+    wanted = f"closed: done\nwritten: {count}\nrefused to a handler: many\n"
+    yield compared(f"{host.name}signals during calls", (wanted, ""), (found.decode(), said))
+    read = b"open 1\nread 1 0 " + cap[0].encode() + b"\n"
+    ran = subprocess.run([str(context.program), str(image), "run", "near"], input=read, capture_output=True,
+                         timeout=MOST_SECONDS)
+    yield compared(f"{host.name}the last write before a signal stays", (count - 1).to_bytes(4, "little").hex().encode(),
+                   ran.stdout.split()[-1][:8])
+
+
 def tried_failures(context: Context, archive: str, table: Table) -> Iterator[Result]:
     """Each sync failing in turn, and all after it: the host is told, has the replies to the requests before, and the
     image is clean."""
@@ -286,6 +300,7 @@ def run(context: Context) -> Iterator[Result]:
     host = Host(context, context.folder / "host", [], "")
     table = read_table(context.top)
     for tried in (tried_refusals(host), tried_format(host), tried_cases(host, table), tried_kills(host),
+                  tried_signals(host),
                   embedded_crashes.results(context, archive, FLAGS), tried_failures(context, archive, table),
                   tried_rust(context, archive), clients.results_of(context, clients.EMBEDDED)):
         yield from tried

@@ -3,15 +3,16 @@
 
    Every call ends with a number: 0, or that of the program's status (docs/FORMAT.md), or TSD_C_CLOSED. A pointer isn't
    NULL, and no two of a call's memories overlap, also where their length is 0: that is the caller's to see to, and
-   nothing here can. One call is under way at a time over one image, in the process that opened it. No call is made from
-   a signal handler, nor while a signal's handler may run that makes one. A call takes memory by malloc and free, and
-   lets all of it go again but what a handle holds.
+   nothing here can. One call is under way at a time over one image, in the process that opened it: so none is made by
+   the handler of a signal that came during one. A call takes memory by malloc and free, and lets all of it go again but
+   what a handle holds.
 
    image, image_bytes   the image, mapped to be read and written, shared, from its file's first byte on; nobody else
                         writes that, and the file is locked as the program locks it (flock, exclusive)
    ask, answer          descriptors. A byte to `ask` asks that all that was written to the image be on the medium; the
-                        host answers by a byte on `answer`, 1 once it is so, and any other where that failed. A read or
-                        a write of them isn't interrupted by a signal */
+                        host answers by a byte on `answer`, 1 once it is so, and any other where that failed. A wait
+                        that a signal ends, or that finds `answer` closed, is begun again, 1,000,000 times at most; then
+                        the sync has failed */
 #ifndef TSD_CALLS_H
 #define TSD_CALLS_H
 

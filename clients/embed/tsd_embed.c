@@ -44,7 +44,7 @@ struct tsd_embed {
     bool is_open;       /* whether the handle holds a disk, or did until a call on it failed */
     bool has_failed;
     atomic_flag inside; /* whether a thread is inside a call */
-    pid_t owner;
+    unsigned born;      /* how many forks lay behind the process when it opened the disk */
     int file;
     uint8_t *image;
     size_t bytes;
@@ -53,6 +53,23 @@ struct tsd_embed {
     pthread_t syncer;
     bool has_syncer;
 };
+
+/* --- forks --- */
+
+/* How many forks lie behind this process since it first opened a disk: a child counts one more than its parent. */
+static atomic_uint forks;
+
+static void count_fork(void) {
+    atomic_fetch_add(&forks, 1);
+}
+
+static void count_forks(void) {
+    pthread_atfork(NULL, NULL, count_fork);
+}
+
+static bool is_another_process(const tsd_embed *disk) {
+    return disk->born != atomic_load_explicit(&forks, memory_order_relaxed);
+}
 
 /* --- syncs --- */
 
@@ -184,7 +201,7 @@ static bool sync_folder(const char *path) {
 /* Lets go of all that a disk has of the system, and frees it. errno stays. */
 static void let_go(tsd_embed *disk) {
     int error = errno, files[] = {disk->ask, disk->asked, disk->answered, disk->answer, disk->file};
-    if (disk->owner == getpid() && disk->has_syncer) {
+    if (!is_another_process(disk) && disk->has_syncer) {
         put_byte(disk->ask, END); /* a child that lives has the pipe too, so closing it ends nothing */
         pthread_join(disk->syncer, NULL);
     }
@@ -201,10 +218,12 @@ static void let_go(tsd_embed *disk) {
 }
 
 static tsd_embed *begin(void) {
+    static pthread_once_t once = PTHREAD_ONCE_INIT;
+    pthread_once(&once, count_forks);
     tsd_embed *disk = calloc(1, sizeof *disk);
     if (disk != NULL) {
         disk->file = disk->ask = disk->asked = disk->answered = disk->answer = -1;
-        disk->owner = getpid();
+        disk->born = atomic_load(&forks);
         atomic_flag_clear(&disk->inside);
     }
     return disk;
@@ -212,22 +231,15 @@ static tsd_embed *begin(void) {
 
 /* --- calls --- */
 
-static tsd_embed_status enter(tsd_embed *disk, sigset_t *before) {
-    sigset_t all;
-    if (disk->owner != getpid()) {
+static tsd_embed_status enter(tsd_embed *disk) {
+    if (is_another_process(disk)) {
         return TSD_EMBED_FORKED;
     }
-    if (atomic_flag_test_and_set(&disk->inside)) {
-        return TSD_EMBED_BUSY;
-    }
-    sigfillset(&all);
-    pthread_sigmask(SIG_SETMASK, &all, before);
-    return TSD_EMBED_OK;
+    return atomic_flag_test_and_set_explicit(&disk->inside, memory_order_acquire) ? TSD_EMBED_BUSY : TSD_EMBED_OK;
 }
 
-static void leave(tsd_embed *disk, const sigset_t *before) {
-    pthread_sigmask(SIG_SETMASK, before, NULL);
-    atomic_flag_clear(&disk->inside);
+static void leave(tsd_embed *disk) {
+    atomic_flag_clear_explicit(&disk->inside, memory_order_release);
 }
 
 static bool overlap(const void *one, size_t one_bytes, const void *other, size_t other_bytes) {
@@ -300,9 +312,8 @@ size_t tsd_embed_room(const void *frames, size_t length) {
 
 tsd_embed_status tsd_embed_apply(tsd_embed *disk, const void *frames, size_t length, void *replies, size_t room,
                                  size_t *filled) {
-    sigset_t before;
     tsd_embed_status status = check(disk, frames, length, replies, room, filled);
-    if (status != TSD_EMBED_OK || (status = enter(disk, &before)) != TSD_EMBED_OK) {
+    if (status != TSD_EMBED_OK || (status = enter(disk)) != TSD_EMBED_OK) {
         return status;
     }
     *filled = 0;
@@ -312,15 +323,14 @@ tsd_embed_status tsd_embed_apply(tsd_embed *disk, const void *frames, size_t len
                              room, filled);
         disk->has_failed = status == TSD_EMBED_DEVICE;
     }
-    leave(disk, &before);
+    leave(disk);
     return status;
 }
 
 tsd_embed_status tsd_embed_batch(tsd_embed *disk, const void *frames, size_t length, void *replies, size_t room,
                                  size_t *filled) {
-    sigset_t before;
     tsd_embed_status status = check(disk, frames, length, replies, room, filled);
-    if (status != TSD_EMBED_OK || (status = enter(disk, &before)) != TSD_EMBED_OK) {
+    if (status != TSD_EMBED_OK || (status = enter(disk)) != TSD_EMBED_OK) {
         return status;
     }
     *filled = 0;
@@ -329,22 +339,21 @@ tsd_embed_status tsd_embed_batch(tsd_embed *disk, const void *frames, size_t len
         status = tsd_c_batch(disk->image, disk->bytes, disk->ask, disk->answer, frames, length, replies, room, filled);
         disk->has_failed = status == TSD_EMBED_DEVICE;
     }
-    leave(disk, &before);
+    leave(disk);
     return status;
 }
 
 tsd_embed_status tsd_embed_close(tsd_embed *disk) {
-    sigset_t before;
     if (disk == NULL) {
         return TSD_EMBED_OK;
     }
-    tsd_embed_status status = enter(disk, &before);
+    tsd_embed_status status = enter(disk);
     if (status == TSD_EMBED_BUSY) {
         return status;
     }
     if (status == TSD_EMBED_OK) {
         status = release(disk);
-        leave(disk, &before);
+        leave(disk);
     }
     let_go(disk);
     return status;
@@ -380,11 +389,10 @@ static tsd_embed_status open_image(tsd_embed *disk, const char *path) {
     if (!grow(disk->file, bytes) || !map(disk, bytes) || !start_syncer(disk)) {
         return TSD_EMBED_SYSTEM;
     }
-    sigset_t before;
-    status = enter(disk, &before);
+    status = enter(disk);
     if (status == TSD_EMBED_OK) {
         status = hold(disk);
-        leave(disk, &before);
+        leave(disk);
     }
     return status;
 }
@@ -447,12 +455,11 @@ tsd_embed_status tsd_embed_format(const char *path, uint32_t blocks, uint32_t se
     if (disk == NULL) {
         return TSD_EMBED_NO_MEMORY;
     }
-    sigset_t before;
     tsd_embed_status status = make_image(disk, path, bytes);
-    if (status == TSD_EMBED_OK && (status = enter(disk, &before)) == TSD_EMBED_OK) {
+    if (status == TSD_EMBED_OK && (status = enter(disk)) == TSD_EMBED_OK) {
         status = tsd_c_format(disk->image, disk->bytes, disk->ask, disk->answer, blocks, sectors, slots, primaries,
                               seed, SEED, (uint8_t *)lines, room, filled);
-        leave(disk, &before);
+        leave(disk);
     }
     let_go(disk);
     return status;

@@ -4,8 +4,9 @@
    the disk judges each request as the program does. docs/EMBEDDING.md says when to use this, and what the host owes.
 
    Threads: one call at a time over a disk; a second one meanwhile is TSD_EMBED_BUSY and does nothing. fork: a child's
-   calls are TSD_EMBED_FORKED. Signals: all are blocked in the calling thread during a call, and stay so in the thread
-   that syncs. */
+   calls are TSD_EMBED_FORKED. Signals: a handler may run during a call, which goes on behind it; a call that a handler
+   makes over the same disk meanwhile is TSD_EMBED_BUSY. A handler that leaves a call by a jump leaves the disk BUSY.
+   In the thread that syncs all signals are blocked. */
 #ifndef TSD_EMBED_H
 #define TSD_EMBED_H
 

@@ -6,6 +6,8 @@
      run_embed refused IMAGE                  what is refused, and that nothing was done
      run_embed counts IMAGE CAPABILITY FEW    writes 1, 2, 3 .. to block 0, FEW in each call, until it is killed; each
                                               number once it is answered
+     run_embed signals IMAGE CAPABILITY COUNT writes 0, 1, 2 .. to block 0, while a signal comes each 50 microseconds
+                                              whose handler calls the disk too; how that ended
      run_embed time IMAGE CAPABILITY COUNT    microseconds of requests, as lines of a name and a number; the capability
                                               is one to write */
 #define _DEFAULT_SOURCE
@@ -14,11 +16,13 @@
 #include <errno.h>
 #include <pthread.h>
 #include <sched.h>
+#include <signal.h>
 #include <stdatomic.h>
 #include <stdbool.h>
 #include <stdio.h>
 #include <stdlib.h>
 #include <string.h>
+#include <sys/time.h>
 #include <sys/wait.h>
 #include <time.h>
 #include <unistd.h>
@@ -211,6 +215,44 @@ static int run_counts(const char *path, const char *digits, size_t few) {
     }
 }
 
+static tsd_embed *signalled;
+static volatile sig_atomic_t busy_signals;
+
+static void call_meanwhile(int signal) {
+    uint8_t asked[8], room[64];
+    size_t filled;
+    int error = errno;
+    (void)signal;
+    busy_signals += tsd_embed_apply(signalled, asked, frame(asked, 7, NULL, NULL, 0), room, sizeof room, &filled) ==
+                    TSD_EMBED_BUSY;
+    errno = error;
+}
+
+static int run_signals(const char *path, const char *digits, size_t count) {
+    uint8_t cap[CAP], asked[64], room[64];
+    size_t filled, done = 0;
+    struct sigaction action = {.sa_handler = call_meanwhile}; /* without SA_RESTART, so that it ends each wait */
+    struct itimerval often = {{0, 50}, {0, 50}}, never = {{0, 0}, {0, 0}};
+    cap_of(cap, digits);
+    signalled = opened(path);
+    tsd_embed_apply(signalled, asked, frame(asked, 1, NULL, NULL, 0), room, sizeof room, &filled);
+    sigaction(SIGALRM, &action, NULL);
+    setitimer(ITIMER_REAL, &often, NULL);
+    for (tsd_embed_status status = TSD_EMBED_OK; done < count && status == TSD_EMBED_OK; done++) {
+        uint8_t bytes[4];
+        put_number(bytes, (uint32_t)done);
+        status = tsd_embed_apply(signalled, asked, frame(asked, 4, cap, bytes, sizeof bytes), room, sizeof room, &filled);
+        if (status != TSD_EMBED_OK || filled < 3 || room[2] == REFUSED) {
+            fprintf(stderr, "%s\n", tsd_embed_words(status));
+            break;
+        }
+    }
+    setitimer(ITIMER_REAL, &never, NULL);
+    say("closed", tsd_embed_close(signalled));
+    printf("written: %zu\nrefused to a handler: %s\n", done, busy_signals > 10 ? "many" : "few");
+    return 0;
+}
+
 static double now(void) {
     struct timespec time;
     clock_gettime(CLOCK_MONOTONIC, &time);
@@ -280,6 +322,9 @@ int main(int count, char **words) {
     }
     if (count >= 5 && strcmp(words[1], "counts") == 0) {
         return run_counts(words[2], words[3], (size_t)atol(words[4]));
+    }
+    if (count >= 5 && strcmp(words[1], "signals") == 0) {
+        return run_signals(words[2], words[3], (size_t)atol(words[4]));
     }
     if (count >= 5 && strcmp(words[1], "time") == 0) {
         return run_time(words[2], words[3], (size_t)atol(words[4]));

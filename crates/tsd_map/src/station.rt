@@ -10,6 +10,9 @@ const ASK: [u8; 1] = *b"S";
 /// The byte by which the host says that all that was written is on the medium.
 const SYNCED: u8 = 1;
 
+/// How often an answer is waited for: a signal's handler ends a wait without one, and a closed descriptor each wait.
+const WAITS: u32 = 1_000_000;
+
 /// An image in memory that a host has mapped from a file, and room in memory for replies. It counts the calls that
 /// failed, each count up to the greatest `u64`.
 #[derive(Drop)]
@@ -93,9 +96,8 @@ impl<'a> Device for MapStation<'a> {
     }
 
     fn sync(&mut self) -> Result<(), Failed> {
-        let mut answer = [0u8; 1];
         let is_asked = io::write_all(self.ask, ASK.as_slice());
-        if !is_asked || io::read_full(self.answer, &mut answer) != 1 || answer[0] != SYNCED {
+        if !is_asked || byte_from(self.answer) != Some(SYNCED) {
             self.faults = self.faults.saturating_add(1);
             return Err(Failed);
         }
@@ -118,4 +120,15 @@ impl<'a> Port for MapStation<'a> {
         self.filled = end;
         Ok(piece.len())
     }
+}
+
+/// The next byte of a descriptor, or none where none came.
+fn byte_from(answer: i32) -> Option<u8> {
+    let mut byte = [0u8; 1];
+    for _ in 0..WAITS {
+        if io::read_full(answer, &mut byte) == 1 {
+            return Some(byte[0]);
+        }
+    }
+    None
 }
