@@ -22,6 +22,9 @@ const NEVER_FITS: usize = 1000;
 /// More homes than any other request has.
 const FEW_HOMES: usize = 40;
 
+/// How many sectors a block has at most, which are all that a write of it changes.
+const BLOCK_HOMES: usize = 8;
+
 /// A core with the placement by which it takes free blocks.
 #[derive(Drop)]
 pub(crate) struct GroupServer<'a> {
@@ -92,7 +95,7 @@ impl<'a> GroupHandler for GroupServer<'a> {
                 NEVER_FITS,
             Request::Alloc { count, .. } | Request::Contig { count, .. } => blocks_homes(*count),
             Request::Create { .. } | Request::Delete { .. } | Request::SetCap { .. } => FEW_HOMES,
-            Request::Write { .. } => FEW_HOMES,
+            Request::Write { .. } => BLOCK_HOMES,
             _ => 0,
         }
     }
