@@ -46,8 +46,14 @@ def made_disk(context: Context, name: str, kind: str, blocks: int, sectors: int)
 
 
 def check(context: Context, image: Path) -> str:
-    """The first word that `check` has of an image."""
-    return subprocess.run([context.program, image, "check"], capture_output=True, text=True).stdout.split(" ")[0]
+    """The first word that `check` has of an image, once nobody has it in use: a program whose user was killed ends only
+    then."""
+    deadline = time.monotonic() + MOST_SECONDS
+    while True:
+        done = subprocess.run([context.program, image, "check"], capture_output=True, text=True)
+        if "in use" not in done.stderr or time.monotonic() > deadline:
+            return done.stdout.split(" ")[0]
+        time.sleep(0.01)
 
 
 class Tree:

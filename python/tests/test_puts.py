@@ -86,6 +86,41 @@ class CutOffs(unittest.TestCase):
                         kept = before is not None and left.state is not State.BEGUN
                         self.assertEqual(["a"] if kept else [], all_of(puts._files))
 
+    def test_an_old_file_without_bytes_stays_until_the_new_one_is_there(self) -> None:
+        for kind in KINDS:
+            for asks in range(1000):
+                with self.subTest(kind=kind, asks=asks):
+                    model = with_old(kind, b"")
+                    puts, is_over = puts_of(model, asks), True
+                    try:
+                        puts.put(io.BytesIO(NEW), "/a", size=len(NEW), is_empty=True)
+                    except Gone:
+                        is_over = False
+                    left = puts_of(model).left()
+                    if [one.state for one in left] == [State.WHOLE] and kind == "inode":
+                        puts_of(model).finish(left[0])
+                    found = content_of(files_of(model), "/a")
+                    self.assertTrue(NEW.startswith(found))
+                    if found not in (b"", NEW):
+                        self.assertEqual([(State.BEGUN, "/a")], [(one.state, one.target) for one in left])
+                    if is_over:
+                        self.assertEqual((NEW, ["a"]), (found, all_of(files_of(model))))
+                if is_over:
+                    break
+
+    def test_an_old_file_without_bytes_is_there_again_after_a_stop(self) -> None:
+        for kind in KINDS:
+            for stop in range(1, len(NEW) + 1, 2000):
+                def stop_there(count: int) -> None:
+                    if count >= stop:
+                        raise Stopped
+
+                model = with_old(kind, b"")
+                puts = puts_of(model)
+                with self.assertRaises(Stopped):
+                    puts.put(io.BytesIO(NEW), "/a", stop_there, len(NEW), True)
+                self.assertEqual((b"", ["a"]), (content_of(puts._files, "/a"), all_of(puts._files)))
+
     def test_a_finish_that_is_cut_off_is_finished(self) -> None:
         for kind in KINDS:
             for asks in range(60):

@@ -240,16 +240,8 @@ class Operations:
         self._known.changed(path, held.size)
 
     def _put(self, held: Held, path: str) -> None:
-        """All of it. Over chains a file without bytes goes before, so that a new one needs its room once."""
-        goes = held.on_disk == 0 and self._files.kind != INODE and held.size > piece_length(path)
-        if goes:
-            self._files.do("rm", path)
-        try:
-            self._puts.put(held.rewound(), path, size=held.size)
-        except (TsdError, OSError):
-            if goes:
-                self._files.bring("put", path, b"")
-            raise
+        """All of it. Over chains it grows in the place of a file without bytes, so that it needs its room once."""
+        self._puts.put(held.rewound(), path, size=held.size, is_empty=held.on_disk == 0)
         held.stored()
 
     def _add(self, held: Held, path: str) -> None:

@@ -131,20 +131,24 @@ class Puts:
         return self._files
 
     def put(
-        self, source: Source, path: str, progress: Progress = no_progress, size: Optional[int] = None
+        self, source: Source, path: str, progress: Progress = no_progress, size: Optional[int] = None,
+        is_empty: bool = False,
     ) -> None:
-        """All bytes of a source, of so many bytes where that is known, to a file, in place of an old one.
+        """All bytes of a source, of so many bytes where that is known, to a file, in place of an old one, which has no
+        bytes where `is_empty` says so.
 
         What fits in one line is one change. Of a longer one the room is looked at first. Over inodes it is written
         beside the tree, and takes its place when it is whole and the room for its name is shown; so over chains where
-        there is an old one, and else it grows in its place. What a refusal or a stop cuts off is taken away.
+        there is an old one with bytes, and else it grows in its place. What a refusal or a stop cuts off is taken away:
+        then there is what was there before.
         """
         beside = below(split_path(path)[0], "put-00000000/copy")
         length = min(piece_length(path), piece_length(beside))
         first = source.read(length)
         second = source.read(length) if len(first) == length else b""
         if second:
-            self._put_long(chain([first, second], iter(lambda: source.read(length), b"")), path, progress, size)
+            pieces = chain([first, second], iter(lambda: source.read(length), b""))
+            self._put_long(pieces, path, progress, size, is_empty)
         else:
             self._files.bring("put", path, first)
             progress(len(first))
@@ -162,35 +166,39 @@ class Puts:
         if stage is not None:
             self.clear(stage)
 
-    def _put_long(self, pieces: Iterator[bytes], path: str, progress: Progress, size: Optional[int]) -> None:
+    def _put_long(
+        self, pieces: Iterator[bytes], path: str, progress: Progress, size: Optional[int], is_empty: bool
+    ) -> None:
         found = self._files.look(path)
         if found == DIRECTORY:
             raise self._refused("is-dir", (), path)
-        if self._files.kind == INODE or found is None:
-            self._check_room(path, size)
+        grows = self._files.kind != INODE and (found is None or is_empty)
+        if self._files.kind == INODE or grows:
+            self._check_room(path, size, found == FILE and grows)
+
         def write(new: str) -> None:
             self._write(pieces, new, progress)
 
         if self._files.kind == INODE:
             self._put_beside(write, path, progress, found == FILE)
-        elif found is None:
-            self._put_at(pieces, path, progress)
+        elif grows:
+            self._put_at(pieces, path, progress, found == FILE)
         elif self._is_room_for_both(path, size):
             self._put_beside(write, path, progress, True)
         else:
             self._files.do("rm", path)
-            self._put_at(pieces, path, progress)
+            self._put_at(pieces, path, progress, False)
 
     # --- room ---
 
-    def _check_room(self, path: str, size: Optional[int]) -> None:
-        """Refuses a file that can't have room, before anything is written."""
+    def _check_room(self, path: str, size: Optional[int], has_cluster: bool) -> None:
+        """Refuses a file that can't have room, before anything is written. The old one may have a cluster for it."""
         needed = None if size is None else self._files.limits.blocks_for(size)
         if size is None or needed is None:
             return
         if self._files.limits.is_too_big(size):
             raise self._refused("too-big", (), path)
-        free = self._files.free()
+        free = self._files.free() + has_cluster
         if free < needed:
             raise self._refused("full", (free, needed), path)
 
@@ -217,15 +225,19 @@ class Puts:
 
     # --- the new file ---
 
-    def _put_at(self, pieces: Iterator[bytes], path: str, progress: Progress) -> None:
-        """A file over chains that grows in its place; where it is cut off it is taken away."""
+    def _put_at(self, pieces: Iterator[bytes], path: str, progress: Progress, is_there: bool) -> None:
+        """A file over chains that grows in its place, where none or one without bytes is; so there is then where it is
+        cut off."""
         stage = Stage(self._files.kind, below("/", f"put-{secrets.token_hex(4)}"))
         with contextlib.suppress(ShellRefused):
             self._files.bring("put", stage.begun, path.encode())
         try:
             self._write(pieces, path, progress)
         except (ShellRefused, Stopped, OSError):
-            self._remove(path)
+            if is_there:
+                self._files.bring("put", path, b"")
+            else:
+                self._remove(path)
             self._remove(stage.begun)
             raise
         self._remove(stage.begun)
