@@ -4,6 +4,8 @@ use Rattle.std.specs.Prelude.{All}
 use Rattle.image_runs.proofs.Common.{World, State, at_rest, PlaceKind, Request, View, IsFirm, LeavesOnly, joined, weakened, leaves_both, Image, home, Stands, world_of, tables_of, StandAlike, IsQuiet, IsGood, Status, IsPaidFor, HasDebt, Spelling, Placed, Mark, Promptly, ByStatus, AskedBy, IsAcknowledged, IsCounted, Voice, Core, state_on, debt, disk_work, placed_on, IsUnopened, IsJudged, IsNotImage, disk_service, start_of, IsAtEase, IsOwed, RunEnds}
 use Rattle.tsd_words.specs.declared.status.Status.TheVariants as status
 use Rattle.serving.specs.Ran.{Ends as Served}
+use Rattle.serving.specs.Seen.{IsLeftInRun}
+use Rattle.serving.proofs.Seen.{acknowledged}
 use Rattle.serving.specs.Work.{used}
 
 -- a disk beside a placement
@@ -99,7 +101,9 @@ ends_opened r v kind old mid new qs s final owed counted at settled opened serve
     let by : ByStatus r (disk_service v) start old.sent qs final new.sent =
     subst (λ (b : List ℕ). ByStatus r (disk_service v) start b qs final new.sent) sent (subst (λ (p : Placed). ByStatus r (disk_service v) p mid.sent qs final new.sent) at served.sent) in
     let moments : LeavesOnly mid new (IsAcknowledged (disk_service v) start old.sent qs) =
-    subst (λ (b : List ℕ). LeavesOnly mid new (IsAcknowledged (disk_service v) start b qs)) sent (subst (λ (p : Placed). LeavesOnly mid new (IsAcknowledged (disk_service v) p mid.sent qs)) at served.any_moment) in
+    subst (λ (b : List ℕ). LeavesOnly mid new (IsAcknowledged (disk_service v) start b qs)) sent (subst (λ (p : Placed). LeavesOnly mid new (IsAcknowledged (disk_service v) p mid.sent qs))
+        at (weakened mid new (IsLeftInRun (disk_service v) (new.left mid.clock) s mid.sent qs) (IsAcknowledged (disk_service v) s mid.sent qs) (served.any_moment mid.clock (omega arith))
+        (acknowledged (disk_service v) (new.left mid.clock) (λ t q x none. none) s mid.sent qs))) in
     let debts : All disk_work.bounded qs → LeavesOnly mid new (HasDebt (disk_service v) disk_work start old.sent 0 qs) = λ bounded.
     subst (λ (n : ℕ). LeavesOnly mid new (HasDebt (disk_service v) disk_work start old.sent n qs)) settled
     (subst (λ (b : List ℕ). LeavesOnly mid new (HasDebt (disk_service v) disk_work start b (debt mid.reads) qs)) sent

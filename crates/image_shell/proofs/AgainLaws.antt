@@ -12,7 +12,7 @@ use Rattle.fs_trees.specs.declared.ask.ShellKind.{ShellKind}
 use Rattle.fs_laws.proofs.OutsideLaws.{outside_twice}
 use Rattle.fs_port.specs.Files.{FilesView}
 use Rattle.serving.specs.Runs.{Run}
-use Rattle.shell_server.specs.Shell.{AnswersByLine, ShellState, IsLeftOf, files_after, heard, shell_service, tree_of, tree_under}
+use Rattle.shell_server.specs.Shell.{AnswersByLine, ShellState, IsLeftOf, IsMaking, resting, files_after, heard, shell_service, tree_of, tree_under}
 use Rattle.image_shell.specs.Served.{IsFirstState}
 use Rattle.image_shell.specs.Told.{IsFoundAgain, WhatACrashLeftIsMounted}
 
@@ -61,16 +61,27 @@ module _ (f : FilesView) (start : World) (first second : ShellState) (x : Image)
             (subst (λ (n : ℕ). OthersStay n (world_of x) second.world) root_there is_second.kept.others);
       }
 
+  -- an empty tree was being made, and none is there yet
+  found_none : (s : ShellState) (q : ShellAsk) → IsSamePlace first.files s.files → IsMaking start s q x → IsFoundAgain start s second
+  found_none s q same making =
+      let as_left = found (resting s.files making.world) same making.left in
+      let none : tree_under s.files making.world ≡ tree_of s = making.none_yet ∙ sym making.none in
+      record { tree = as_left.tree ∙ none; mounted = as_left.mounted ∙ ap is_there none; tidy = as_left.tidy; geometry = as_left.geometry; others = as_left.others }
+
 pub found_again : WhatACrashLeftIsMounted
-found_again f start first second before asked x sent is_first acked is_second = elim acked [
+found_again f start left first second before asked x sent is_first acked is_second = elim acked [
   | inl b ↦ inl (b.0, found f start first second x is_first is_second b.0.state (after_run start first b.0.state b.0.answered b.0.answers b.0.run) b.1)
   | inr c ↦
       let run = after_run start first c.0.state c.0.answered c.0.answers c.0.run in
       let one = after_answer start c.0.state c.0.next c.0.request c.0.answer c.0.given in
       inr (
         c.0,
-        elim c.1 [
-          | inl now ↦ inl (found f start first second x is_first is_second c.0.state run now)
+        c.1,
+        elim c.2 [
+          | inl not_yet ↦ inl (elim not_yet [
+            | inl now ↦ found f start first second x is_first is_second c.0.state run now
+            | inr between ↦ found_none f start first second x is_first is_second c.0.state c.0.request run between
+          ])
           | inr next ↦ inr (found f start first second x is_first is_second c.0.next (one.0 ∙ run.0, one.1 ∙ run.1) next)
         ],
       )

@@ -22,6 +22,7 @@ use Rattle.volume_laws.specs.Quiet.{IsQuiet}
 use Rattle.tsd_words.specs.declared.status.Status.{Status}
 use Rattle.tsd_words.specs.declared.status.Status.TheVariants as status
 use Rattle.fs_trees.specs.Outside.{OthersStay}
+use Rattle.fs_trees.specs.Tree.{is_there, nothing}
 use Rattle.fs_trees.specs.declared.ask.ShellAsk.{ShellAsk}
 use Rattle.fs_trees.specs.declared.ask.ShellKind.{ShellKind}
 use Rattle.fs_trees.specs.declared.refusal.FsRefusal.{FsRefusal}
@@ -29,8 +30,8 @@ use Rattle.fs_trees.specs.declared.refusal.FsRefusal.TheVariants as no
 use Rattle.fs_port.specs.Files.{FilesView}
 use Rattle.serving.specs.Prompt.{Mark}
 use Rattle.serving.specs.Ran.{ByStatus, Ends, Moments, Ran, Taking}
-use Rattle.serving.specs.Runs.{IsAcknowledged, texts}
-use Rattle.serving.specs.Seen.{AreSeen, IsSeenRun}
+use Rattle.serving.specs.Runs.{texts}
+use Rattle.serving.specs.Seen.{AreSeen, IsLeftInRun, IsSeenRun}
 use Rattle.serving.specs.Service.{Service}
 use Rattle.tsd_core.specs.Core.{Core, sessions_of, told_world}
 use Rattle.tsd_core.specs.Core.{IsCoreAt}
@@ -89,8 +90,8 @@ allowed_by root cap start status.Truncated in_here is = is
 -- ---- the first moment
 
 -- with nothing answered, an image of the first state
-pub first_moment : (start : World) (s : ShellState) (before : List ℕ) (qs : List ShellAsk) (x : Image) (f : List ℕ) → IsLeftOf start s x → f ≡ before → IsAcknowledged (shell_service start) s before qs x f
-first_moment start s before qs x f left e = inl (
+pub first_moment : (start : World) (seen : Image → List ℕ → Type 0) (s : ShellState) (before : List ℕ) (qs : List ShellAsk) (x : Image) (f : List ℕ) → IsLeftOf start s x → f ≡ before → IsLeftInRun (shell_service start) seen s before qs x f
+first_moment start seen s before qs x f left e = inl (
   record {
     answered = [];
     rest = qs;
@@ -112,6 +113,9 @@ left_first f start s first x left = record {
   geometry = left.geometry;
   tree = subst (λ (h : FilesView). tree_under h left.world ≡ tree_under h s.world) (sym first.files) (left.tree ∙ sym first.tree) ∙ sym (ap (tree_by s.files s.world) first.at_rest);
   others = subst (λ (h : FilesView). OthersStay h.root start left.world) (sym first.files) left.others;
+  still = λ none.
+      let gone : tree_under f start ≡ nothing = sym first.tree ∙ sym (ap (λ (h : FilesView). tree_under h s.world) first.files) ∙ sym (ap (tree_by s.files s.world) first.at_rest) ∙ none in
+      left.still gone ∙ sym (first.deletes.none (ap is_there gone));
 }
 
 pub stays_put : (root : ℕ) (w : World) → OthersStay root w w
@@ -119,7 +123,7 @@ stays_put root w = record { records = refl; bytes = λ b live away. refl; pairs 
 
 -- an image of the world at the start is one that may be left of it
 pub left_at_start : (f : FilesView) (start : World) → IsValid start → (x : Image) → Stands x start → IsLeftOf start (resting f start) x
-left_at_start f start valid x stands = record { world = start; stands = stands; valid = valid; geometry = refl; tree = refl; others = stays_put f.root start }
+left_at_start f start valid x stands = record { world = start; stands = stands; valid = valid; geometry = refl; tree = refl; others = stays_put f.root start; still = λ none. refl }
 
 -- states that were seen, with other bytes sent before that are the same
 abbrev pub seen_before : {Q : Type 0} (k : Service Q) (left : Image → List ℕ → Type 0) (s : k.States) (one other : List ℕ) (qs : List Q) (now : List ℕ) → one ≡ other → IsSeenRun k left s one qs now → IsSeenRun k left s other qs now
@@ -159,10 +163,10 @@ module _ (r : Status) (f g : FilesView) (kind : ShellKind) (limit : ℕ) (source
         final = final;
         at_rest = still;
         sent = subst (λ (b : List ℕ). ByStatus r k one b asked final new.sent) (sent t) ends.sent;
-        any_moment = joined v m new (IsAcknowledged k one v.sent asked) (IsAcknowledged k one v.sent asked)
-            (weakened v m (λ x h. IsLeftOf start (resting f start) x × (h ≡ v.sent)) (IsAcknowledged k one v.sent asked) (any t)
-            (λ x h left. first_moment start one v.sent asked x h (left_first f start one (first t) x left.0) left.1))
-            (subst (λ (b : List ℕ). LeavesOnly m new (IsAcknowledged k one b asked)) (sent t) ends.any_moment) (λ x h acked. acked);
+        any_moment = λ n le. joined v m new (IsLeftInRun k (new.left n) one v.sent asked) (IsLeftInRun k (new.left n) one v.sent asked)
+            (weakened v m (λ x h. IsLeftOf start (resting f start) x × (h ≡ v.sent)) (IsLeftInRun k (new.left n) one v.sent asked) (any t)
+            (λ x h left. first_moment start (new.left n) one v.sent asked x h (left_first f start one (first t) x left.0) left.1))
+            (subst (λ (b : List ℕ). LeavesOnly m new (IsLeftInRun k (new.left n) one b asked)) (sent t) (ends.any_moment n (later n le))) (λ x h acked. acked);
         seen = λ n le. seen_before k (new.left n) one m.sent v.sent asked new.sent (sent t) (ends.seen n (later n le));
         all_seen = λ fine n le. ends.all_seen fine n (later n le);
         done = λ e.
@@ -199,10 +203,10 @@ module _ (r : Status) (f : FilesView) (kind : ShellKind) (limit : ℕ) (source :
         final = ends.final;
         at_rest = ends.at_rest;
         sent = subst (λ (b : List ℕ). ByStatus r k ends.first b asked ends.final new.sent) (sent t) ends.sent;
-        any_moment = joined v m new (IsAcknowledged k ends.first v.sent asked) (IsAcknowledged k ends.first v.sent asked)
-            (weakened v m (λ x h. Stands x start × (h ≡ v.sent)) (IsAcknowledged k ends.first v.sent asked) (any t)
-            (λ x h left. first_moment start ends.first v.sent asked x h (ends.at_start x left.0) left.1))
-            (subst (λ (b : List ℕ). LeavesOnly m new (IsAcknowledged k ends.first b asked)) (sent t) ends.any_moment) (λ x h acked. acked);
+        any_moment = λ n le. joined v m new (IsLeftInRun k (new.left n) ends.first v.sent asked) (IsLeftInRun k (new.left n) ends.first v.sent asked)
+            (weakened v m (λ x h. Stands x start × (h ≡ v.sent)) (IsLeftInRun k (new.left n) ends.first v.sent asked) (any t)
+            (λ x h left. first_moment start (new.left n) ends.first v.sent asked x h (ends.at_start x left.0) left.1))
+            (subst (λ (b : List ℕ). LeavesOnly m new (IsLeftInRun k (new.left n) ends.first b asked)) (sent t) (ends.any_moment n (later n le))) (λ x h acked. acked);
         seen = λ n le. seen_before k (new.left n) ends.first m.sent v.sent asked new.sent (sent t) (ends.seen n (later n le));
         all_seen = λ fine n le. ends.all_seen fine n (later n le);
         done = ends.done;

@@ -41,7 +41,7 @@ module _ (start : World) (f g : FilesView) (l m : ℕ × ℕ) (kind placement : 
   client_so b k = record { number = k.number; begun = k.begun; primary = k.primary; attains = k.attains }
 
   left_of : (x : Image) (h : List ℕ) → IsImageOf (IsTreeAlone f old) v.sent x h → IsLeftOf (world_of v.reads) (resting f (world_of v.reads)) x × (h ≡ v.sent)
-  left_of x h left = (record { world = left.0; stands = left.1; valid = left.2.1.valid; geometry = left.2.1.geometry; tree = left.2.0; others = left.2.1.others }, left.3)
+  left_of x h left = (record { world = left.0; stands = left.1; valid = left.2.1.valid; geometry = left.2.1.geometry; tree = left.2.0; others = left.2.1.others; still = λ none. left.2.2.none (ap is_there none) }, left.3)
 
   kept_now : LeavesTidyWorld f old new → IsValidNow new → (world_of w.reads).geometry ≡ (world_of v.reads).geometry → (b : Bool) → (b ≡ true → IsTidy f.kind (world_of w.reads) f.root)
       → IsKeptSince (world_of v.reads) (shell_state (record f { mounted = b }) w.reads)

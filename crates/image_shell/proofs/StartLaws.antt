@@ -22,7 +22,7 @@ use Rattle.fs_trees.specs.declared.ask.ShellAsk.{ShellAsk}
 use Rattle.fs_trees.specs.declared.ask.ShellKind.{ShellKind}
 use Rattle.fs_port.specs.Files.{FilesView}
 use Rattle.serving.specs.Ran.{ByStatus, Moments, Taking}
-use Rattle.serving.specs.Runs.{IsAcknowledged}
+use Rattle.serving.specs.Seen.{IsLeftInRun}
 use Rattle.tsd_core.specs.Core.{Core, state_on, told_world}
 use Rattle.tsd_core.specs.Core.{IsCoreAt}
 use Rattle.shell_server.specs.Shell.{IsLeftOf, resting, shell_service, unmounted}
@@ -155,10 +155,10 @@ module _ (r : Status) (kind : ShellKind) (root : ℕ) (cap : Cap) (limit : ℕ) 
         final = ends.final;
         at_rest = ends.at_rest;
         sent = subst (λ (b : List ℕ). ByStatus r k ends.first b asked ends.final new.sent) (sent t) ends.sent;
-        any_moment = λ firm. joined old mid new (IsAcknowledged k ends.first old.sent asked) (IsAcknowledged k ends.first old.sent asked)
-            (weakened old mid (λ x s. StandAlike old.reads x × (s ≡ old.sent)) (IsAcknowledged k ends.first old.sent asked) (any t firm)
-            (λ x s left. first_moment (world_of old.reads) ends.first old.sent asked x s (ends.at_start x (stands_by old.reads x (good t) left.0)) left.1))
-            (subst (λ (b : List ℕ). LeavesOnly mid new (IsAcknowledged k ends.first b asked)) (sent t) ends.any_moment) (λ x s acked. acked);
+        any_moment = λ firm. joined old mid new (IsLeftInRun k (new.left old.clock) ends.first old.sent asked) (IsLeftInRun k (new.left old.clock) ends.first old.sent asked)
+            (weakened old mid (λ x s. StandAlike old.reads x × (s ≡ old.sent)) (IsLeftInRun k (new.left old.clock) ends.first old.sent asked) (any t firm)
+            (λ x s left. first_moment (world_of old.reads) (new.left old.clock) ends.first old.sent asked x s (ends.at_start x (stands_by old.reads x (good t) left.0)) left.1))
+            (subst (λ (b : List ℕ). LeavesOnly mid new (IsLeftInRun k (new.left old.clock) ends.first b asked)) (sent t) (ends.any_moment old.clock clock)) (λ x s acked. acked);
         seen = seen_before k (new.left old.clock) ends.first mid.sent old.sent asked new.sent (sent t) (ends.seen old.clock clock);
         all_seen = λ fine. ends.all_seen fine old.clock clock;
         done = ends.done;

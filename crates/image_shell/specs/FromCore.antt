@@ -22,8 +22,7 @@ use Rattle.fs_trees.specs.declared.refusal.FsRefusal.TheVariants as no
 use Rattle.fs_port.specs.Files.{FilesView, OnAnswer}
 use Rattle.serving.specs.Handling.{FitsDevice}
 use Rattle.serving.specs.Ran.{AskedBy, ByStatus, Moments, Taking}
-use Rattle.serving.specs.Runs.{IsAcknowledged}
-use Rattle.serving.specs.Seen.{IsSeenRun}
+use Rattle.serving.specs.Seen.{IsLeftInRun, IsSeenRun}
 use Rattle.tsd_core.specs.Core.{Core, IsCoreAt, IsCoreReady, sessions_of, told_world}
 use Rattle.core_blocks.specs.Behind.{KeepsBehind}
 use Rattle.image_runs.specs.Served.{IsAtEase}
@@ -122,7 +121,8 @@ pub record EndsFrom (r : Status) (f : FilesView) (start : World) (old new : View
   pub final : ShellState
   pub at_rest : final.under_way ≡ None
   pub sent : ByStatus r (shell_service start) first old.sent asked final new.sent
-  pub any_moment : LeavesOnly old new (IsAcknowledged (shell_service start) first old.sent asked)
+  pub any_moment : (t : ℕ) → t ≤ old.clock
+      → LeavesOnly old new (IsLeftInRun (shell_service start) (new.left t) first old.sent asked)
   pub seen : (t : ℕ) → t ≤ old.clock → IsSeenRun (shell_service start) (new.left t) first old.sent asked new.sent
   pub all_seen : r ≢ status.DeviceFault → (t : ℕ) (le : t ≤ old.clock)
       → (shell_service start).acked (seen t le).front ≡ 0

@@ -21,8 +21,7 @@ use Rattle.fs_trees.specs.declared.ask.ShellKind.{ShellKind}
 use Rattle.fs_port.specs.Files.{FilesView, OnlyDeletes}
 use Rattle.serving.specs.Prompt.{Mark, Promptly}
 use Rattle.serving.specs.Ran.{AskedBy, ByStatus, Moments, Taking}
-use Rattle.serving.specs.Runs.{IsAcknowledged}
-use Rattle.serving.specs.Seen.{IsSeenRun}
+use Rattle.serving.specs.Seen.{IsLeftInRun, IsSeenRun}
 use Rattle.image_runs.specs.Opened.{IsJudged}
 use Rattle.image_runs.specs.Served.{IsAtEase}
 use Rattle.shell_server.specs.Lines.{shell_spelling}
@@ -90,8 +89,9 @@ pub record NoAskServed (r : Status) (f : FilesView) (source : Taking) (port : Mo
       × (sent ≡ port.old.sent))
 
 -- How a run over these asks ended that began in that state, over an image that stood for a world: what was sent; where
--- the disk was firm, what a crash at any moment may have left, opening and mounting included; in which images the
--- states of the run rested; and after Done, what the disk is.
+-- the disk was firm, what a crash at any moment may have left, opening and mounting included: within an ask, the tree
+-- before it or the one that its very answer tells, by a state that was seen, so that an ask that is refused changes
+-- nothing at any moment; in which images the states of the run rested; and after Done, what the disk is.
 pub record ShellEnds (r : Status) (f : FilesView) (old new : View) (asked : List ShellAsk) : Type 0 where
   pub good : IsGood old.reads
   pub first : ShellState
@@ -100,7 +100,8 @@ pub record ShellEnds (r : Status) (f : FilesView) (old new : View) (asked : List
   pub at_rest : final.under_way ≡ None
   pub sent : ByStatus r (shell_service (world_of old.reads)) first old.sent asked final new.sent
   pub any_moment : IsFirm old
-      → LeavesOnly old new (IsAcknowledged (shell_service (world_of old.reads)) first old.sent asked)
+      → LeavesOnly old new
+      (IsLeftInRun (shell_service (world_of old.reads)) (new.left old.clock) first old.sent asked)
   pub seen : IsSeenRun (shell_service (world_of old.reads)) (new.left old.clock) first old.sent asked new.sent
   pub all_seen : r ≢ status.DeviceFault → (shell_service (world_of old.reads)).acked seen.front ≡ 0
   pub done : r ≡ status.Done → IsAtEase new final.world

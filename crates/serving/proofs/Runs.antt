@@ -1,8 +1,9 @@
 -- One request more is answered, and its answer sent in full or in part.
 use Rattle.std.proofs.Common.{◌≡◌, ◌⊎◌, inl, inr, ℕ, ◌+◌, ◌<◌, List, [], ◌∷◌, ◌++◌, length, refl, sym, ◌∙◌, ap, subst, arith, append_assoc, append-nil}
 use Rattle.image_device.specs.Image.{Image}
-use Rattle.serving.specs.Service.{Service, IsCounted, IsAnswering, IsInAnswer}
-use Rattle.serving.specs.Runs.{Run, texts, Served, IsBroken, IsCutOff, IsAcknowledged}
+use Rattle.serving.specs.Service.{Service, IsCounted, IsAnswering, IsInAnswer, IsNotYetAfter}
+use Rattle.serving.specs.Runs.{Run, texts, Served, IsBroken, IsCutOff}
+use Rattle.serving.specs.Seen.{IsSeen, IsLeftInRun}
 
 module _ {Q : Type 0} (k : Service Q) where
   unfoldable pub run_next : (s m t : k.States) (qs : List Q) (xs : List (List ℕ)) (q : Q) (a : List ℕ) → Run k s qs xs m → k.gives m q a t → Run k s (qs ++ q ∷ []) (xs ++ a ∷ []) t
@@ -63,8 +64,9 @@ module _ {Q : Type 0} (k : Service Q) (counted : IsCounted k) where
       refl,
     )
 
-    pub cut_off : (qs : List Q) (m : k.States) (now f : List ℕ) (q : Q) → Served k s before qs m now → (a : IsAnswering k m q now f) → 0 < length a.back
+    pub cut_off : (qs : List Q) (m : k.States) (now f : List ℕ) (q : Q) → (served : Served k s before qs m now) → (a : IsAnswering k m q now f) → 0 < length a.back
         → (c : IsCutOff k s before (qs ++ q ∷ []) f) × (c.state ≡ m) × (c.next ≡ a.next) × (c.request ≡ q) × (c.answer ≡ a.answer)
+        × ((left : Image → List ℕ → Type 0) → IsSeen k left m (before ++ texts served.answers) → IsSeen k left c.state (before ++ texts c.answers))
     cut_off qs m now f q served a some = (
       record {
         answered = qs;
@@ -91,6 +93,7 @@ module _ {Q : Type 0} (k : Service Q) (counted : IsCounted k) where
       refl,
       refl,
       refl,
+      λ left seen. seen,
     )
 
     pub served_next : (qs : List Q) (m t : k.States) (now f : List ℕ) (q : Q) (a : List ℕ) → Served k s before qs m now → k.gives m q a t → f ≡ now ++ a → Served k s before (qs ++ q ∷ []) t f
@@ -100,40 +103,48 @@ module _ {Q : Type 0} (k : Service Q) (counted : IsCounted k) where
       sent = sent_next before now f served.answers a served.sent is;
     }
 
-    -- between two requests
-    pub at_rest : (qs more : List Q) (m : k.States) (now f : List ℕ) (x : Image) → Served k s before qs m now → k.stands m x → f ≡ now → IsAcknowledged k s before (qs ++ more) x f
-    at_rest qs more m now f x served stands is =
-        let b = broken qs more m now served in
-        subst (λ g. IsAcknowledged k s before (qs ++ more) x g) (sym is) (inl (b.0, subst (λ u. k.stands u x) (sym b.1) stands))
+    module _ (left : Image → List ℕ → Type 0) where
+      -- between two requests
+      pub at_rest : (qs more : List Q) (m : k.States) (now f : List ℕ) (x : Image) → Served k s before qs m now → k.stands m x → f ≡ now → IsLeftInRun k left s before (qs ++ more) x f
+      at_rest qs more m now f x served stands is =
+          let b = broken qs more m now served in
+          subst (λ g. IsLeftInRun k left s before (qs ++ more) x g) (sym is) (inl (b.0, subst (λ u. k.stands u x) (sym b.1) stands))
 
-    -- the answer was sent whole
-    after_answer : (qs : List Q) (m : k.States) (now f : List ℕ) (q : Q) (x : Image) → Served k s before qs m now → (a : IsAnswering k m q now f) → a.back ≡ [] → k.stands a.next x → IsAcknowledged k s before (qs ++ q ∷ []) x f
-    after_answer qs m now f q x served a none stands =
-        subst (λ l. IsAcknowledged k s before l x f) (append-nil (qs ++ q ∷ []))
-        (at_rest (qs ++ q ∷ []) [] a.next f f x (served_next qs m a.next now f q a.answer served a.given (all_sent a.answer now f a.front a.back a.whole a.sent none)) stands refl)
+      -- the answer was sent whole
+      after_answer : (qs : List Q) (m : k.States) (now f : List ℕ) (q : Q) (x : Image) → Served k s before qs m now → (a : IsAnswering k m q now f) → a.back ≡ [] → k.stands a.next x → IsLeftInRun k left s before (qs ++ q ∷ []) x f
+      after_answer qs m now f q x served a none stands =
+          subst (λ l. IsLeftInRun k left s before l x f) (append-nil (qs ++ q ∷ []))
+          (at_rest (qs ++ q ∷ []) [] a.next f f x (served_next qs m a.next now f q a.answer served a.given (all_sent a.answer now f a.front a.back a.whole a.sent none)) stands refl)
 
-    -- a front of it was sent
-    in_front : (qs : List Q) (m : k.States) (now f : List ℕ) (q : Q) (x : Image) → Served k s before qs m now → (a : IsAnswering k m q now f) → 0 < length a.back → k.stands a.next x ⊎ k.stands m x → IsAcknowledged k s before (qs ++ q ∷ []) x f
-    in_front qs m now f q x served a some stands =
-        let c = cut_off qs m now f q served a some in
-        inr (c.0, elim stands [ inl after ↦ inr (subst (λ u. k.stands u x) (sym c.2) after) | inr old ↦ inl (subst (λ u. k.stands u x) (sym c.1) old) ])
+      -- a front of it was sent
+      in_front : (qs : List Q) (m : k.States) (now f : List ℕ) (q : Q) (x : Image) → Served k s before qs m now → IsSeen k left m now → (a : IsAnswering k m q now f) → 0 < length a.back → k.stands a.next x ⊎ IsNotYetAfter k m q x → IsLeftInRun k left s before (qs ++ q ∷ []) x f
+      in_front qs m now f q x served seen a some stands =
+          let c = cut_off qs m now f q served a some in
+          inr (
+            c.0,
+            c.5 left (subst (λ g. IsSeen k left m g) served.sent seen),
+            elim stands [
+              | inl after ↦ inr (subst (λ u. k.stands u x) (sym c.2) after)
+              | inr old ↦ inl (subst (λ u. IsNotYetAfter k u c.0.request x) (sym c.1) (subst (λ r. IsNotYetAfter k m r x) (sym c.3) old))
+            ],
+          )
 
-    -- while a request is answered
-    pub in_answer : (qs : List Q) (m : k.States) (now f : List ℕ) (q : Q) (x : Image) → Served k s before qs m now → IsInAnswer k m q now x f → IsAcknowledged k s before (qs ++ q ∷ []) x f
-    in_answer qs m now f q x served left = elim left [
-      | inl old ↦ at_rest qs (q ∷ []) m now f x served old.0 old.1
-      | inr part ↦ elim part.1 [
-        | inl after ↦ elim (some_or_none part.0.back) [
-          | inl none ↦ after_answer qs m now f q x served part.0 none after
-          | inr some ↦ in_front qs m now f q x served part.0 some (inl after)
+      -- while a request is answered
+      pub in_answer : (qs : List Q) (m : k.States) (now f : List ℕ) (q : Q) (x : Image) → Served k s before qs m now → IsSeen k left m now → IsInAnswer k m q now x f → IsLeftInRun k left s before (qs ++ q ∷ []) x f
+      in_answer qs m now f q x served seen was = elim was [
+        | inl old ↦ at_rest qs (q ∷ []) m now f x served old.0 old.1
+        | inr part ↦ elim part.1 [
+          | inl after ↦ elim (some_or_none part.0.back) [
+            | inl none ↦ after_answer qs m now f q x served part.0 none after
+            | inr some ↦ in_front qs m now f q x served seen part.0 some (inl after)
+          ]
+          | inr old ↦ in_front qs m now f q x served seen part.0 old.1 (inr old.0)
         ]
-        | inr old ↦ in_front qs m now f q x served part.0 old.1 (inr old.0)
       ]
-    ]
 
 -- more requests behind
 module _ {Q : Type 0} (k : Service Q) (s : k.States) (before : List ℕ) (qs more : List Q) where
-  pub broken_longer : (now : List ℕ) → IsBroken k s before qs now → IsBroken k s before (qs ++ more) now
+  unfoldable pub broken_longer : (now : List ℕ) → IsBroken k s before qs now → IsBroken k s before (qs ++ more) now
   broken_longer now b = record {
     answered = b.answered;
     rest = b.rest ++ more;
@@ -164,10 +175,3 @@ module _ {Q : Type 0} (k : Service Q) (s : k.States) (before : List ℕ) (qs mor
     sent = c.sent;
     count = c.count;
   }
-
-  pub longer : (x : Image) (f : List ℕ) → IsAcknowledged k s before qs x f → IsAcknowledged k s before (qs ++ more) x f
-  unfolding broken_longer cut_off_longer
-  longer x f left = elim left [
-    | inl b ↦ inl (broken_longer f b.0, b.1)
-    | inr c ↦ inr (cut_off_longer f c.0, c.1)
-  ]

@@ -11,13 +11,13 @@ use Rattle.serving.specs.Work.{WorkCount, used}
 use Rattle.serving.specs.Costs.{IsPaidFor, costs}
 use Rattle.serving.specs.Debts.{Debt, HasDebt, debt_of}
 use Rattle.serving.specs.Prompt.{IsCutShort, IsPrompt, Mark, Promptly, mark}
-use Rattle.serving.specs.Runs.{Run, Served, IsBroken, IsAcknowledged}
-use Rattle.serving.specs.Seen.{IsSeen, IsSeenRun, IsOfNext}
+use Rattle.serving.specs.Runs.{Run, Served, IsBroken}
+use Rattle.serving.specs.Seen.{AreSeen, IsSeen, IsSeenRun, IsLeftInRun, IsOfNext}
 use Rattle.serving.specs.Input.{Spelling}
 use Rattle.serving.specs.Ran.{AskedBy, ByStatus, Ends, Ran, Taking, Moments}
 use Rattle.serving.specs.Goes.{Goes}
-use Rattle.serving.proofs.Seen.{are_seen_still, are_seen_next}
-use Rattle.serving.proofs.Runs.{run_next, sent_next, sent_front, broken, cut_off, served_next, at_rest, in_answer, longer, broken_longer, cut_off_longer, all_sent, some_or_none}
+use Rattle.serving.proofs.Seen.{are_seen_still, are_seen_next, last_seen, left_longer, left_still}
+use Rattle.serving.proofs.Runs.{run_next, sent_next, sent_front, broken, cut_off, served_next, at_rest, in_answer, broken_longer, cut_off_longer, all_sent, some_or_none}
 use Rattle.serving.proofs.Costs.{front_all, next_all, costs_next, paid_front, paid_longer, paid_whole}
 use Rattle.serving.proofs.Prompt.{prompt_next}
 use Rattle.serving.proofs.Debts.{debt_next, owing_answer, owing_rest, owing_longer}
@@ -81,8 +81,8 @@ module _ {Q : Type 0} (k : Service Q) (counted : IsCounted k) (w : WorkCount Q k
         run = refl;
         sent = sym (append-nil v0.sent);
         seen = λ t le. record { image = v0.reads; was_left = sound.counts_now t v0.reads v0.sent le (sound.own, refl); rests = rests };
-        any_moment = started v0 (IsAcknowledged k s v0.sent []) sound
-            (λ x f left. at_rest k counted s v0.sent [] [] s v0.sent f x served (subst (λ y. k.stands s y) (sym (firm_image v0 firm x f left)) stands) left.1);
+        any_moment = λ t le. started v0 (IsLeftInRun k (v0.left t) s v0.sent []) sound
+            (λ x f left. at_rest k counted s v0.sent (v0.left t) [] [] s v0.sent f x served (subst (λ y. k.stands s y) (sym (firm_image v0 firm x f left)) stands) left.1);
         paid = λ all. omega arith;
         few = λ all. omega arith;
         debt = λ all. started v0 (HasDebt k w s v0.sent (w.debt v0.reads) []) sound
@@ -94,12 +94,24 @@ module _ {Q : Type 0} (k : Service Q) (counted : IsCounted k) (w : WorkCount Q k
 
   module _ (qs : List Q) (m : k.States) (due1 : ℕ) (v : View) (goes : Goes k w port s due v0 qs m due1 v) where
     module _ (q : Q) (new : View) (any : LeavesOnly v new (IsInAnswer k m q v.sent)) (debts : w.bounded q → LeavesOnly v new (λ x f. w.debt x ≤ w.debt v.reads + w.made m q)) where
+      later : v0.clock ≤ v.clock
+      later = (goes.any_moment v0.clock (omega arith)).later
+
+      kept : (t : ℕ) → t ≤ v0.clock → (x : Image) (f : List ℕ) → v.left t x f → new.left t x f
+      kept t le x f left = any.keeps t x f (omega (arith, le, later)) left
+
+      -- the states so far were seen
+      seen_now : (t : ℕ) → t ≤ v0.clock → AreSeen k (new.left t) v0.sent s qs goes.answers m goes.run
+      seen_now t le = are_seen_still k (v.left t) (new.left t) (kept t le) v0.sent s m qs goes.answers goes.run (goes.seen t le)
+
       -- what a crash left while the request was answered
-      any_next : LeavesOnly v0 new (IsAcknowledged k s v0.sent (qs ++ q ∷ []))
-      any_next =
-          joined v0 v new (IsAcknowledged k s v0.sent (qs ++ q ∷ [])) (IsInAnswer k m q v.sent)
-          (weakened v0 v (IsAcknowledged k s v0.sent qs) (IsAcknowledged k s v0.sent (qs ++ q ∷ [])) goes.any_moment (longer k s v0.sent qs (q ∷ []))) any
-          (λ x f left. in_answer k counted s v0.sent qs m v.sent f q x (served_of k w port s due v0 qs m due1 v goes) left)
+      any_next : (t : ℕ) → t ≤ v0.clock → LeavesOnly v0 new (IsLeftInRun k (new.left t) s v0.sent (qs ++ q ∷ []))
+      any_next t le =
+          let came : IsSeen k (new.left t) m v.sent = subst (λ g. IsSeen k (new.left t) m g) (sym goes.sent) (last_seen k (new.left t) v0.sent s m qs goes.answers goes.run (seen_now t le)) in
+          joined v0 v new (IsLeftInRun k (new.left t) s v0.sent (qs ++ q ∷ [])) (IsInAnswer k m q v.sent)
+          (weakened v0 v (IsLeftInRun k (v.left t) s v0.sent qs) (IsLeftInRun k (new.left t) s v0.sent (qs ++ q ∷ [])) (goes.any_moment t le)
+          (left_longer k (v.left t) (new.left t) (kept t le) s v0.sent qs (q ∷ []))) any
+          (λ x f left. in_answer k counted s v0.sent (new.left t) qs m v.sent f q x (served_of k w port s due v0 qs m due1 v goes) came left)
 
       debt_on : All w.bounded (qs ++ q ∷ []) → LeavesOnly v0 new (HasDebt k w s v0.sent (w.debt v0.reads) (qs ++ q ∷ []))
       debt_on all =
@@ -109,9 +121,6 @@ module _ {Q : Type 0} (k : Service Q) (counted : IsCounted k) (w : WorkCount Q k
           (leaves_both v new (IsInAnswer k m q v.sent) (λ x f. w.debt x ≤ w.debt v.reads + w.made m q) any (debts (next_all w.bounded qs q all)))
           (λ x f left. owing_answer k counted w.made s v0.sent (w.debt v0.reads) qs m goes.answers goes.run v.sent goes.sent (w.debt v.reads) (goes.few (front_all w.bounded qs (q ∷ []) all)) q x f (w.debt x) left.0 left.1)
 
-      kept : (t : ℕ) → t ≤ v0.clock → (x : Image) (f : List ℕ) → v.left t x f → new.left t x f
-      kept t le x f left = any.keeps t x f (omega (arith, le, goes.any_moment.later)) left
-
       -- the request was answered
       pub goes_next : IsSound new → (t : k.States) → k.rests t new.reads → (due2 : ℕ) (a : List ℕ) → k.gives m q a t → new.sent ≡ v.sent ++ a → (w.bounded q → w.debt new.reads ≤ w.debt v.reads + w.made m q - 4) → (w.bounded q → used due2 new ≤ used due1 v + w.cost m q)
           → port (mark new) → IsPrompt k w port m q (mark v) (mark new) → Goes k w port s due v0 (qs ++ q ∷ []) t due2 new
@@ -120,9 +129,9 @@ module _ {Q : Type 0} (k : Service Q) (counted : IsCounted k) (w : WorkCount Q k
         run = run_next k s m t qs goes.answers q a goes.run given;
         sent = sent_next v0.sent v.sent new.sent goes.answers a goes.sent sent;
         seen = λ n le.
-            let now : IsSeen k (new.left n) t new.sent = record { image = new.reads; was_left = sound.counts_now n new.reads new.sent (omega (arith, le, any_next.later)) (sound.own, refl); rests = rests } in
+            let now : IsSeen k (new.left n) t new.sent = record { image = new.reads; was_left = sound.counts_now n new.reads new.sent (omega (arith, le, later, any.later)) (sound.own, refl); rests = rests } in
             are_seen_next k (new.left n) m t q a given new.sent now v0.sent s qs goes.answers goes.run (sent_front v0.sent v.sent new.sent goes.answers a goes.sent sent)
-            (are_seen_still k (v.left n) (new.left n) (kept n le) v0.sent s m qs goes.answers goes.run (goes.seen n le));
+            (seen_now n le);
         any_moment = any_next;
         paid = λ all. omega (arith, goes.paid (front_all w.bounded qs (q ∷ []) all), paid (next_all w.bounded qs q all), costs_next k w.cost s m t qs goes.answers q a goes.run given);
         few = λ all. omega (arith, goes.few (front_all w.bounded qs (q ∷ []) all), less (next_all w.bounded qs q all), ap (λ (d : Debt). d.left) (debt_next k w.made s m t qs goes.answers q a goes.run given (debt_of (w.debt v0.reads))));
@@ -241,13 +250,20 @@ module _ {Q : Type 0} (k : Service Q) (counted : IsCounted k) (w : WorkCount Q k
 
     -- all that was left to be done is done, or the device failed in it
     module _ (new : View) (any : LeavesOnly v new (λ x f. k.stands m x × (f ≡ v.sent))) (debts : LeavesOnly v new (λ x f. (w.debt x ≤ w.debt v.reads) × (f ≡ v.sent))) (sent : new.sent ≡ v.sent) (most : new.writes ≤ used due1 v) where
+      later_then : v0.clock ≤ v.clock
+      later_then = (goes.any_moment v0.clock (omega arith)).later
+
+      kept_then : (t : ℕ) → t ≤ v0.clock → (x : Image) (f : List ℕ) → v.left t x f → new.left t x f
+      kept_then t le x f left = any.keeps t x f (omega (arith, le, later_then)) left
+
       ends_close : (r : Status) (final : k.States) → ByStatus r k s v0.sent qs final new.sent → Ends r k w s final due v0 new qs
       ends_close r final by = record {
-        seen = λ t le. (seen_whole k w port s due v0 t le counted qs m due1 v new goes (λ x f left. any.keeps t x f (omega (arith, le, goes.any_moment.later)) left) sent).0;
-        all_seen = λ fine t le. (seen_whole k w port s due v0 t le counted qs m due1 v new goes (λ x f left. any.keeps t x f (omega (arith, le, goes.any_moment.later)) left) sent).1;
+        seen = λ t le. (seen_whole k w port s due v0 t le counted qs m due1 v new goes (kept_then t le) sent).0;
+        all_seen = λ fine t le. (seen_whole k w port s due v0 t le counted qs m due1 v new goes (kept_then t le) sent).1;
         sent = by;
-        any_moment = joined v0 v new (IsAcknowledged k s v0.sent qs) (λ x f. k.stands m x × (f ≡ v.sent)) goes.any_moment any
-            (λ x f left. subst (λ l. IsAcknowledged k s v0.sent l x f) (append-nil qs) (at_rest k counted s v0.sent qs [] m v.sent f x (served_of k w port s due v0 qs m due1 v goes) left.0 left.1));
+        any_moment = λ t le. joined v0 v new (IsLeftInRun k (new.left t) s v0.sent qs) (λ x f. k.stands m x × (f ≡ v.sent))
+            (weakened v0 v (IsLeftInRun k (v.left t) s v0.sent qs) (IsLeftInRun k (new.left t) s v0.sent qs) (goes.any_moment t le) (left_still k (v.left t) (new.left t) (kept_then t le) s v0.sent qs)) any
+            (λ x f left. subst (λ l. IsLeftInRun k (new.left t) s v0.sent l x f) (append-nil qs) (at_rest k counted s v0.sent (new.left t) qs [] m v.sent f x (served_of k w port s due v0 qs m due1 v goes) left.0 left.1));
         most = subst (λ l. IsPaidFor k w s v0.sent l new.sent (used due v0) new.writes) (append-nil qs)
             (paid_front k counted w s v0.sent (used due v0) qs m goes.answers goes.run v.sent goes.sent [] new.sent [] new.writes (sent ∙ sym (append-nil v.sent)) counted.nothing (λ all. omega (arith, goes.paid (front_all w.bounded qs [] all), most)));
         debt = λ all. joined v0 v new (HasDebt k w s v0.sent (w.debt v0.reads) qs) (λ x f. (w.debt x ≤ w.debt v.reads) × (f ≡ v.sent)) (goes.debt all) debts
@@ -303,7 +319,7 @@ module _ {Q : Type 0} (k : Service Q) (w : WorkCount Q k.States) (s final : k.St
     seen = λ t le. (seen_longer t (ends.seen t le)).0;
     all_seen = λ fine t le. ap k.acked (seen_longer t (ends.seen t le)).1 ∙ ends.all_seen fine t le;
     sent = by_longer why stops ends.sent;
-    any_moment = weakened v0 v (IsAcknowledged k s v0.sent qs) (IsAcknowledged k s v0.sent (qs ++ more)) ends.any_moment (longer k s v0.sent qs more);
+    any_moment = λ t le. weakened v0 v (IsLeftInRun k (v.left t) s v0.sent qs) (IsLeftInRun k (v.left t) s v0.sent (qs ++ more)) (ends.any_moment t le) (left_longer k (v.left t) (v.left t) (λ x f left. left) s v0.sent qs more);
     most = paid_longer k w s v0.sent v.sent (used due v0) qs more v.writes ends.most;
     debt = λ all. weakened v0 v (HasDebt k w s v0.sent (w.debt v0.reads) qs) (HasDebt k w s v0.sent (w.debt v0.reads) (qs ++ more)) (ends.debt (front_all w.bounded qs more all))
         (λ x f left. owing_longer k w.made s v0.sent (w.debt v0.reads) qs more (w.debt x) f left);

@@ -8,8 +8,8 @@ use Rattle.serving.specs.declared.protocol.Ending.TheVariants.{CutOff}
 use Rattle.serving.specs.Costs.{IsPaidFor}
 use Rattle.serving.specs.Debts.{HasDebt}
 use Rattle.serving.specs.Input.{Spelling, all_requests}
-use Rattle.serving.specs.Runs.{Served, IsBroken, IsCutOff, IsAcknowledged}
-use Rattle.serving.specs.Seen.{IsSeenRun}
+use Rattle.serving.specs.Runs.{Served, IsBroken, IsCutOff}
+use Rattle.serving.specs.Seen.{IsLeftInRun, IsSeenRun}
 use Rattle.serving.specs.Service.{Service}
 use Rattle.serving.specs.Work.{WorkCount, used}
 
@@ -77,14 +77,14 @@ ByStatus r k s before qs final now = Served k s before qs final now
 
 -- How a run over these requests ended: what was sent; what a crash may have left at any moment; how often a write was
 -- called, where so many writes were due before; and how much is left to be done in each of those images. The states of
--- a run with these answers were all seen; where the device failed, the last one may not be.
+-- a run with these answers were all seen; where the device failed, the last one may not be. They were seen since the
+-- start, and so since any earlier moment.
 pub record Ends {Q : Type 0} (r : Status) (k : Service Q) (w : WorkCount Q k.States) (s final : k.States) (due : ℕ)
     (old new : View) (qs : List Q) : Type 0 where
   pub sent : ByStatus r k s old.sent qs final new.sent
-  pub any_moment : LeavesOnly old new (IsAcknowledged k s old.sent qs)
+  pub any_moment : (t : ℕ) → t ≤ old.clock → LeavesOnly old new (IsLeftInRun k (new.left t) s old.sent qs)
   pub most : IsPaidFor k w s old.sent qs new.sent (used due old) new.writes
   pub debt : All w.bounded qs → LeavesOnly old new (HasDebt k w s old.sent (w.debt old.reads) qs)
-  -- since the start, and so since any earlier moment
   pub seen : (t : ℕ) → t ≤ old.clock → IsSeenRun k (new.left t) s old.sent qs new.sent
   pub all_seen : r ≢ status.DeviceFault → (t : ℕ) (le : t ≤ old.clock) → k.acked (seen t le).front ≡ 0
 

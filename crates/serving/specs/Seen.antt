@@ -1,8 +1,8 @@
 -- The states of a run, each of which some image has held.
 use Rattle.std.specs.Prelude.{◌≡◌, ◌⊎◌, ℕ, ◌≤◌, List, [], ◌∷◌, ◌++◌}
 use Rattle.image_device.specs.Image.{Image}
-use Rattle.serving.specs.Service.{Service, IsAnswering}
-use Rattle.serving.specs.Runs.{Run, texts}
+use Rattle.serving.specs.Service.{Service, IsAnswering, IsNotYetAfter}
+use Rattle.serving.specs.Runs.{Run, texts, IsBroken, IsCutOff}
 
 -- A crash may have left an image in which this state rests, with these bytes sent.
 pub record IsSeen {Q : Type 0} (k : Service Q) (left : Image → List ℕ → Type 0) (s : k.States)
@@ -39,3 +39,13 @@ pub record IsSeenRun {Q : Type 0} (k : Service Q) (left : Image → List ℕ →
   pub sent : now ≡ before ++ (texts answers ++ front)
   pub one_more : k.acked front ≤ 1
   pub of_next : IsOfNext k state rest front
+
+-- A crash left this image, with these bytes sent, as IsAcknowledged says. Where an answer was under way, the state in
+-- which its request came is one that was seen, with exactly the answers before it sent; and the image stands for that
+-- state, for the one that this very answer leads to from there, or for something between.
+abbrev pub IsLeftInRun : {Q : Type 0} → (k : Service Q) → (Image → List ℕ → Type 0) → k.States → List ℕ → List Q
+    → Image → List ℕ → Type 0
+IsLeftInRun k left s before qs x f =
+    ((b : IsBroken k s before qs f) × k.stands b.state x)
+    ⊎ ((c : IsCutOff k s before qs f) × IsSeen k left c.state (before ++ texts c.answers)
+    × (IsNotYetAfter k c.state c.request x ⊎ k.stands c.next x))

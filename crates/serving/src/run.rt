@@ -34,9 +34,10 @@ pub fn serve<S: Source, P: Port, R: Protocol, H: Server<R>>(
     requires at { P.told → FitsDevice (H.holds server.old) (P.view port.old) }
     /// promise: **What came in, what was sent and what a crash leaves, by the status.** Every image that a crash at any
     /// moment may leave, with the bytes sent by then, is acknowledged: where these have A whole answers, it stands for
-    /// the state after the first A requests or, where there is a next one, for that or the state after it; the bytes
-    /// are those answers and a proper front of the next. Where no request is a sweep, how often was written and how
-    /// much is left to be reclaimed have their bounds.
+    /// the state after the first A requests or, where there is a next one, for that, the state after it or something
+    /// between; the bytes are those answers and a proper front of the next. The state in which a next one is answered
+    /// is one that was seen. Where no request is a sweep, how often was written and how much is left to be reclaimed
+    /// have their bounds.
     ensures ran { Ran result H.service H.work R.spelling (H.state server.old (P.view port.old).reads)
         (H.state server.new (P.view port.new).reads) limit
         (taking S.told S.taken S.left_bytes S.ended source.old source.new)

@@ -67,8 +67,8 @@ pub trait Server<R: Protocol> {
             (state self.new (P.view port.new).reads) × ((P.view port.new).sent ≡ (P.view port.old).sent ++ answer)) }
         ensures left { P.told → IfErr result (λ why. LeftBy why service (state self.old (P.view port.old).reads)
             request.now (state self.new (P.view port.new).reads) (P.view port.old).sent (P.view port.new).sent) }
-        /// promise: A crash at any moment leaves the state before or the state after, with a front of the answer sent;
-        /// once all of it was sent, the state after.
+        /// promise: A crash at any moment leaves the state before, the state after, or what the service lets be between
+        /// these, with a front of the answer sent; once all of it was sent, the state after.
         ensures any_moment { P.told → LeavesOnly (P.view port.old) (P.view port.new)
             (IsInAnswer service (state self.old (P.view port.old).reads) request.now (P.view port.old).sent) }
         ensures debt { P.told → work.bounded request.now → LeavesOnly (P.view port.old) (P.view port.new)

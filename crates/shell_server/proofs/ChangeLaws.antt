@@ -1,10 +1,10 @@
 -- An ask that changes the tree, carried out on the disk.
 use Rattle.std.proofs.Common.{◌≡◌, ◌⊎◌, inl, inr, ℕ, Bool, true, false, cond, List, [], ◌∷◌, ◌++◌, length, refl, sym, ◌∙◌, ap, subst}
-use Rattle.shell_server.proofs.Common.{Result, Ok, Err, IsTrue, World, free_count, Geometry, PlaceKind, DeviceView, weakened, Image, Stands, world_of, line_feeds, Name, Path, nothing, a_file, a_dir, Tree, at, bytes_in, is_there, with_at, Answer, done, refused, need_of, RoomNeed, refusal, AskOutcome, empty_tree, judged, OthersStay, tree_at, step_in, ShellAsk, ShellKind, FsRefusal, outside_twice, DiskView, IsValidNow, Stays, FilesView, IsEitherTree, LeavesTidyWorld, OnAnswer, step_on, tree_on, unless_refused, Answers, Changes, answer_text, Core, IsCoreAt, IsCoreReady, KeepsBehind, core_view, IsImageOf, images_left, ShellState, AnswersByLine, IsKeptSince, heard, files_after, shell_step, tree_in, tree_under, AreReady, FitsShell, shell_state, IsLeftBeforeOrAfter, IsCarried, IsOneLine, change_line, resting, IsTakenForTree, RestsIn, shell_rests}
+use Rattle.shell_server.proofs.Common.{Result, Ok, Err, IsTrue, World, free_count, Geometry, PlaceKind, DeviceView, LeavesOnly, weakened, Image, Stands, world_of, line_feeds, Name, Path, nothing, a_file, a_dir, Tree, at, bytes_in, is_there, with_at, Answer, done, refused, need_of, RoomNeed, refusal, AskOutcome, empty_tree, judged, OthersStay, tree_at, step_in, ShellAsk, ShellKind, FsRefusal, outside_twice, DiskView, IsValidNow, LeavesWorldsOnly, Stays, FilesView, IsEitherTree, LeavesTidyWorld, OnAnswer, step_on, tree_on, unless_refused, Answers, Changes, answer_text, Core, IsCoreAt, IsCoreReady, KeepsBehind, core_view, IsImageOf, images_left, ShellState, AnswersByLine, IsKeptSince, IsLeftOf, heard, files_after, shell_step, tree_in, tree_under, AreReady, FitsShell, shell_state, IsLeftBeforeOrAfter, IsCarried, IsOneLine, change_line, resting, IsTakenForTree, RestsIn, shell_rests}
 use Rattle.std.specs.Prelude.{Option, Some, None}
 use Rattle.fs_trees.specs.declared.ask.ShellAsk.TheVariants as ask
 use Rattle.fs_trees.specs.declared.refusal.FsRefusal.TheVariants as no
-use Rattle.shell_server.proofs.KeptLaws.{client_still, kept_asked, none_taken, size_stays}
+use Rattle.shell_server.proofs.KeptLaws.{client_still, kept_asked, none_taken, not_nothing, size_stays}
 
 -- ---- trees
 
@@ -212,23 +212,37 @@ module _ (start : World) (f : FilesView) (q a : ShellAsk) (hears : heard f.kind 
       }
 
   -- what a crash within it leaves
-  crash_in : RestsIn start state v.reads → (u : World) (x : Image) → Stands x u → IsEitherTree f old a u → IsLeftBeforeOrAfter start state q x
-  crash_in rests u x stands either =
+  crash_in : RestsIn start state v.reads → (f.mounted ≡ true → IsTrue (is_there (tree_under f (world_of v.reads)))) → (f.mounted ≡ true → (step_on f old a).answer ≡ done → IsTrue (is_there (step_on f old a).tree))
+      → f.mounted ≡ true → (u : World) (x : Image) → Stands x u → IsEitherTree f old a u → IsLeftBeforeOrAfter start state q x
+  crash_in rests there stays_there mounted u x stands either =
       let kept = rests.kept in
       let others : OthersStay f.root start u = outside_twice f.root start (world_of v.reads) u kept.others either.1.others in
       let size : u.geometry ≡ start.geometry = either.1.geometry ∙ kept.geometry in
       let before : (tree_at f.kind u f.root ≡ tree_at f.kind (world_of v.reads) f.root) → IsLeftBeforeOrAfter start state q x = λ e.
-      inl (record { world = u; stands = stands; valid = either.1.valid; geometry = size; tree = e; others = others }) in
+      inl (record { world = u; stands = stands; valid = either.1.valid; geometry = size; tree = e; others = others; still = λ none. absurd (not_nothing _ (there mounted) none) }) in
       elim either.0 [
         | inl e ↦ before e
         | inr e ↦ elim changes [
           | inl ok ↦
               let tree : tree_at f.kind u f.root ≡ (shell_step state q).tree =
               e ∙ ap (λ x. unless_refused x (step_on f old a).tree (tree_at f.kind old.world f.root)) ok ∙ sym (ap (λ (o : AskOutcome). o.tree) step_same) in
-              inr (answer_text done ++ 10 ∷ [], asked, answers_asked rests ok, record { world = u; stands = stands; valid = either.1.valid; geometry = size; tree = tree; others = others })
+              let is_there_then = subst (λ (o : AskOutcome). IsTrue (is_there o.tree)) (sym step_same) (stays_there mounted ok) in
+              inr (answer_text done ++ 10 ∷ [], asked, answers_asked rests ok, inl (record { world = u; stands = stands; valid = either.1.valid; geometry = size; tree = tree; others = others; still = λ none. absurd (not_nothing _ is_there_then none) }))
           | inr r ↦ before (e ∙ ap (λ x. unless_refused x (step_on f old a).tree (tree_at f.kind old.world f.root)) r.1)
         ]
       ]
+
+  -- where nothing is mounted, the world is as it was
+  crash_still : IsKeptSince start state → (x : Image) (u : World) → Stands x u → u ≡ world_of v.reads → IsLeftOf start state x
+  crash_still kept x u stands same = record { world = world_of v.reads; stands = subst (λ (y : World). Stands x y) same stands; valid = kept.valid; geometry = kept.geometry; tree = refl; others = kept.others; still = λ none. refl }
+
+  -- at any moment
+  moments : (mounted : Bool) → f.mounted ≡ mounted → RestsIn start state v.reads → (f.mounted ≡ true → IsTrue (is_there (tree_under f (world_of v.reads)))) → (f.mounted ≡ true → (step_on f old a).answer ≡ done → IsTrue (is_there (step_on f old a).tree))
+      → LeavesWorldsOnly old new (IsEitherTree f old a) → (f.mounted ≡ false → LeavesWorldsOnly old new (λ u. u ≡ old.world)) → LeavesOnly v w (λ x f. IsLeftBeforeOrAfter start state q x × (f ≡ v.sent))
+  moments true on rests there stays_there crash alone = weakened v w (IsImageOf (IsEitherTree f old a) v.sent) (λ x f. IsLeftBeforeOrAfter start state q x × (f ≡ v.sent)) (images_left l m kind placement c0 c1 v w (IsEitherTree f old a) crash)
+      (λ x g left. (crash_in rests there stays_there on left.0 x left.1 left.2, left.3))
+  moments false off rests there stays_there crash alone = weakened v w (IsImageOf (λ u. u ≡ old.world) v.sent) (λ x f. IsLeftBeforeOrAfter start state q x × (f ≡ v.sent)) (images_left l m kind placement c0 c1 v w (λ u. u ≡ old.world) (alone off))
+      (λ x g left. (inl (crash_still rests.kept x left.0 left.1 left.2), left.3))
 
   pub carried : {X : Type 0} (told : Type 0) (result : Result X FsRefusal) → AreReady f c0 → (told → FitsShell start f c0 v.reads) → (c1.volume.is_spent ≡ false → IsCoreReady c1) → (told → c1.volume.is_spent ≡ false → IsCoreAt c1 w)
       → (told → f.mounted ≡ true → (step_on f old a).answer ≡ done → IsTrue (is_there (step_on f old a).tree))
@@ -238,8 +252,7 @@ module _ (start : World) (f : FilesView) (q a : ShellAsk) (hears : heard f.kind 
     at = λ t. at_by t result (answer t) (changed.world t) (changed.valid t) changed.unspent;
     answered = λ t. answered_by t result (answer t) (changed.world t) (changed.valid t);
     sent = λ t. (changed.crash t).sent;
-    any_moment = λ t. weakened v w (IsImageOf (IsEitherTree f old a) v.sent) (λ x f. IsLeftBeforeOrAfter start state q x × (f ≡ v.sent)) (images_left l m kind placement c0 c1 v w (IsEitherTree f old a) (changed.crash t))
-        (λ x g left. (crash_in (rests_now t) left.0 x left.1 left.2, left.3));
+    any_moment = λ t. moments f.mounted refl (rests_now t) (keeps t).there (stays_there t) (changed.crash t) (changed.unmounted t);
     behind = aside;
     put_faults = changed.counts.put_faults;
     faultless = changed.faultless;

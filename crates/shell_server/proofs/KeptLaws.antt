@@ -1,8 +1,8 @@
 -- A session that was open at the core with what it held.
-use Rattle.std.proofs.Common.{◌≡◌, ℕ, true, ◌<◌, nat_lt, List, length, sym, ◌∙◌, ap, subst}
+use Rattle.std.proofs.Common.{◌≡◌, ◌⊎◌, inl, inr, ℕ, true, false, ◌<◌, nat_lt, List, length, refl, sym, ◌∙◌, ap, subst}
 use Rattle.std.proofs.lemmas.Bool.{and_parts}
 use Rattle.std.specs.Prelude.{Option, Some, None, is_none, is_some}
-use Rattle.shell_server.proofs.Common.{IsTrue, slice_get, World, Geometry, PlaceKind, DeviceView, Image, world_of, Counts, ShellAsk, Stays, FilesView, Core, FitsReads, core_view, IsClient, IsKeptSince, IsTakenForTree, OthersStay, ShellState}
+use Rattle.shell_server.proofs.Common.{IsTrue, slice_get, World, Geometry, PlaceKind, DeviceView, Image, world_of, Counts, ShellAsk, Stays, FilesView, Core, FitsReads, core_view, IsClient, IsKeptSince, IsTakenForTree, OthersStay, ShellState, Tree, nothing, a_file, a_dir, is_there}
 use Rattle.image_world.specs.Tables.{Tables, tables_of}
 use Rattle.image_world.proofs.WorldLaws.{told_like}
 use Rattle.intent_journal.specs.Home.{home}
@@ -24,6 +24,16 @@ client_still f l m kind placement c0 c1 v w stays counts was =
       primary = subst (λ (g : Geometry). f.root < g.primaries) (sym counts.geometry) was.primary;
       attains = ap (λ (rs : List Record). record_level (slice_get rs f.root) (kept_of new.version f.cap)) stays.records ∙ (ap (λ (n : ℕ). record_level (slice_get old.records f.root) (kept_of n f.cap)) counts.version ∙ was.attains);
     }
+
+-- ---- trees
+
+pub not_nothing : (t : Tree) → IsTrue (is_there t) → t ≡ nothing → ⊥
+not_nothing t there gone = let none : is_there t ≡ false = ap is_there gone in cc
+
+pub nothing_or_there : (t : Tree) → (t ≡ nothing) ⊎ IsTrue (is_there t)
+nothing_or_there nothing = inl refl
+nothing_or_there (a_file x) = inr refl
+nothing_or_there (a_dir d es) = inr refl
 
 -- ---- worlds
 

@@ -19,7 +19,7 @@ module _ (start : World) (f : FilesView) (q a : ShellAsk) (hears : heard f.kind 
 
   -- the world is as it was
   image_still : FitsShell start f c0 v.reads → (x : Image) (u : World) → Stands x u → u ≡ world_of v.reads → IsLeftOf start state x
-  image_still keeps x u stands same = record { world = world_of v.reads; stands = subst (λ (y : World). Stands x y) same stands; valid = keeps.kept.valid; geometry = keeps.kept.geometry; tree = refl; others = keeps.kept.others }
+  image_still keeps x u stands same = record { world = world_of v.reads; stands = subst (λ (y : World). Stands x y) same stands; valid = keeps.kept.valid; geometry = keeps.kept.geometry; tree = refl; others = keeps.kept.others; still = λ none. refl }
 
   pub looked_so : {X : Type 0} (told : Type 0) (of_answer : X → Answer → Type 0) (result : Result X FsRefusal) → AreReady f c0 → (told → FitsShell start f c0 v.reads) → (c1.volume.is_spent ≡ false → IsCoreReady c1) → (told → c1.volume.is_spent ≡ false → IsCoreAt c1 w)
       → (told → IfOk result (λ x. of_answer x (step_on f old a).answer)) → (told → IfErr result (λ e. e ≢ no.Device → (step_on f old a).answer ≡ refused e)) → (told → OnAnswer result (new.world ≡ old.world)) → (told → LeavesWorldsOnly old new (λ u. u ≡ old.world)) → (told → OnAnswer result (IsValidNow new))

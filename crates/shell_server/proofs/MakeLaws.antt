@@ -4,7 +4,7 @@ use Rattle.shell_server.proofs.Common.{Result, Ok, Err, IsTrue, MatchResult, Wor
 use Rattle.fs_trees.specs.declared.ask.ShellAsk.TheVariants as ask
 use Rattle.fs_trees.specs.declared.refusal.FsRefusal.TheVariants as no
 use Rattle.std.specs.Prelude.{Some}
-use Rattle.shell_server.proofs.KeptLaws.{client_still, kept_asked, none_taken, size_stays}
+use Rattle.shell_server.proofs.KeptLaws.{client_still, kept_asked, none_taken, not_nothing, nothing_or_there, size_stays}
 
 module _ (start : World) (f g : FilesView) (l m : ℕ × ℕ) (kind placement : PlaceKind) (c0 c1 : Core) (v w : DeviceView) where
   abbrev old : DiskView
@@ -44,13 +44,28 @@ module _ (start : World) (f g : FilesView) (l m : ℕ × ℕ) (kind placement : 
       let kept = rests.kept in
       let others : OthersStay f.root start u = outside_twice f.root start (world_of v.reads) u kept.others either.1.others in
       let size : u.geometry ≡ start.geometry = either.1.geometry ∙ kept.geometry in
+      let given = makes rests asked refl refl (kept_asked start state (mounted_now f) ask.Make refl kept) (none_taken f (world_of v.reads)) in
       elim either.0 [
-        | inl e ↦ inl (record { world = u; stands = stands; valid = either.1.valid; geometry = size; tree = e; others = others })
+        | inl e ↦ elim (nothing_or_there (tree_at f.kind (world_of v.reads) f.root)) [
+          | inl gone ↦ inr (
+            answer_text done ++ 10 ∷ [],
+            asked,
+            given,
+            inr (record {
+              make = refl;
+              none = gone;
+              world = u;
+              none_yet = e ∙ gone;
+              left = record { world = u; stands = stands; valid = either.1.valid; geometry = size; tree = refl; others = others; still = λ none. refl };
+            }),
+          )
+          | inr some ↦ inl (record { world = u; stands = stands; valid = either.1.valid; geometry = size; tree = e; others = others; still = λ none. absurd (not_nothing _ some none) })
+        ]
         | inr e ↦ inr (
           answer_text done ++ 10 ∷ [],
           asked,
-          makes rests asked refl refl (kept_asked start state (mounted_now f) ask.Make refl kept) (none_taken f (world_of v.reads)),
-          record { world = u; stands = stands; valid = either.1.valid; geometry = size; tree = e; others = others },
+          given,
+          inl (record { world = u; stands = stands; valid = either.1.valid; geometry = size; tree = e; others = others; still = λ none. absurd (not_nothing empty_tree refl none) }),
         )
       ]
 

@@ -4,6 +4,7 @@ use Rattle.shell_server.proofs.Common.{Result, Ok, Err, IfErr, World, Rose, View
 use Rattle.fs_trees.specs.declared.ask.ShellAsk.TheVariants as ask
 use Rattle.fs_trees.specs.declared.refusal.FsRefusal.TheVariants as no
 use Rattle.tsd_words.specs.declared.status.Status.TheVariants as status
+use Rattle.shell_server.specs.ShellLaws.{shell_counted}
 use Rattle.shell_server.proofs.KeptLaws.{none_taken}
 
 -- ---- what a crash leaves
@@ -19,7 +20,10 @@ module _ (start : World) (s : ShellState) (q : ShellAsk) where
     any_carried = weakened v w _ (IsInAnswer (shell_service start) s q v.sent) leaves
         (λ x f left. elim left.0 [
           | inl old ↦ inl (old, left.1)
-          | inr new ↦ inr (answering v.sent f new.0 new.1 [] new.0 new.2 refl (left.1 ∙ sym (append-nil v.sent)), inl new.3)
+          | inr new ↦ inr (
+            answering v.sent f new.0 new.1 [] new.0 new.2 refl (left.1 ∙ sym (append-nil v.sent)),
+            elim new.3 [ inl after ↦ inl after | inr between ↦ inr (inr between, (shell_counted start).some s q new.0 new.1 new.2) ],
+          )
         ])
 
     -- then the line is sent, or a front of it

@@ -18,13 +18,14 @@ use Rattle.serving.specs.Handling.{FitsDevice}
 use Rattle.serving.specs.Service.{IsInAnswer, LeftBy}
 use Rattle.tsd_core.specs.Core.{Core}
 use Rattle.core_blocks.specs.Behind.{KeepsBehind}
-use Rattle.shell_server.specs.Shell.{ShellState, AnswersByLine, IsLeftOf, shell_service, shell_step}
+use Rattle.shell_server.specs.Shell.{ShellState, AnswersByLine, IsLeftOf, IsMaking, shell_service, shell_step}
 use Rattle.shell_server.specs.Kept.{AreReady, FitsShell, shell_state}
 
--- the image stands for the state, or for one that an answer to the ask leads to
+-- the image stands for the state, or for one that an answer to the ask leads to, or for something between
 abbrev pub IsLeftBeforeOrAfter : World → ShellState → ShellAsk → Image → Type 0
 IsLeftBeforeOrAfter start s q x = IsLeftOf start s x
-    ⊎ ((line : List ℕ) × (t : ShellState) × AnswersByLine start s q line t × IsLeftOf start t x)
+    ⊎ ((line : List ℕ) × (t : ShellState) × AnswersByLine start s q line t
+    × (IsLeftOf start t x ⊎ IsMaking start s q x))
 
 -- the line that answers an ask that changes the tree
 abbrev pub change_line : {X : Type 0} → Result X FsRefusal → List ℕ

@@ -46,6 +46,7 @@ shell_stands start f c x keeps = record {
   geometry = keeps.kept.geometry;
   tree = refl;
   others = keeps.kept.others;
+  still = λ none. refl;
 }
 
 pub shell_rests : (start : World) (f : FilesView) (c : Core) (x : Image) → FitsShell start f c x

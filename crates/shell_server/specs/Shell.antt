@@ -126,7 +126,8 @@ pub record AnswersByLine (start : World) (s : ShellState) (q : ShellAsk) (line :
 -- ---- images
 
 -- What a crash may leave of a state: a valid world of the size at the start, with the tree of the state under the root,
--- and with what the root doesn't reach as it was at the start. It needn't be tidy.
+-- and with what the root doesn't reach as it was at the start. It needn't be tidy. Where no tree is there, all of it is
+-- as it is in the state: a tree of another layout stays.
 pub record IsLeftOf (start : World) (s : ShellState) (x : Image) : Type 0 where
   pub world : World
   pub stands : Stands x world
@@ -134,6 +135,16 @@ pub record IsLeftOf (start : World) (s : ShellState) (x : Image) : Type 0 where
   pub geometry : world.geometry ≡ start.geometry
   pub tree : tree_under s.files world ≡ tree_of s
   pub others : OthersStay s.files.root start world
+  pub still : tree_of s ≡ nothing → world ≡ s.world
+
+-- While an empty tree is made where none is there, what stands in its place goes: a crash may leave any world that a
+-- crash leaves of a state without a tree.
+pub record IsMaking (start : World) (s : ShellState) (q : ShellAsk) (x : Image) : Type 0 where
+  pub make : heard s.files.kind q ≡ ask.Make
+  pub none : tree_of s ≡ nothing
+  pub world : World
+  pub none_yet : tree_under s.files world ≡ nothing
+  pub left : IsLeftOf start (resting s.files world) x
 
 -- ---- the service
 
@@ -152,6 +163,7 @@ shell_service start = record {
   rests = RestsIn start;
   acked = line_feeds;
   in_parts = IsInParts;
+  between = IsMaking start;
 }
 
 -- how its work is counted: no ask has a bound
