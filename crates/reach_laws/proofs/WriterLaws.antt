@@ -128,7 +128,7 @@ module _ (kind : PlaceKind) (w : World) (wants : List Bool) (qs : List Request) 
   caps_by_access o = same_or _ _ (at_some_request (sets_record o) kind (at_rest w) wants qs) (run_records_have_a_writer kind (at_rest w) wants qs o)
       (writer kind w wants valid (λ q. is_set_cap_of q o) (set_needs o) (sets_record o) (λ st q h. let parts = and_parts (is_set_cap_of q o) (acts_with_write o st q) h in (parts.0, acts_granted o st q parts.1)) qs)
 
-  pub blocks_by_access : (b : ℕ) → IsTrue (is_live w b) → IsTrue (is_live (after kind (at_rest w) wants qs).world b) ⊎ HasWriter is_removal kind w wants qs
+  pub blocks_by_access : (b : ℕ) → IsTrue (is_live w b) → StaysLive kind w wants qs b ⊎ HasWriter is_removal kind w wants qs
   blocks_by_access b live = same_or _ _ (at_some_request removes_blocks kind (at_rest w) wants qs) (run_blocks_have_a_remover kind (at_rest w) wants qs b live)
       (writer kind w wants valid is_removal removal_needs removes_blocks
       (λ st q h. let parts = and_parts (is_removal q) (is_granted st.world st.sessions q && list_all (attains_write st q) (needs q)) h in (parts.0, (and_parts (is_granted st.world st.sessions q) (list_all (attains_write st q) (needs q)) parts.1).0)) qs)

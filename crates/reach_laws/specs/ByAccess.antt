@@ -63,7 +63,8 @@ pub record BlockIsAsItWas (w now : World) (b : ℕ) : Type 0 where
 
 -- What these requests changed of a world, they changed by access. Where the bytes of a block, the pointers out of it,
 -- those to it or its capabilities differ, a session changed them by a request that was granted, and attained write
--- there; so it is where a block went. What no session could reach is as it was, and no reply depends on its bytes.
+-- there; so it is where a block went at any moment, given out again since or not. What no session could reach is as it
+-- was, and no reply depends on its bytes.
 pub record IsByAccess (kind : PlaceKind) (w : World) (wants : List Bool) (qs : List Request) : Type 0 where
   pub bytes : (b : ℕ) → StaysLive kind w wants qs b
       → (contents (after kind (at_rest w) wants qs).world b ≡ contents w b)
@@ -76,8 +77,7 @@ pub record IsByAccess (kind : PlaceKind) (w : World) (wants : List Bool) (qs : L
       → IsTrue (holds w.pairs a b) ⊎ HasWriter (λ q. is_create_of q a b) kind w wants qs
   pub caps : (o : ℕ) → (slice_get (after kind (at_rest w) wants qs).world.records o ≡ slice_get w.records o)
       ⊎ HasWriter (λ q. is_set_cap_of q o) kind w wants qs
-  pub blocks : (b : ℕ) → IsTrue (is_live w b)
-      → IsTrue (is_live (after kind (at_rest w) wants qs).world b) ⊎ HasWriter is_removal kind w wants qs
+  pub blocks : (b : ℕ) → IsTrue (is_live w b) → StaysLive kind w wants qs b ⊎ HasWriter is_removal kind w wants qs
   pub unreached : (region : ℕ → Bool) → IsOutOfReach w qs region → (b : ℕ) → IsTrue (region b)
       → BlockIsAsItWas w (after kind (at_rest w) wants qs).world b
   pub hidden : (region : ℕ → Bool) → IsOutOfReach w qs region → (u : World) → AlikeBut region (at_rest w) (at_rest u)

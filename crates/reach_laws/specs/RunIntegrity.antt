@@ -44,9 +44,10 @@ RunNewPointersHaveAGiver =
     → IsTrue (holds (after kind s wants qs).world.pairs a b)
     → IsTrue (holds s.world.pairs a b)
 
--- A live block is live at the end of a run, but where some request of the run was such a Delete or Sweep.
+-- A live block is live at each state of a run, but where some request of the run was such a Delete or Sweep. So it
+-- isn't freed and given out again either.
 abbrev pub RunBlocksHaveARemover : Type 0
 RunBlocksHaveARemover =
     (kind : PlaceKind) (s : State) (wants : List Bool) (qs : List Request) (b : ℕ)
     → IsTrue (is_live s.world b) → at_some_request removes_blocks kind s wants qs ≡ false
-    → IsTrue (is_live (after kind s wants qs).world b)
+    → IsTrue (at_each_state (is_live_in b) kind s wants qs)

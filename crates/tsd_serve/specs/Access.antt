@@ -39,8 +39,9 @@ pub record IsByGrants (kind : PlaceKind) (w : World) (wants : List Bool) (qs : L
 
 -- A crash left this image, with these bytes sent since `before`, of a disk that stood for this world with no session
 -- open. It stands for the world after a prefix of a run of the requests, and the bytes are of the replies of that run.
--- At each point of the run what differs from the start was changed by access; what no session could reach by then is as
--- it was, and no reply depends on its bytes; and what sessions may do is what they were granted.
+-- At each point of the run what differs of the start's blocks was changed by access: of those that stayed live their
+-- bytes and pointers, and of the others that they went. What no session could reach by then is as it was, and no reply
+-- depends on its bytes; and what sessions may do is what they were granted.
 pub record IsLeftByAccess (v : Voice) (kind : PlaceKind) (w : World) (before : List ℕ) (asked : List Request)
     (x : Image) (sent : List ℕ) : Type 0 where
   pub run : IsPrefixLeft v kind w before asked x sent

@@ -25,14 +25,16 @@ pub fn acknowledged_requests_stay<S: Source, P: Port>()
 {}
 
 /// The law of access, from the same clause: in every image that a crash leaves after `run`, `serve` or `group`, and in
-/// every reply, what of a block's bytes, pointers and capabilities differs from the start was changed by a session that
-/// attained write there, by a capability that it showed or along a pointer from where it was granted write. What no
-/// session could reach is as it was, and no reply depends on its bytes.
+/// every reply, what differs from the start was changed by a session that attained write there, by a capability that it
+/// showed or along a pointer from where it was granted write: the bytes, pointers and capabilities of a block that
+/// stayed live, and that a block of the start was freed, given out again since or not. What no session could reach is
+/// as it was, and no reply depends on its bytes.
 pub fn changes_are_by_access<S: Source, P: Port>()
     /// promise: **Who changed what.** After `run`, `serve` or `group`, in every image that a crash leaves and in every
     /// reply: what of the start's blocks differs was changed by a session with write access there, by a capability that
-    /// it showed or along a pointer from where it was granted write. What no session could reach is as it was, and no
-    /// reply depends on its bytes.
+    /// it showed or along a pointer from where it was granted write; so it is too where a block of the start was freed,
+    /// also where it was given out again since. What no session could reach is as it was, and no reply depends on its
+    /// bytes.
     ensures { (words : Words) (status : Ended) (source_old source_new : S) (port_old port_new : P)
         → let source = taking S.told S.taken S.left_bytes S.ended source_old source_new in
         let port = moments P.told P.view port_old port_new in
