@@ -9,7 +9,7 @@ from __future__ import annotations
 
 import resource
 from pathlib import Path
-from typing import Iterator, NamedTuple, Sequence, Tuple
+from typing import Iterator, List, NamedTuple, Sequence, Tuple
 
 from crash_images import Choice, Medium, moments, written
 from disk_model import PLACES, seed_caps
@@ -19,7 +19,7 @@ from files import told
 from image_reader import Fault, read_image
 from parts import Context, Result, compared, failed, passed, shortened, skipped
 from program import Program
-from recording import SYNC, NoRecorder, Recorder
+from recording import PUT, READ, SYNC, NoRecorder, Recorder, Recording
 
 NAME = "file_rows"
 USAGE = 2
@@ -393,6 +393,82 @@ def cost_result(recorder: Recorder, program: Program, image: Path, cost: Cost) -
     return compared(name, (text_of(OK * ASKS), True), (recording.out, syncs <= most))
 
 
+# --- how often asks read ---
+
+SECTOR = 512
+# Of a disk of 64 blocks of one sector: those of counts, bits and slots follow sector 133; then come those of the blocks.
+FIRST_OF_BLOCKS = 134 + 1 + 1 + 4
+# Blocks are taken from the lowest on: so file N has block N, and then every second block is free from 3 on. No block
+# that is read lies behind the one that was read before it, so that nothing is read ahead, and each read is one call.
+TAKEN = ["mkfs", *[f"put /g{number:02} -" for number in range(1, 15)]]
+SCATTERED = [*TAKEN, *[f"rm /g{number:02}" for number in range(3, 14, 2)], f"put /a {letters(3 * 480)}", "put /b 62",
+             "rm /g01"]
+NAMES = "a b g02 g04 g06 g08 g10 g12 g14"
+
+
+class Reading(NamedTuple):
+    """Asks over a layout: with each its answer, and which blocks are read for it."""
+
+    kind: str
+    asks: Sequence[Tuple[str, str, Sequence[int]]]
+
+
+# By the documents: over inodes mounting reads each inode once, by their names, and `ls` of nine names takes ten walks;
+# each part of a file reads the way to its inode, that, and the blocks of the part. Over chains a pass over the directory
+# has all its names, and one more has none; a file's clusters are read for its size, and for the part that it is. Either
+# looks at the size of a file first. What mounting reads comes before the first answer.
+READINGS = (
+    Reading(INODE, (
+        ("df", "free 50", [0, 3, 11, 2, 4, 6, 8, 10, 12, 14]),
+        ("cat /a", f"data {letters(1440)}", [0, 3, 0, 3, 5, 7, 9]),
+        ("ls /", f"names {NAMES}", [0] * 10),
+        ("cat /b", "data 62", [0, 11, 0, 11, 13]),
+        ("cat /c", "no no-entry", [0]),
+        ("df", "free 50", []),
+    )),
+    Reading(CHAIN, (
+        ("cat /c", "no no-entry", []),
+        ("cat /a", f"data {letters(1440)}", [0, 3, 5, 7, 0, 3, 5, 7]),
+        ("ls /", f"names {NAMES}", [0] * 2),
+        ("cat /b", "data 62", [0, 9, 0, 9]),
+        ("cat /c", "no no-entry", [0]),
+        ("df", "free 52", []),
+    )),
+)
+
+
+def read_blocks(recording: Recording) -> List[List[int]]:
+    """For each line that was sent, the blocks that were read since the one before."""
+    blocks: List[List[int]] = [[]]
+    for event in recording.events:
+        if event.kind == READ and event.offset >= SECTOR * FIRST_OF_BLOCKS:
+            blocks[-1].append(event.offset // SECTOR - FIRST_OF_BLOCKS)
+        elif event.kind == PUT and event.data.endswith(b"\n"):
+            blocks.append([])
+    return blocks
+
+
+def read_results(context: Context, program: Program) -> Iterator[Result]:
+    """Which blocks asks read, each as often as the documents say. What mounting chains reads they don't tell."""
+    try:
+        recorder = Recorder(context.program, context.compiler or "cc", context.folder)
+    except NoRecorder as no_recorder:
+        yield skipped("which blocks asks read", str(no_recorder))
+        return
+    image = context.folder / "reads.img"
+    for reading in READINGS:
+        image.unlink(missing_ok=True)
+        program.run([image, "fresh", "64", "1", R, W, "low"], b"")
+        shell = ["shell", reading.kind, "0", W, "low"]
+        program.run([image, *shell], text_of(SCATTERED))
+        recording = recorder.run(image, shell, text_of([ask for ask, _, _ in reading.asks]))
+        answers = text_of([answer for _, answer, _ in reading.asks])
+        yield compared(f"what asks over blocks that lie apart answer ({reading.kind})", answers, recording.out)
+        first = 1 if reading.kind == CHAIN else 0
+        wanted = [list(blocks) for _, _, blocks in reading.asks][first:] + [[]]
+        yield compared(f"which blocks asks read ({reading.kind})", wanted, read_blocks(recording)[first:])
+
+
 def last_write(medium: Medium, sector: int) -> Choice:
     """What a loose sector was last given."""
     return written(medium, sector, len(medium.loose[sector]) - 1)
@@ -429,3 +505,4 @@ def run(context: Context) -> Iterator[Result]:
     else:
         yield from stopped_results(context, program)
         yield from cost_results(context, program)
+        yield from read_results(context, program)

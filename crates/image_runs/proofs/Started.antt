@@ -102,8 +102,8 @@ ends_opened r v kind old mid new qs s final owed counted at settled opened serve
     subst (λ (b : List ℕ). ByStatus r (disk_service v) start b qs final new.sent) sent (subst (λ (p : Placed). ByStatus r (disk_service v) p mid.sent qs final new.sent) at served.sent) in
     let moments : LeavesOnly mid new (IsAcknowledged (disk_service v) start old.sent qs) =
     subst (λ (b : List ℕ). LeavesOnly mid new (IsAcknowledged (disk_service v) start b qs)) sent (subst (λ (p : Placed). LeavesOnly mid new (IsAcknowledged (disk_service v) p mid.sent qs))
-        at (weakened mid new (IsLeftInRun (disk_service v) (new.left mid.clock) s mid.sent qs) (IsAcknowledged (disk_service v) s mid.sent qs) (served.any_moment mid.clock (omega arith))
-        (acknowledged (disk_service v) (new.left mid.clock) (λ t q x none. none) s mid.sent qs))) in
+    at (weakened mid new (IsLeftInRun (disk_service v) (new.left mid.clock) s mid.sent qs) (IsAcknowledged (disk_service v) s mid.sent qs) (served.any_moment mid.clock (omega arith))
+    (acknowledged (disk_service v) (new.left mid.clock) (λ t q x none. none) s mid.sent qs))) in
     let debts : All disk_work.bounded qs → LeavesOnly mid new (HasDebt (disk_service v) disk_work start old.sent 0 qs) = λ bounded.
     subst (λ (n : ℕ). LeavesOnly mid new (HasDebt (disk_service v) disk_work start old.sent n qs)) settled
     (subst (λ (b : List ℕ). LeavesOnly mid new (HasDebt (disk_service v) disk_work start b (debt mid.reads) qs)) sent

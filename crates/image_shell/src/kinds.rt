@@ -50,9 +50,12 @@ pub fn serve_inode_image<S: Source, P: Port>(
     /// only by an ask that is done, is tidy, and has taken no block that the tree doesn't name. After a fault of the
     /// device within a `cat` or an `ls`, a front of that answer may be sent after them.
     /// promise: **A crash at any moment**, opening and mounting included, leaves an image of a valid world whose tree
-    /// under the root is the one after the asks whose answers were sent whole, or that of the step of one more from
-    /// there; the geometry and what the root doesn't reach are as at the start, and so are the capabilities. Of blocks
-    /// that the tree doesn't name it says nothing.
+    /// under the root is the one after the asks whose answers were sent whole, or that of the step of one more, from a
+    /// state that was seen with those answers sent: so an ask that is refused changes the tree at no moment. The
+    /// geometry and what the root doesn't reach are as at the start, and so are the capabilities. Of blocks that the
+    /// tree doesn't name it says nothing.
+    /// promise: **Where no tree is there**, a crash leaves the world as it is then, but while an empty tree is made in
+    /// place of what is there: a tree of another layout stays as it is.
     /// promise: Each state of the run rested in an image that a crash may have left with exactly the answers before it
     /// sent: there the world is valid and tidy. So the numbers of free blocks and of held pointers in the answers are
     /// those of a world that was there.

@@ -1,5 +1,5 @@
 -- From the tests of the first side to what the command did.
-use Rattle.std.proofs.Common.{◌≡◌, ◌≢◌, inl, inr, ⊎_elim, ℕ, ◌<◌, List, [], ◌∷◌, ◌++◌}
+use Rattle.std.proofs.Common.{◌≡◌, ◌≢◌, inl, inr, ⊎_elim, ℕ, ◌^◌, ◌<◌, ◌≤◌, List, [], ◌∷◌, ◌++◌}
 use Rattle.std.proofs.Common.{refl, sym, ◌∙◌, ap, subst, arith}
 use Rattle.std.proofs.Math.Bridge.{le_prop}
 use Rattle.std.proofs.Math.Logic.{∥∥₁_elim}
@@ -20,7 +20,7 @@ use Rattle.image_runs.specs.declared.check.Telling.{Telling}
 use Rattle.image_world.proofs.FaultLaws.{no_fault}
 use Rattle.image_world.specs.Faults.{IsFirstFault, IsGood}
 use Rattle.image_world.specs.Stands.{world_of}
-use Rattle.mirror_device.specs.Copying.{Copying, InCopying, IsBrokenOff, IsLeftOfFirst}
+use Rattle.mirror_device.specs.Copying.{CopyWrites, Copying, InCopying, IsBrokenOff, IsLeftOfFirst, differing, differing_below}
 use Rattle.mirror_device.specs.Mirror.{start_at}
 use Rattle.mirror_device.specs.Putting.{SidesSend}
 use Rattle.mirror_device.specs.Sending.{IsIdleSince, StartsAt}
@@ -35,7 +35,7 @@ use Rattle.tsd_words.specs.declared.commands.Command.{Command}
 use Rattle.tsd_words.specs.declared.commands.Command.TheVariants as command
 use Rattle.tsd_words.specs.declared.status.Status.{Status}
 use Rattle.tsd_words.specs.declared.status.Status.TheVariants as status
-use Rattle.tsd_serve.specs.MirrorDid.{AreSoundAtEnd, HasFailed as Failed, MirrorHeadline, NoSideIsLeft}
+use Rattle.tsd_serve.specs.MirrorDid.{AreSoundAtEnd, HasFailed as Failed, MirrorHeadline, NoSideIsLeft, WritesWhatDiffers}
 use Rattle.tsd_serve.specs.MirrorStatus.{own_status}
 use Rattle.tsd_serve.specs.MirrorTest.{AreSpared, DidTest, HasPassed, HasPut, HasStopped, HasTold, IsFound, OpensImage}
 use Rattle.tsd_serve.specs.MirrorTest.{StandsForNone, TellsFaults}
@@ -167,6 +167,13 @@ module _ (u v : SidesView) (reads : OnlyReads u v) where
         (copying_back i)
         (copying.nothing_else u.clock i reads.later left)
 
+  -- and what the copying writes
+  writes_on : (w : SidesView) → CopyWrites v w → WritesWhatDiffers u w
+  writes_on w copy =
+      let same : differing v ≡ differing u = (λ j. differing_below (2 ^ 32) (reads.reads j) (ap (λ (s : SideView). s.reads) reads.second j)) in
+      let count : v.second.writes ≡ u.second.writes = ap (λ (s : SideView). s.writes) reads.second in
+      omega (arith, copy.second, same, count)
+
 -- ---- the same of reads that merely were so
 
 bytes_set : IsSet (List ℕ)
@@ -177,6 +184,9 @@ numbers_set = Coded-set coded_ℕ
 
 less_prop : (a b : ℕ) → IsProp (a < b)
 less_prop a b = le_prop
+
+at_most_prop : (a b : ℕ) → IsProp (a ≤ b)
+at_most_prop a b = le_prop
 
 module _ (u v : SidesView) (merely : ∥ OnlyReads u v ∥₁) where
   pub same_reads : v.first.reads ≡ u.first.reads
@@ -193,6 +203,9 @@ module _ (u v : SidesView) (merely : ∥ OnlyReads u v ∥₁) where
   copies_more w copying =
       let prop : IsProp (∥ Copying u w ∥₁) = hlevel in
       ∥∥₁_elim merely prop (λ (reads : OnlyReads u v). ∣ copies_on u v reads w copying ∣₁)
+
+  pub writes_more : (w : SidesView) → CopyWrites v w → WritesWhatDiffers u w
+  writes_more w copy = ∥∥₁_elim merely (at_most_prop _ _) (λ (reads : OnlyReads u v). writes_on u v reads w copy)
 
   pub left_more : (x : Image) (f : List ℕ) → IsLeftOfFirst v x f → IsLeftOfFirst u x f
   left_more x f was =

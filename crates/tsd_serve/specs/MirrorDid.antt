@@ -1,12 +1,12 @@
 -- What a command did over two images as one disk, from its start to its end.
-use Rattle.std.specs.Prelude.{◌≡◌, ◌⊎◌, ◌-◌, ◌^◌, ◌<◌, ◌≤◌, ⊤, ℕ, List, Option, None, Some}
+use Rattle.std.specs.Prelude.{◌≡◌, ◌⊎◌, ◌+◌, ◌-◌, ◌^◌, ◌<◌, ◌≤◌, ⊤, ℕ, List, Option, None, Some}
 use Rattle.tsd_model.specs.World.{World}
 use Rattle.tsd_model.specs.declared.requests.Request.{Request}
 use Rattle.image_device.specs.Counts.{Rose}
 use Rattle.image_device.specs.Image.{Image}
 use Rattle.image_device.specs.Runs.{IsFirm}
 use Rattle.image_device.specs.View.{IsSound, View}
-use Rattle.mirror_device.specs.Copying.{Copying, IsBrokenOff, IsLeftOfFirst}
+use Rattle.mirror_device.specs.Copying.{Copying, IsBrokenOff, IsLeftOfFirst, differing}
 use Rattle.mirror_device.specs.Mirror.{EachSound, IsShown, loose_of, reads_of, start_at}
 use Rattle.mirror_device.specs.SidesView.{Item, SidesView}
 use Rattle.mirror_device.specs.declared.side.Serving.{Serving}
@@ -90,12 +90,17 @@ pub record DidOver (words : Option Command) (r : MirrorStatus) (source : Taking)
   pub begins : port.tells → BeganAs old port.old
   pub ends : port.tells → EndedAs old new c port.new
 
+-- No more sectors of the second side were written than differed from those of the first.
+abbrev pub WritesWhatDiffers : SidesView → SidesView → Type 0
+WritesWhatDiffers old new = new.second.writes ≤ old.second.writes + differing old
+
 -- The first side failed in the copying, and nothing else was done.
 pub record DidCopy (told : Type 0) (r : MirrorStatus) (source : Taking) (old new : SidesView) : Type 0 where
   pub status : r ≡ Ended status.DeviceFault
   pub untaken : source.untouched
   pub broken_off : IsBrokenOff old new
   pub left : told → ∥ Copying old new ∥₁
+  pub differing : told → WritesWhatDiffers old new
 
 -- ---- the headline on each side
 

@@ -8,7 +8,7 @@ ghost use Rattle.mirror_device.specs.SidesView.{Item};
 ghost use Rattle.mirror_device.specs.declared.side.Serving.{Serving};
 ghost use Rattle.serving.specs.Ran.{EndsOnce, moments, taking};
 ghost use Rattle.tsd_serve.specs.MirrorDid.{AreSoundAtEnd, DidCopy, DidOver, HasFailed, MirrorHeadline, NoSideIsLeft};
-ghost use Rattle.tsd_serve.specs.MirrorDid.{lost_of};
+ghost use Rattle.tsd_serve.specs.MirrorDid.{WritesWhatDiffers, lost_of};
 ghost use Rattle.tsd_serve.specs.MirrorTest.{AreSpared, DidTest, OpensImage, StandsForNone, TellsFaults};
 ghost use Rattle.tsd_serve.specs.MirrorStatus.{own_status};
 ghost use Rattle.tsd_words.specs.Words.{command_of};
@@ -43,14 +43,16 @@ pub fn tsd_mirror<S: Source, P: Sides + Drop, K: Began>(
     ensures untouched_source { result.0 ≡ MirrorStatus.Ended Status.Usage → source.new ≡ source.old }
     ensures untouched_sides { result.0 ≡ MirrorStatus.Ended Status.Usage → result.1 ≡ sides }
     /// promise: Any command does over the mirror, from when it began to its end, what it does over one image; or it ended
-    /// in the tests of the first side; or that side failed in the copying, and nothing else was done.
+    /// in the tests of the first side; or that side failed in the copying, and nothing else was done. The copying, done
+    /// before the mirror began, wrote no more sectors of the second side than differed.
     ensures did { result.0 ≢ MirrorStatus.Ended Status.Usage → let old = P.view sides in
         let new = P.view result.1 in
         let taken = taking S.told S.taken S.left_bytes S.ended source.old source.new in
         DidTest P.told (command_of (map string_bytes words.now.items)) result.0 taken old new
         ⊎ DidCopy P.told result.0 taken old new ⊎ ((c : Serving) × (m : _) × (n : _)
         × DidOver (command_of (map string_bytes words.now.items)) result.0 taken old new c
-        (moments P.told ⟦<Mirror<P, K> as Device>⟧.view m n)) }
+        (moments P.told ⟦<Mirror<P, K> as Device>⟧.view m n)
+        × (P.told → WritesWhatDiffers old (P.view m.sides.sides))) }
     /// promise: **Where the first image stands for no world, a command that opens an image leaves both as they were**, at
     /// each moment, with what was loose before alone, and the second one with the same counts of syncs and faults.
     ensures spares_second { P.told → OpensImage (command_of (map string_bytes words.now.items))

@@ -18,7 +18,7 @@ use Rattle.tsd_serve.proofs.Mirrored.{headline_over, headline_unbegun, sound_at_
 use Rattle.tsd_serve.proofs.Promises.{headline}
 use Rattle.tsd_serve.proofs.Tests.{breaks_after, copied_merely, copies_more, did_stopped, headline_stopped, idle_more}
 use Rattle.tsd_serve.proofs.Tests.{late_stopped, left_more, left_stopped, lost_stopped, same_reads, same_sent}
-use Rattle.tsd_serve.proofs.Tests.{sound_stopped, stands_for_one, starts_after, usage_stopped}
+use Rattle.tsd_serve.proofs.Tests.{sound_stopped, stands_for_one, starts_after, usage_stopped, writes_more}
 use Rattle.tsd_serve.proofs.mirror.tsd_mirror.Given as given
 use Rattle.tsd_serve.proofs.mirror.tsd_mirror.Goals as goal
 
@@ -98,6 +98,7 @@ returns-in-Err-after_reads-clause-did g c other =
       untaken = refl;
       broken_off = breaks_after _ _ _ _ passed _ c.in-Err-after_reads.ensures.cause;
       left = λ told. copies_more _ _ (passed.reads told) _ (c.in-Err-after_reads.ensures.given_back told);
+      differing = λ told. writes_more _ _ (passed.reads told) _ (c.in-Err-after_reads.ensures.differing told);
     }))
 
 pub returns-in-Err-after_reads-clause-spares_second : goal.returns-in-Err-after_reads-clause-spares_second
@@ -176,7 +177,14 @@ did_over g c =
     }
 
 pub returns-clause-did : goal.returns-clause-did
-returns-clause-did g c other = inr (inr (c.obey-status.new.port.serving, c.in-Ok-after_reads.mirror, c.obey-status.new.port, did_over g c))
+returns-clause-did g c other =
+    inr (inr (
+      c.obey-status.new.port.serving,
+      c.in-Ok-after_reads.mirror,
+      c.obey-status.new.port,
+      did_over g c,
+      λ told. writes_more _ _ (c.in-Ok.ensures.passed.reads told) _ (c.in-Ok-after_reads.ensures.differing told),
+    ))
 
 pub returns-clause-spares_second : goal.returns-clause-spares_second
 returns-clause-spares_second g c told opens none =
