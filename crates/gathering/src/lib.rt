@@ -17,6 +17,7 @@ mod began;
 mod flush;
 mod gather;
 mod group;
+mod past;
 
 pub use began::Began;
 pub use flush::FlushFault;
