@@ -1,4 +1,6 @@
+mod PastEvents
 mod Events
+mod Found
 mod Reading
 mod Wholes
 mod Flushing

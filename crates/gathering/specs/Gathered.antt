@@ -1,6 +1,6 @@
 -- A gathering device: a disk in memory that begins as the real one reads, its journal closed, and to which since then
 -- only what its log tells was done.
-use Rattle.std.specs.Prelude.{ℕ, ◌≡◌, ◌<◌, false, cond, List, ◌++◌, Option, unwrap_or}
+use Rattle.std.specs.Prelude.{ℕ, ◌-◌, ◌≡◌, ◌<◌, true, false, cond, get_or, List, ◌++◌, Option, None, unwrap_or}
 use Rattle.image_device.specs.declared.event.Event.{Event}
 use Rattle.image_device.specs.Image.{Image, IsSector, zeros}
 use Rattle.image_device.specs.View.{View, IsLeftNow, IsSound}
@@ -9,7 +9,7 @@ use Rattle.image_device.specs.History.{HistoryState, after}
 use Rattle.image_device.specs.Laws.{counts_now, only_now}
 use Rattle.image_device.specs.MemStation.{history_view}
 use Rattle.image_layout.specs.declared.offset.Patch.{Patch}
-use Rattle.image_layout.specs.Ring.{records}
+use Rattle.image_layout.specs.Ring.{records, ring_start}
 use Rattle.intent_journal.specs.Home.{home, overlaid, is_journal}
 use Rattle.intent_journal.specs.Records.{is_gate_open}
 use Rattle.std.proofs.Common.{refl}
@@ -42,9 +42,15 @@ gathered_sound v es faults put_faults writes whole = record {
   own = record { agrees = λ n h. refl; whole = whole };
 }
 
--- A sector reads as a table has it, and else as before the events.
-abbrev pub AreLast : List Event → (ℕ → Option (List ℕ)) → Type 0
-AreLast es last = (s : HistoryState) (n : ℕ) → (after es s).reads n ≡ unwrap_or (last n) (s.reads n)
+-- how many sectors a journal has
+abbrev pub journal_size : ℕ
+journal_size = 129
+
+-- A sector of the journal reads as these have it, from its first one on, and else as before the events.
+abbrev pub AreLastOfJournal : List Event → List (Option (List ℕ)) → Type 0
+AreLastOfJournal es last =
+    (s : HistoryState) (n : ℕ) → is_journal n ≡ true
+    → (after es s).reads n ≡ unwrap_or (get_or last (n - ring_start) None) (s.reads n)
 
 -- Outside the journal the batch does to a disk what the events do.
 abbrev pub IsNet : List Event → List Patch → Type 0

@@ -10,9 +10,9 @@ ghost use Rattle.gathering.specs.Gathered.{AreWhole};
 use crate::began::Began;
 use crate::flush::{FlushFault, flush_to};
 use crate::group::{Group, is_of_journal};
+use crate::room::Room;
 use image_device::{Device, Failed, Port, WorkDone};
-use intent_journal::{Batch, Ring};
-use std::alloc::Global;
+use intent_journal::Ring;
 use std::marker::PhantomData;
 
 /// A disk in memory that begins as a real one reads, its journal closed. What is written, synced and put stays in
@@ -38,15 +38,15 @@ pub struct Gather<P: Port, K: Began> {
     ghost counts: { Uses 0 K.start (P.view inner) },
     ghost failed: { device_failed ≡ true → Rose K.start.faults (P.view inner).faults },
     ghost unfailed: { device_failed ≡ false → (P.view inner).faults ≡ K.start.faults },
-    ghost whole: { P.told → AreWhole K.start group.log.items },
+    ghost whole: { P.told → AreWhole K.start group.past.events },
 }
 
-/// What is left of a group: the device, its ring, the room for the next batch, and how it ended.
+/// What is left of a group: the device, its ring, the room for the next group, and how it ended.
 #[derive(Drop)]
 pub struct Flushed<P: Port> {
     pub inner: P,
     pub ring: Ring,
-    pub batch: Batch,
+    pub room: Room,
     pub result: Result<(), FlushFault>,
 }
 
@@ -58,7 +58,7 @@ impl<P: Port, K: Began> Gather<P, K> {
     ghost use Rattle.gathering.specs.Left.{most_writes, moment_of, IsLeftAtStart, IsLeftByGroup, IsSentBetween};
 
     /// Begins a group over a device that has rested since the start that proofs pick.
-    pub fn new(alloc: Global, inner: P, ring: Ring, batch: Batch) -> Gather<P, K>
+    pub fn new(inner: P, ring: Ring, room: Room) -> Gather<P, K>
         requires rests { P.told → HasRested K.start (P.view inner) }
         requires firm { P.told → IsFirm K.start }
         requires counts { Uses 0 K.start (P.view inner) }
@@ -78,7 +78,7 @@ impl<P: Port, K: Began> Gather<P, K> {
         Gather {
             inner,
             ring,
-            group: Group::new(alloc, batch),
+            group: Group::new(room),
             faults: 0,
             put_faults: 0,
             writes: 0,
@@ -176,18 +176,11 @@ impl<P: Port, K: Began> Gather<P, K> {
             device_failed,
             began: _,
         } = self;
-        let Group {
-            alloc: _,
-            log: _,
-            last: _,
-            batch,
-            waiting,
-        } = group;
         if device_failed {
             return Flushed {
                 inner,
                 ring,
-                batch,
+                room: group.into_room(),
                 result: Err(FlushFault::Device),
             };
         }
@@ -195,17 +188,22 @@ impl<P: Port, K: Began> Gather<P, K> {
             return Flushed {
                 inner,
                 ring,
-                batch,
+                room: group.into_room(),
                 result: Err(FlushFault::Room),
             };
         }
         let mut inner = inner;
         let mut ring = ring;
-        let result = flush_to(&mut inner, &mut ring, &batch, waiting.as_slice());
+        let result = flush_to(
+            &mut inner,
+            &mut ring,
+            &group.batch,
+            group.waiting.as_slice(),
+        );
         Flushed {
             inner,
             ring,
-            batch,
+            room: group.into_room(),
             result,
         }
     }
@@ -216,10 +214,10 @@ impl<P: Port, K: Began> Device for Gather<P, K> {
 
     ghost told = { P.told };
 
-    ghost view = { λ m. gathered_view K.start m.group.log.items m.faults m.put_faults m.writes };
+    ghost view = { λ m. gathered_view K.start m.group.past.events m.faults m.put_faults m.writes };
 
     ghost sound = { λ m told.
-        gathered_sound K.start m.group.log.items m.faults m.put_faults m.writes (m.whole told) };
+        gathered_sound K.start m.group.past.events m.faults m.put_faults m.writes (m.whole told) };
 
     fn read(&mut self, sector: u32, into: &mut [u8; 512]) -> Result<(), Failed> {
         if let Some(bytes) = self.group.last_write(sector) {
@@ -248,10 +246,7 @@ impl<P: Port, K: Began> Device for Gather<P, K> {
     }
 
     fn sync(&mut self) -> Result<(), Failed> {
-        if self.group.sync().is_err() {
-            self.faults = self.faults.saturating_add(1);
-            return Err(Failed);
-        }
+        self.group.sync();
         Ok(())
     }
 

@@ -17,7 +17,12 @@ mod began;
 mod flush;
 mod gather;
 mod group;
+mod homes;
+mod journal;
+mod past;
+mod room;
 
 pub use began::Began;
 pub use flush::FlushFault;
 pub use gather::{Flushed, Gather};
+pub use room::Room;

@@ -10,20 +10,19 @@ ghost use Rattle.tsd_model.specs.declared.requests.Request.{Request as Asked};
 
 use crate::gather::gather;
 use crate::handler::GroupHandler;
-use gathering::{Began, FlushFault, Flushed, Gather};
+use gathering::{Began, FlushFault, Flushed, Gather, Room};
 use image_device::Port;
-use intent_journal::{Batch, Ring};
+use intent_journal::Ring;
 use serving::{Intake, Protocol, Replies};
-use std::alloc::Global;
 use tsd_model::Request;
 use tsd_words::Status;
 
-/// The device, the records that are on it and not in place yet, and room for a batch.
+/// The device, the records that are on it and not in place yet, and room for a group.
 #[derive(Drop)]
 pub(crate) struct Disk<P: Port> {
     pub(crate) port: P,
     pub(crate) ring: Ring,
-    pub(crate) batch: Batch,
+    pub(crate) room: Room,
 }
 
 /// Carries out requests as one group, from the one that stands in the room on, and commits them; whether a request
@@ -34,7 +33,6 @@ pub(crate) fn serve_group<
     H: GroupHandler,
     K: Began,
 >(
-    alloc: Global,
     server: &mut H,
     protocol: &mut R,
     intake: &mut Intake,
@@ -61,19 +59,19 @@ pub(crate) fn serve_group<
     ensures device_fault { CountsFaultOf Status.DeviceFault result.1 K.start.faults (P.view result.0.port).faults }
     ensures put_fault { CountsFaultOf Status.PutFault result.1 K.start.put_faults (P.view result.0.port).put_faults }
 {
-    let Disk { port, ring, batch } = disk;
-    let mut gathering = Gather::<P, K>::new(alloc, port, ring, batch);
+    let Disk { port, ring, room } = disk;
+    let mut gathering = Gather::<P, K>::new(port, ring, room);
     let gathered = gather::<R, H, Gather<P, K>>(server, protocol, intake, request, &mut gathering);
     let Flushed {
         inner,
         ring,
-        batch,
+        room,
         result,
     } = gathering.flush();
     let disk = Disk {
         port: inner,
         ring,
-        batch,
+        room,
     };
     match result {
         Ok(()) => (disk, Ok(gathered.unwrap_or(false))),

@@ -13,8 +13,9 @@ use crate::group::Disk;
 use crate::handler::GroupHandler;
 use crate::settle::settle_in_groups;
 use crate::turns::serve_in_hand;
+use gathering::Room;
 use image_device::{Port, Source};
-use intent_journal::{Batch, Ring};
+use intent_journal::Ring;
 use serving::{INPUT_MAX, Intake, Next, Protocol, Replies};
 use std::alloc::Global;
 use tsd_model::Request;
@@ -72,18 +73,17 @@ pub fn serve_in_groups<
     ensures no_put_fault { result.1 ≢ Status.PutFault → (P.view result.0).put_faults ≡ (P.view port).put_faults }
 {
     let mut port = port;
-    let (ring, batch) = match begin::<P, R, H>(alloc, server, &mut port) {
+    let (ring, room) = match begin::<P, R, H>(alloc, server, &mut port) {
         Ok(rooms) => rooms,
         Err(why) => return (port, why),
     };
-    let mut disk = Disk { port, ring, batch };
+    let mut disk = Disk { port, ring, room };
     let mut intake = Intake::new(limit);
     let mut request = Request::Bad;
     loop {
         match intake.next::<S, R>(protocol, source, &mut request) {
             Next::Request => {
                 let (left, served) = serve_in_hand::<P, R, H>(
-                    alloc,
                     server,
                     protocol,
                     &mut intake,
@@ -97,7 +97,7 @@ pub fn serve_in_groups<
                 }
             }
             Next::End => {
-                let (left, finished) = finish::<P, R, H>(alloc, server, disk);
+                let (left, finished) = finish::<P, R, H>(server, disk);
                 match finished {
                     Ok(()) => return (left.port, Status::Done),
                     Err(why) => return (left.port, why),
@@ -115,7 +115,7 @@ fn begin<P: Port, R: Protocol<Request = Request> + Replies, H: GroupHandler>(
     alloc: Global,
     server: &mut H,
     port: &mut P,
-) -> Result<(Ring, Batch), Status>
+) -> Result<(Ring, Room), Status>
     requires ready { H.is_ready server.old }
     requires at { P.told → FitsDevice (H.holds server.old) (P.view port.old) }
     ensures did { P.told → Turned result (spoken H.rules R.voice) (H.aside server.old)
@@ -133,19 +133,18 @@ fn begin<P: Port, R: Protocol<Request = Request> + Replies, H: GroupHandler>(
         Ok(ring) => ring,
         Err(_) => return Err(Status::NoMemory),
     };
-    let batch = match Batch::new(alloc) {
-        Ok(batch) => batch,
+    let room = match Room::new(alloc) {
+        Ok(room) => room,
         Err(_) => return Err(Status::NoMemory),
     };
     match server.empty_ring(port) {
-        Ok(()) => Ok((ring, batch)),
+        Ok(()) => Ok((ring, room)),
         Err(_) => Err(Status::DeviceFault),
     }
 }
 
 /// Does all that is left to be done, in groups, and puts all records of the journal in place.
 fn finish<P: Port, R: Protocol<Request = Request> + Replies, H: GroupHandler>(
-    alloc: Global,
     server: &mut H,
     disk: Disk<P>,
 ) -> (Disk<P>, Result<(), Status>)
@@ -163,7 +162,7 @@ fn finish<P: Port, R: Protocol<Request = Request> + Replies, H: GroupHandler>(
     ensures put_fault { CountsFaultOf Status.PutFault result.1 (P.view disk.port).put_faults
         (P.view result.0.port).put_faults }
 {
-    let (left, settled) = settle_in_groups::<P, R, H>(alloc, server, disk);
+    let (left, settled) = settle_in_groups::<P, R, H>(server, disk);
     match settled {
         Ok(()) => {
             let mut disk = left;

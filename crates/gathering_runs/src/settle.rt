@@ -13,7 +13,6 @@ use crate::room::HasRoom;
 use gathering::{Began, Flushed, Gather};
 use image_device::{Failed, Port};
 use serving::{Protocol, Replies};
-use std::alloc::Global;
 use std::marker::Brand;
 use tsd_model::Request;
 use tsd_words::Status;
@@ -23,7 +22,6 @@ const STEP_HOMES: usize = 33;
 
 /// Does all that is left to be done, as many steps in a group as fit.
 pub(crate) fn settle_in_groups<P: Port, R: Protocol<Request = Request> + Replies, H: GroupHandler>(
-    alloc: Global,
     server: &mut H,
     disk: Disk<P>,
 ) -> (Disk<P>, Result<(), Status>)
@@ -44,7 +42,7 @@ pub(crate) fn settle_in_groups<P: Port, R: Protocol<Request = Request> + Replies
 {
     let mut disk = disk;
     for _group in 0..u32::MAX {
-        let (left, settled) = settle_group::<P, R, H, Brand>(alloc, server, disk);
+        let (left, settled) = settle_group::<P, R, H, Brand>(server, disk);
         disk = left;
         match settled {
             Ok(true) => {}
@@ -57,7 +55,6 @@ pub(crate) fn settle_in_groups<P: Port, R: Protocol<Request = Request> + Replies
 
 /// Does some of what is left to be done, as one group; whether more may be left.
 fn settle_group<P: Port, R: Protocol<Request = Request> + Replies, H: GroupHandler, K: Began>(
-    alloc: Global,
     server: &mut H,
     disk: Disk<P>,
 ) -> (Disk<P>, Result<bool, Status>)
@@ -77,19 +74,19 @@ fn settle_group<P: Port, R: Protocol<Request = Request> + Replies, H: GroupHandl
     ensures device_fault { CountsFaultOf Status.DeviceFault result.1 K.start.faults (P.view result.0.port).faults }
     ensures put_fault { CountsFaultOf Status.PutFault result.1 K.start.put_faults (P.view result.0.port).put_faults }
 {
-    let Disk { port, ring, batch } = disk;
-    let mut gathering = Gather::<P, K>::new(alloc, port, ring, batch);
+    let Disk { port, ring, room } = disk;
+    let mut gathering = Gather::<P, K>::new(port, ring, room);
     let settled = settle_few::<H, Gather<P, K>>(server, &mut gathering, u32::MAX);
     let Flushed {
         inner,
         ring,
-        batch,
+        room,
         result,
     } = gathering.flush();
     let disk = Disk {
         port: inner,
         ring,
-        batch,
+        room,
     };
     match result {
         Ok(()) => (disk, Ok(settled.unwrap_or(false))),

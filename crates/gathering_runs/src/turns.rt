@@ -14,14 +14,12 @@ use crate::room::HOMES_MAX;
 use crate::settle::settle_in_groups;
 use image_device::Port;
 use serving::{Intake, Protocol, Replies};
-use std::alloc::Global;
 use std::marker::Brand;
 use tsd_model::Request;
 use tsd_words::Status;
 
 /// Serves the request that stands in the room, and all behind it that lie there.
 pub(crate) fn serve_in_hand<P: Port, R: Protocol<Request = Request> + Replies, H: GroupHandler>(
-    alloc: Global,
     server: &mut H,
     protocol: &mut R,
     intake: &mut Intake,
@@ -49,7 +47,7 @@ pub(crate) fn serve_in_hand<P: Port, R: Protocol<Request = Request> + Replies, H
 {
     let mut disk = disk;
     loop {
-        let (left, turned) = serve_turn::<P, R, H>(alloc, server, protocol, intake, request, disk);
+        let (left, turned) = serve_turn::<P, R, H>(server, protocol, intake, request, disk);
         disk = left;
         match turned {
             Ok(true) => {}
@@ -62,7 +60,6 @@ pub(crate) fn serve_in_hand<P: Port, R: Protocol<Request = Request> + Replies, H
 /// Serves the request that stands in the room; whether one waits there then. Where it doesn't fit a batch, what is
 /// left to be done is done first, since it may have to wait for that.
 fn serve_turn<P: Port, R: Protocol<Request = Request> + Replies, H: GroupHandler>(
-    alloc: Global,
     server: &mut H,
     protocol: &mut R,
     intake: &mut Intake,
@@ -90,11 +87,11 @@ fn serve_turn<P: Port, R: Protocol<Request = Request> + Replies, H: GroupHandler
         (P.view result.0.port).put_faults }
 {
     if server.homes(request) <= HOMES_MAX {
-        return serve_group::<P, R, H, Brand>(alloc, server, protocol, intake, request, disk);
+        return serve_group::<P, R, H, Brand>(server, protocol, intake, request, disk);
     }
-    let (left, settled) = settle_in_groups::<P, R, H>(alloc, server, disk);
+    let (left, settled) = settle_in_groups::<P, R, H>(server, disk);
     match settled {
-        Ok(()) => serve_settled::<P, R, H>(alloc, server, protocol, intake, request, left),
+        Ok(()) => serve_settled::<P, R, H>(server, protocol, intake, request, left),
         Err(why) => (left, Err(why)),
     }
 }
@@ -102,7 +99,6 @@ fn serve_turn<P: Port, R: Protocol<Request = Request> + Replies, H: GroupHandler
 /// Serves the request that stands in the room: as a group with those behind it, or where no batch holds it alone, on
 /// the device itself; whether a request waits in the room then.
 fn serve_settled<P: Port, R: Protocol<Request = Request> + Replies, H: GroupHandler>(
-    alloc: Global,
     server: &mut H,
     protocol: &mut R,
     intake: &mut Intake,
@@ -130,7 +126,7 @@ fn serve_settled<P: Port, R: Protocol<Request = Request> + Replies, H: GroupHand
         (P.view result.0.port).put_faults }
 {
     if server.homes(request) <= HOMES_MAX {
-        return serve_group::<P, R, H, Brand>(alloc, server, protocol, intake, request, disk);
+        return serve_group::<P, R, H, Brand>(server, protocol, intake, request, disk);
     }
     let mut disk = disk;
     match serve_direct::<P, R, H>(server, request, &mut disk) {

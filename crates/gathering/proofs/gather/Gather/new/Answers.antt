@@ -1,4 +1,4 @@
-use Rattle.std.proofs.Common.{◌≡◌, sym, subst, refl, ap, length, List, []}
+use Rattle.std.proofs.Common.{sym, subst, refl, List, []}
 use Rattle.image_device.specs.declared.event.Event.{Event}
 use Rattle.gathering.specs.Gathered.{AreWhole, gathered_view}
 use Rattle.intent_journal.specs.Ring.{IsRingAt}

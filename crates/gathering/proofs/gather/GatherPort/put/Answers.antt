@@ -10,13 +10,13 @@ use Rattle.gathering.proofs.gather.GatherPort.put.Goals as goal
 
 pub invariant_of-self-else-is_err-clause-whole : goal.invariant_of-self-else-is_err-clause-whole
 invariant_of-self-else-is_err-clause-whole g c told =
-    let es = c.args.self.now.group.log.items in
+    let es = c.args.self.now.group.past.events in
     let kept = unless_err c.put.result c.is_err.result c.if-is_err.false c.is_err.ensures.value c.put.ensures.kept in
     whole_kept es _ (Put kept.0) kept.2 (λ s. refl) g.K.Began.start (c.args.self.now.whole told)
 
 pub returns-clause-sent : goal.returns-clause-sent
 returns-clause-sent g c told =
-    let es = c.args.self.now.group.log.items in
+    let es = c.args.self.now.group.past.events in
     let s = begun_on g.K.Began.start in
     let kept = unless_err c.put.result c.is_err.result c.if-is_err.false c.is_err.ensures.value c.put.ensures.kept in
     ap (λ (z : HistoryState). z.sent) (pushed es _ (Put kept.0) kept.2 s)
@@ -24,12 +24,12 @@ returns-clause-sent g c told =
 
 pub returns-clause-appends : goal.returns-clause-appends
 returns-clause-appends g c told =
-    let es = c.args.self.now.group.log.items in
+    let es = c.args.self.now.group.past.events in
     let kept = unless_err c.put.result c.is_err.result c.if-is_err.false c.is_err.ensures.value c.put.ensures.kept in
     appends (begun_on g.K.Began.start) es _ _ _ _ _ _ kept.0 _ refl c.args.piece.now kept.1 _ kept.2
 
 pub returns-clause-includes : goal.returns-clause-includes
 returns-clause-includes g c told =
-    let es = c.args.self.now.group.log.items in
+    let es = c.args.self.now.group.past.events in
     let kept = unless_err c.put.result c.is_err.result c.if-is_err.false c.is_err.ensures.value c.put.ensures.kept in
     includes (begun_on g.K.Began.start) es 0 0 0 0 0 0 kept.0 _ refl c.args.piece.now kept.1 _ kept.2

@@ -1,13 +1,11 @@
-use Rattle.std.specs.Map.{lookup}
-use Rattle.std.proofs.Common.{nat_eq, ap}
-use Rattle.gathering.proofs.Events.{last_none, net_none, waits_none}
+use Rattle.gathering.proofs.Events.{journal_none, net_none, waits_none}
 use Rattle.gathering.proofs.group.Group.new.Goals as goal
 
 pub invariant_of-result-clause-newest : goal.invariant_of-result-clause-newest
-invariant_of-result-clause-newest c = last_none _ c.new.ensures.items _ (λ n. ap (lookup (nat_eq n)) c.new-2.ensures.empty)
+invariant_of-result-clause-newest c = journal_none _ c.of.ensures _ c.cleared-batch.ensures.journal
 
 pub invariant_of-result-clause-net : goal.invariant_of-result-clause-net
-invariant_of-result-clause-net c = net_none _ c.new.ensures.items _ c.emptied-batch.ensures
+invariant_of-result-clause-net c = net_none _ c.of.ensures _ c.cleared-batch.ensures.batch
 
 pub invariant_of-result-clause-waits : goal.invariant_of-result-clause-waits
-invariant_of-result-clause-waits c = waits_none _ c.new.ensures.items _ c.new-3.ensures.items
+invariant_of-result-clause-waits c = waits_none _ c.of.ensures _ c.cleared-batch.ensures.waiting

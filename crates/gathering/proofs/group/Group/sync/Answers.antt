@@ -1,23 +1,19 @@
-use Rattle.std.specs.HashMap.{get}
-use Rattle.std.proofs.Common.{◌≡◌, [], ◌∷◌, ◌++◌, nat_eq, refl, rules}
+use Rattle.std.proofs.Common.{refl}
 use Rattle.image_device.specs.declared.event.Event.TheVariants.{Sync}
-use Rattle.gathering.proofs.Events.{last_kept, net_kept, waits_kept}
+use Rattle.gathering.proofs.Events.{journal_kept, net_kept, waits_kept}
 use Rattle.gathering.proofs.group.Group.sync.Goals as goal
 
-pub invariant_of-self-2-clause-newest : goal.invariant_of-self-2-clause-newest
-invariant_of-self-2-clause-newest c =
+pub invariant_of-self-clause-newest : goal.invariant_of-self-clause-newest
+invariant_of-self-clause-newest c =
     let m = c.args.self.now in
-    let logged : c.push_reserved.new.self.items ≡ m.log.items ++ Sync ∷ [] = search rules in
-    last_kept m.log.items _ Sync logged (λ s. refl) (get nat_eq m.last) m.newest
+    journal_kept m.past.events _ Sync c.of-self.ensures (λ s. refl) m.journal.last.items m.newest
 
-pub invariant_of-self-2-clause-net : goal.invariant_of-self-2-clause-net
-invariant_of-self-2-clause-net c =
+pub invariant_of-self-clause-net : goal.invariant_of-self-clause-net
+invariant_of-self-clause-net c =
     let m = c.args.self.now in
-    let logged : c.push_reserved.new.self.items ≡ m.log.items ++ Sync ∷ [] = search rules in
-    net_kept m.log.items _ Sync logged (λ s. refl) m.batch m.net
+    net_kept m.past.events _ Sync c.of-self.ensures (λ s. refl) m.batch m.net
 
-pub invariant_of-self-2-clause-waits : goal.invariant_of-self-2-clause-waits
-invariant_of-self-2-clause-waits c =
+pub invariant_of-self-clause-waits : goal.invariant_of-self-clause-waits
+invariant_of-self-clause-waits c =
     let m = c.args.self.now in
-    let logged : c.push_reserved.new.self.items ≡ m.log.items ++ Sync ∷ [] = search rules in
-    waits_kept m.log.items _ Sync logged (λ s. refl) m.waiting.items m.waits
+    waits_kept m.past.events _ Sync c.of-self.ensures (λ s. refl) m.waiting.items m.waits

@@ -1,0 +1,54 @@
+// The memory of a group.
+ghost use Rattle.std.specs.Prelude.{◌≡◌, [], None, replicate};
+ghost use Rattle.gathering.specs.Gathered.{journal_size};
+
+use crate::homes::Homes;
+use crate::journal::JournalSectors;
+use intent_journal::Batch;
+use std::alloc::Global;
+use tsd_model::NoMemory;
+
+/// How many bytes may wait before a put needs memory.
+const WAITING_ROOM: usize = 128 * 1024;
+
+/// The memory that a group needs, taken once. What the last group left in it is gone when the next one begins.
+#[derive(Drop)]
+pub struct Room {
+    pub(crate) batch: Batch,
+    pub(crate) homes: Homes,
+    pub(crate) journal: JournalSectors,
+    pub(crate) waiting: Vec<u8>,
+}
+
+impl Room {
+    /// Room for 113 homes, the sectors of a journal, and 128 KiB that wait. This alone takes memory.
+    pub fn new(alloc: Global) -> Result<Room, NoMemory> {
+        let batch = Batch::new(alloc)?;
+        let homes = Homes::new(alloc)?;
+        let journal = JournalSectors::new(alloc)?;
+        match Vec::with_capacity(alloc, WAITING_ROOM) {
+            Ok(waiting) => Ok(Room {
+                batch,
+                homes,
+                journal,
+                waiting,
+            }),
+            Err(_) => Err(NoMemory),
+        }
+    }
+
+    /// The same room, with nothing in it.
+    pub(crate) fn cleared(self) -> Room
+        ensures batch { result.batch ≡ [] }
+        ensures homes { result.homes.patches.items ≡ [] }
+        ensures journal { result.journal.last.items ≡ replicate journal_size None }
+        ensures waiting { result.waiting.items ≡ [] }
+    {
+        let mut room = self;
+        room.batch.clear();
+        room.homes.clear();
+        room.journal.clear();
+        room.waiting.clear();
+        room
+    }
+}
