@@ -13,7 +13,7 @@ import signal
 from pathlib import Path
 from typing import Callable, Iterator, List, NamedTuple, Optional, Sequence, Tuple
 
-from copy_model import Ended, Side, copied_line, ended, looks_at, reached_from, tree_under
+from copy_model import Ended, Side, copied_line, ended, looks_at, reached_from, steps_of, tree_under
 from crash_images import Medium, moments, some_choices, told
 from disk_model import PLACES, Geometry, World, seed_caps
 from file_drawing import FileDrawer
@@ -26,7 +26,7 @@ from judging import Different
 from mirror import without_end
 from parts import Context, Result, compared, failed, passed, skipped
 from program import Program, Run, without_copying, write_image
-from recording import NoRecorder, Recorder, Recording
+from recording import READ, NoRecorder, Recorder, Recording
 
 NAME = "copies"
 USAGE, ROOT_DENIED, DEVICE_FAULT, OUTPUT_FAULT, SIDE_LOST = 2, 10, 4, 6, 11
@@ -51,6 +51,11 @@ def copying(source: Side, target: Side, place: str = "near") -> List[str]:
     """The words of a copy."""
     words = [[side.kind, str(side.root), cap(side.root)] for side in (source, target)]
     return ["copyfs", *words[0], *words[1], place]
+
+
+def shelling(side: Side, place: str = "near") -> List[str]:
+    """The words of a run of the shell."""
+    return ["shell", side.kind, str(side.root), cap(side.root), place]
 
 
 def content(length: int, start: int = 0) -> bytes:
@@ -289,8 +294,41 @@ def many_results(context: Context) -> Iterator[Result]:
     yield tried("4,096 names of chains, made", lambda: site.make(CHAINS_0, lines))
     line = copied_line(tree)
     yield tried("4,096 names, from chains to chains", lambda: many(site, CHAINS_1, tree, line, 2 * clusters))
+    yield from read_results(context, site, tree)
     held = clusters + 2 * MOST_INODE_NAMES
     yield tried("4,096 names, to inodes", lambda: many(site, INODES_1, first, b"no dir-full\n", held))
+
+
+def read_results(context: Context, site: Site, tree: Plain) -> Iterator[Result]:
+    """How often the image is read: by a copy of a tree of chains no more often than by the shell that lists the names,
+    reads each file and puts it under the other root."""
+    name = "4,096 names, reads of the image"
+    if context.compiler is None:
+        yield skipped(name, "no C compiler was found")
+        return
+    try:
+        recorder = Recorder(context.program, context.compiler, context.folder)
+    except NoRecorder as no_recorder:
+        yield skipped(name, str(no_recorder))
+        return
+    yield tried(name, lambda: fewer_reads(site, recorder, tree))
+
+
+def fewer_reads(site: Site, recorder: Recorder, tree: Plain) -> str:
+    """Counts the reads of both ways from the first root to the second one, in this order."""
+    assert isinstance(tree, dict)
+    looks = [b"ls /", *(b"cat /" + name for name in sorted(tree))]
+    puts = [b"mkfs", *(line for line in steps_of(tree) if line != b"mkfs")]
+    counts = []
+    for words, lines in ((copying(CHAINS_0, CHAINS_1), []), (shelling(CHAINS_0), looks), (shelling(CHAINS_1), puts)):
+        recording = recorder.run(site.path, words, b"".join(line + b"\n" for line in lines), ())
+        if recording.status or recording.error or b"no " in recording.out:
+            raise Different(f"{words[0]} ended with {recording.status} and {recording.error!r}: {recording.out[:80]!r}")
+        counts.append(sum(event.kind == READ for event in recording.events))
+    copied, looked, put = counts
+    if copied > looked + put:
+        raise Different(f"a copy takes {copied} reads, the shell {looked} and {put}")
+    return f"{copied} by a copy, {looked} and {put} by the shell"
 
 
 def many(site: Site, target: Side, tree: Plain, line: bytes, held: int) -> None:

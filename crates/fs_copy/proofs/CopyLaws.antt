@@ -1,6 +1,6 @@
 -- The whole of a copy.
 use Rattle.std.proofs.Common.{◌≡◌, ◌≢◌, ◌≤◌, ℕ, suc, Bool, true, false, cond, List, [], ◌∷◌, ◌++◌, length, take, refl, sym, ◌∙◌, ap, subst, inl, inr, ◌⊎◌, arith, Result, Ok, Err, Option, Some, None}
-use Rattle.fs_copy.proofs.Common.{IfErr, OnOk, MatchResult, slice_get, World, IsValid, Answer, done, copy_steps, entry_steps, after_asks, partial, InodeNode, as_root, node_at, tree_of, inodes_right, chains_under, as_tree, Chains, tree_at, IsTidy, Path, path_max, OthersStay, empty_tree, nothing, a_file, a_dir, Tree, is_there, is_dir, ShellAsk, ShellKind, FsRefusal, AreApart, StaysApart, tree_listed_at, NamesListed, DiskView, IsDiskSound, IsLedTo, IsValidNow, LeavesWorldsOnly, Stays, FilesView, HasTree, IsClientReady, IsEitherTree, IsLeft, OnAnswer, mounted_now, step_on, has_dirs, Looks, IsMade, Runs, leaves_more, on_answer, IsCount, tree_under, AreSet, IsSource, IsPartly, IsRefusedAmong, MakesSteps, CanHold, CanMake, IsNested, first_dir, first_made, inside, Copied}
+use Rattle.fs_copy.proofs.Common.{IfErr, OnOk, MatchResult, slice_get, World, IsValid, done, copy_steps, entry_steps, after_asks, partial, InodeNode, as_root, node_at, tree_of, inodes_right, chains_under, as_tree, Chains, tree_at, IsTidy, Path, path_max, OthersStay, empty_tree, nothing, a_file, a_dir, Tree, is_there, is_dir, ShellAsk, ShellKind, FsRefusal, AreApart, StaysApart, tree_listed_at, NamesListed, DiskView, IsDiskSound, IsLedTo, IsValidNow, LeavesWorldsOnly, Stays, FilesView, HasTree, IsClientReady, IsEitherTree, IsLeft, OnAnswer, mounted_now, step_on, has_dirs, Looks, IsMade, Runs, leaves_more, on_answer, IsCount, tree_under, AreSet, IsSource, IsPartly, IsRefusedAmong, MakesSteps, CanHold, CanMake, IsNested, first_dir, first_made, inside, Copied}
 use Rattle.fs_trees.specs.Answer as answer
 use Rattle.fs_trees.specs.declared.ask.ShellAsk.TheVariants as ask
 use Rattle.fs_trees.specs.declared.ask.ShellKind.TheVariants.{Inode as ByInodes, Chain as ByChains}

@@ -3,10 +3,12 @@ pub mod GoingLaws
 pub mod NameLaws
 pub mod TodoLaws
 pub mod ReadLaws
+pub mod AheadLaws
 pub mod TurnLaws
 pub mod RebuildLaws
 pub mod CopyLaws
 pub mod PieceLaws
 pub mod WalkLaws
 pub mod NestedLaws
+pub mod FlatLaws
 pub mod EntryLaws

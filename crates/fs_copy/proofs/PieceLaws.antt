@@ -1,9 +1,9 @@
 -- A file that is copied piece by piece.
 use Rattle.std.proofs.Common.{◌≡◌, ◌+◌, ◌-◌, ◌*◌, ◌^◌, ◌<◌, ◌≤◌, ℕ, suc, false, List, [], ◌∷◌, ◌++◌, length, map, take, drop, sym, ◌∙◌, ap, subst, arith, append_assoc, append-nil, Result, Ok, Err}
-use Rattle.fs_copy.proofs.Common.{div_ceil_times, div_ceil, file_pieces, file_steps, Path, at, bytes_in, ShellAsk, FsRefusal, DiskView, IsDiskSound, FilesView, Answers, TellsPart, Looks, tree_under, AreSet, MakesSteps, IsFileAt}
-use Rattle.std.proofs.lemmas.List.{drop-drop}
+use Rattle.fs_copy.proofs.Common.{div_ceil_times, div_ceil, file_pieces, file_steps, Path, at, bytes_in, ShellAsk, FsRefusal, DiskView, IsDiskSound, FilesView, Answers, TellsPart, Looks, Changes, done, tree_under, AreSet, MakesSteps, IsFileAt}
+use Rattle.std.proofs.lemmas.List.{drop-drop, length-take}
 use Rattle.fs_trees.specs.declared.ask.ShellAsk.TheVariants as ask
-use Rattle.fs_copy.proofs.GoingLaws.{goes_as, then_goes, err_as, look_lost, now_set, same_source}
+use Rattle.fs_copy.proofs.GoingLaws.{change_goes, goes_as, then_goes, err_as, look_lost, now_set, same_source, target_of}
 use Rattle.fs_copy.proofs.ReadLaws.{never_refused, part_refused, part_tells}
 
 abbrev pub Done : Type 0
@@ -43,6 +43,10 @@ none_from path n i x h = ap (λ k. map (ask.Append path) (file_pieces k (drop (i
     none_left : (n i : ℕ) → n ≤ i → n - i ≡ 0
     none_left n i h = omega (arith, h)
 
+-- a first piece that isn't full is all of the file
+pub all_in_first : (first x : List ℕ) → first ≡ take 4096 x → length first < 4096 → length first ≡ length x
+all_in_first first x is short = let cut = length-take 4096 x in omega (arith, ap length is, cut, short)
+
 -- the place of a piece fits
 pub place_fits : (size i n : ℕ) → n ≡ div_ceil size 4096 → i < n → size < 2 ^ 64 → i * 4096 < 2 ^ 64
 place_fits size i n is h fits = let all = div_ceil_times size 4096 (omega arith) in omega (arith, all.1, is, h, fits)
@@ -76,6 +80,11 @@ pub put_lost : {told : Type 0} {f g : FilesView} {old now : DiskView} {path : Pa
 put_lost {told} {f} {g} {old} {now} {path} {e} set goes =
     let x = bytes_in (at (tree_under f old) path) in
     err_as (pieces_from path (div_ceil (length x) 4096) 1 x) goes
+
+-- the first piece that was read is put
+pub piece_put : {told : Type 0} {f g : FilesView} {old now : DiskView} {path : Path} {first : List ℕ} {r : Done} → AreSet told f g old → (told → old.spent ≡ false → IsDiskSound old) → (told → now.spent ≡ false → IsDiskSound now) → (told → first ≡ take 4096 (bytes_in (at (tree_under f old) path)))
+    → (told → Answers g old now (ask.Put path first) r (λ _ answer. answer ≡ done)) → Changes told g old now (ask.Put path first) r → MakesSteps told g old now (ask.Put path (take 4096 (bytes_in (at (tree_under f old) path))) ∷ []) r
+piece_put {path = path} set sound_old sound_now first answers changes = goes_as (λ t. ap (λ y. ask.Put path y ∷ []) (first t)) (change_goes (target_of set) sound_old sound_now answers changes tt)
 
 -- at the second one the first is put
 pub first_put : {told : Type 0} {f g h k : FilesView} {old now : DiskView} {path : Path} {n size : ℕ} → AreSet told f g old → (told → old.spent ≡ false → IsDiskSound old) → (told → IsFileAt (tree_under f old) path) → n ≡ div_ceil size 4096 → (told → size ≡ length (bytes_in (at (tree_under f old) path)))

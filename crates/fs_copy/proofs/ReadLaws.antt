@@ -1,6 +1,6 @@
 -- What the source answers of its tree.
 use Rattle.std.proofs.Common.{◌≡◌, ◌≢◌, ℕ, true, false, cond, not, List, [], ◌∷◌, length, take, drop, refl, sym, ◌∙◌, ap, inl, inr, ◌⊎◌, Result, Ok, Err, Option, None}
-use Rattle.fs_copy.proofs.Common.{IfErr, free_count, Answer, bytes, listed, refused, step_in, Name, Path, need_of, RoomNeed, when, first_of, lost_on_the_way, not_mounted, missing, no_file, no_dir, judged, tree_step, nothing, a_file, a_dir, Tree, at, entry, is_dir, is_file, is_there, names_in, bytes_in, ShellAsk, ShellKind, FsRefusal, DiskView, FilesView, Answers, TellsNext, TellsPart, TellsSize, above, step_on, tree_under, IsFileAt, IsSource}
+use Rattle.fs_copy.proofs.Common.{IfErr, IfOk, free_count, Answer, bytes, listed, refused, step_in, Name, Path, need_of, RoomNeed, when, first_of, lost_on_the_way, not_mounted, missing, no_file, no_dir, judged, tree_step, nothing, a_file, a_dir, Tree, at, entry, is_dir, is_file, is_there, names_in, bytes_in, ShellAsk, ShellKind, FsRefusal, DiskView, FilesView, Answers, TellsNext, TellsPart, TellsSize, above, step_on, tree_under, IsFileAt, IsSource}
 use Rattle.tsd_model.specs.declared.geometry.Geometry.{Geometry}
 use Rattle.fs_trees.specs.declared.ask.ShellAsk.TheVariants as ask
 use Rattle.fs_trees.specs.declared.refusal.FsRefusal.TheVariants as no
@@ -118,6 +118,13 @@ module _ (f : FilesView) (v : DiskView) (mounted : f.mounted ≡ true) (p : Path
     | inr dir ↦ (dir, sym (same_refusal no.IsDir e (sym (says_dir dir) ∙ is)))
   ]
 
+  -- a part is that of a file
+  part_stands : is_there (at t p) ≡ true → (start : ℕ) (part : List ℕ) → TellsPart start part (step_on f v (ask.Cat p)).answer → (x : List ℕ) × (at t p ≡ a_file x) × (part ≡ take 4096 (drop start x))
+  part_stands there start part tells = elim (file_or_dir (at t p) there) [
+    | inl file ↦ (file.0, file.1, tells.2 ∙ ap (λ y. take 4096 (drop start y)) (bytes_same tells.0 file.0 (sym tells.1 ∙ says_file file.0 file.1)))
+    | inr dir ↦ absurd (never_bytes tells.0 no.IsDir (sym tells.1 ∙ says_dir dir))
+  ]
+
   pub part_tells : IsFileAt t p → (start : ℕ) (part : List ℕ) → TellsPart start part (step_on f v (ask.Cat p)).answer → part ≡ take 4096 (drop start (bytes_in (at t p)))
   part_tells file start part tells = tells.2 ∙ ap (λ y. take 4096 (drop start y)) (bytes_same tells.0 file.0 (sym tells.1 ∙ says_file file.0 file.1) ∙ sym (ap bytes_in file.1))
 
@@ -140,8 +147,24 @@ module _ {told : Type 0} {f : FilesView} {v new : DiskView} {p : Path} (source :
   pub told_file : {n : ℕ} → (told → Answers f v new (ask.Cat p) (Ok n) TellsSize) → told → (x : List ℕ) × (at (tree_under f v) p ≡ a_file x) × (n ≡ length x)
   told_file {n} answers t = size_tells f v source.mounted p (there t) n (answers t).ok.0
 
-  pub told_dir : {e : FsRefusal} → (told → Answers {X = ℕ} f v new (ask.Cat p) (Err e) TellsSize) → told → e ≢ no.Device → (is_dir (at (tree_under f v) p) ≡ true) × (e ≡ no.IsDir)
-  told_dir {e} answers t ne = size_refused f v source.mounted p (there t) e ((answers t).err ne).0
+  -- or a part of what is there
+  pub told_part : {part : List ℕ} → (told → Answers {X = Unit {0}} f v new (ask.Cat p) (Ok tt) (λ _. TellsPart 0 part)) → told → (x : List ℕ) × (at (tree_under f v) p ≡ a_file x) × (part ≡ take 4096 x)
+  told_part {part} answers t = part_stands f v source.mounted p (there t) 0 part (answers t).ok.0
+
+  pub told_dir : {X : Type 0} {tells : X → Answer → Type 0} {e : FsRefusal} → (told → Answers f v new (ask.Cat p) (Err e) tells) → told → e ≢ no.Device → (is_dir (at (tree_under f v) p) ≡ true) × (e ≡ no.IsDir)
+  told_dir {e = e} answers t ne = size_refused f v source.mounted p (there t) e ((answers t).err ne).0
+
+file_there : (t : Tree) (p : Path) → IsFileAt t p → is_there (at t p) ≡ true
+file_there t p file = ap is_there file.1
+
+-- the size of a file that is there
+module _ {told : Type 0} {f : FilesView} {v new : DiskView} {p : Path} (source : IsSource told f v) (file : told → IsFileAt (tree_under f v) p) where
+  pub size_sized : (r : Result ℕ FsRefusal) → (told → Answers f v new (ask.Cat p) r TellsSize) → told → IfOk r (λ n. n ≡ length (bytes_in (at (tree_under f v) p)))
+  size_sized (Ok n) answers t = let size = size_tells f v source.mounted p (file_there (tree_under f v) p (file t)) n (answers t).ok.0 in size.2 ∙ ap (λ y. length (bytes_in y)) (sym size.1)
+  size_sized (Err e) answers t = tt
+
+  pub size_never : (r : Result ℕ FsRefusal) → (told → Answers f v new (ask.Cat p) r TellsSize) → told → IfErr r (λ e. e ≢ no.Device → ⊥)
+  size_never r answers t = never_refused f v new (ask.Cat p) r TellsSize (part_refused f v source.mounted p (file t)) (answers t)
 
 pub dir_no_fault : (e : FsRefusal) → e ≡ no.IsDir → e ≢ no.Device
 dir_no_fault e is same = let both : no.IsDir ≡ no.Device = sym is ∙ same in absurd (cc)

@@ -1,12 +1,12 @@
 -- One turn of the walk.
-use Rattle.std.proofs.Common.{◌≡◌, ◌+◌, ◌<◌, ◌≤◌, ℕ, Bool, true, false, cond, List, [], ◌∷◌, ◌++◌, length, refl, sym, ◌∙◌, ap, subst, inl, inr, arith, length-append, Result, Ok, Err, Option, Some, None}
-use Rattle.fs_copy.proofs.Common.{IfOk, IsValid, Name, Path, path_max, is_path, nothing, a_file, a_dir, Tree, child, at, is_dir, is_there, names_in, ShellAsk, ShellKind, FsRefusal, IsNameListing, tree_lists, tree_depth, DiskView, IsDiskSound, FilesView, Answers, TellsNext, above, has_dirs, Looks, capped, AreSet, MakesSteps, own_steps, file_size, tree_under, CanMake, outer, todo, files_made, bytes_made, turns, turns_left, IsNextName, CountsOn, IsCountedOn, WalksOn, Copied}
+use Rattle.std.proofs.Common.{◌≡◌, ◌≢◌, ◌+◌, ◌<◌, ◌≤◌, ℕ, Bool, true, false, cond, List, [], ◌∷◌, ◌++◌, length, refl, sym, ◌∙◌, ap, subst, inl, inr, arith, length-append, Result, Ok, Err, Option, Some, None}
+use Rattle.fs_copy.proofs.Common.{IfOk, IfSome, IsValid, Name, Path, path_max, is_path, nothing, a_file, a_dir, Tree, child, at, is_dir, is_there, names_in, ShellAsk, ShellKind, FsRefusal, IsNameListing, tree_lists, tree_depth, DiskView, IsDiskSound, FilesView, above, has_dirs, Looks, capped, AreSet, MakesSteps, own_steps, file_size, tree_under, CanMake, AreAhead, outer, todo, files_made, bytes_made, turns, turns_left, IsNextName, CountsOn, IsCountedOn, WalksOn, Copied}
 use Rattle.fs_trees.specs.declared.ask.ShellAsk.TheVariants as ask
 use Rattle.fs_trees.specs.declared.refusal.FsRefusal.TheVariants as no
 use Rattle.fs_copy.proofs.NameLaws.{found_named}
 use Rattle.fs_copy.proofs.TodoLaws.{at_last, path_front, path_with, outer_last, todo_none, next_path, next_after, there_now, todo_enter, turns-append, file_turns, file_files, file_bytes, made_later}
 use Rattle.fs_copy.proofs.GoingLaws.{AfterLook, after_look, err_same, goes_as, look_lost, lost_goes, none_goes, ok_as, then_goes}
-use Rattle.fs_copy.proofs.ReadLaws.{never_refused, next_refused, next_tells, other_fault}
+use Rattle.fs_copy.proofs.ReadLaws.{other_fault}
 
 -- ---- paths and their last names
 
@@ -87,17 +87,13 @@ pub record AfterName (told : Type 0) (f h g : FilesView) (old mid : DiskView) (p
   pub tells : told → next ≡ above a (names_in (at (tree_under f old) p))
 
 module _ {told : Type 0} {f g : FilesView} {old mid : DiskView} {p : Path} {a : Name} (set : AreSet told f g old) (dir : told → is_dir (at (tree_under f old) p) ≡ true) where
-  pub after_name : {h : FilesView} {next : Option Name} → (told → old.spent ≡ false → IsDiskSound old) → h ≡ f → (told → Answers f old mid (ask.Ls p) (Ok next) (TellsNext a)) → Looks told old mid (Ok next) → AfterName told f h g old mid p a next
-  after_name {h} {next} sound same answers looks = record {
-    look = after_look set sound same looks;
-    dir = dir;
-    tells = λ t. next_tells f old set.from_mounted p (dir t) a next (answers t).ok.0;
-  }
+  pub after_name : {h : FilesView} {next : Option Name} → (told → old.spent ≡ false → IsDiskSound old) → h ≡ f → (told → next ≡ above a (names_in (at (tree_under f old) p))) → Looks told old mid (Ok next) → AfterName told f h g old mid p a next
+  after_name sound same tells looks = record { look = after_look set sound same looks; dir = dir; tells = tells }
 
   -- none is told
-  pub name_lost : {c : Copied} {e : FsRefusal} → (told → Answers {X = Option Name} f old mid (ask.Ls p) (Err e) (TellsNext a)) → Looks {X = Option Name} told old mid (Err e) → WalksOn told g (tree_under f old) old mid p p a a c c (Err e)
-  name_lost {c} {e} answers looks =
-      let lost = look_lost set (λ t. never_refused f old mid (ask.Ls p) (Err e) (TellsNext a) (next_refused f old set.from_mounted p (dir t)) (answers t)) looks in
+  pub name_lost : {c : Copied} {e : FsRefusal} → (told → e ≢ no.Device → ⊥) → Looks {X = Option Name} told old mid (Err e) → WalksOn told g (tree_under f old) old mid p p a a c c (Err e)
+  name_lost {c} {e} only looks =
+      let lost = look_lost set only looks in
       record { made = []; rest = todo (tree_under f old) p a; parts = λ t. refl; goes = err_same lost; count = λ t. tt; named = tt; on = λ t. tt; over = λ t. tt }
 
 module _ {told : Type 0} {f h g : FilesView} {old mid : DiskView} {p : Path} {a : Name} {next : Option Name} (name : AfterName told f h g old mid p a next) where
@@ -108,6 +104,13 @@ module _ {told : Type 0} {f h g : FilesView} {old mid : DiskView} {p : Path} {a 
     listing = listing_of h mid p (name.look.set.valid t).valid;
     next = ap (λ y. above a (names_in (at y p))) (name.look.tree t) ∙ (sym (name.tells t) ∙ some);
   }
+
+  -- and these are read ahead
+  pub ahead_here : {n : Name} (ns : List Name) → next ≡ Some n → (told → IfSome next (λ m. AreAhead (tree_under f old) p m ns)) → told → AreAhead (tree_under h mid) p n ns
+  ahead_here {n} ns some ahead t = subst (λ y. AreAhead y p n ns) (sym (name.look.tree t)) (subst (λ (o : Option Name). IfSome o (λ m. AreAhead (tree_under f old) p m ns)) some (ahead t))
+
+  pub ahead_again : (q : Path) (b : Name) (ns : List Name) (result : Result Bool FsRefusal) → (told → IfOk result (λ more. more ≡ true → AreAhead (tree_under h mid) q b ns)) → told → IfOk result (λ more. more ≡ true → AreAhead (tree_under f old) q b ns)
+  ahead_again q b ns result ahead t = subst (λ y. IfOk result (λ more. more ≡ true → AreAhead y q b ns)) (name.look.tree t) (ahead t)
 
   pub hold_here : (told → CanMake g.kind (todo (tree_under f old) p a)) → told → CanMake g.kind (todo (tree_under h mid) p a)
   hold_here hold t = subst (λ y. CanMake g.kind (todo y p a)) (sym (name.look.tree t)) (hold t)
@@ -145,6 +148,18 @@ module _ {told : Type 0} {f h g : FilesView} {old mid : DiskView} {p : Path} {a 
             (around_dir u q b (ap (λ z. is_there (at u z)) (sym from) ∙ dir_there (at u p) (name.dir h)), rest_is, less);
         over = λ h is. ap (outer [] u) (left.over is);
       }
+
+-- ---- the names that were read ahead
+
+-- none are
+pub none_ahead : (t : Tree) (q : Path) (b : Name) {ns : List Name} → ns ≡ [] → AreAhead t q b ns
+none_ahead t q b e = subst (λ (ms : List Name). AreAhead t q b ms) (sym e) tt
+
+-- they come behind the file that is left behind
+pub ahead_passed : (t : Tree) (p : Path) (n : Name) (ns : List Name) {q r : Path} {b : Name} {more : Bool} → q ≡ p ++ n ∷ [] → Leaves q r b more → AreAhead t p n ns → more ≡ true → AreAhead t r b ns
+ahead_passed t p n ns {q} {r} {b} is left ahead going =
+    let same = last_same p r n b (sym is ∙ left.on going) in
+    subst (λ (z : Path). AreAhead t z b ns) same.0 (subst (λ (m : Name). AreAhead t p m ns) same.1 ahead)
 
 -- ---- which directories may be made
 

@@ -1,6 +1,6 @@
 -- The walk, from one turn to the next.
 use Rattle.std.proofs.Common.{◌≡◌, ◌+◌, ◌-◌, ◌*◌, ◌<◌, ◌≤◌, ℕ, Bool, true, false, List, [], ◌++◌, refl, sym, ◌∙◌, ap, subst, arith, append_assoc, append-nil, Result, Ok, Err}
-use Rattle.fs_copy.proofs.Common.{list_all, names_max, entry_steps, Name, Path, is_name, is_path, nothing, a_file, a_dir, Tree, at, is_dir, names_in, ShellAsk, FsRefusal, IsNameListing, entry_count, total_entries, tree_few, DiskView, IsDiskSound, FilesView, capped, file_count, byte_count, total_files, total_bytes, IsCount, tree_under, AreSet, MakesSteps, IsSource, CanMake, inside, entries_behind, todo, files_made, bytes_made, turns, turns_left, WalksOn, Copied}
+use Rattle.fs_copy.proofs.Common.{list_all, names_max, entry_steps, Name, Path, is_name, is_path, nothing, a_file, a_dir, Tree, at, is_dir, names_in, ShellAsk, FsRefusal, IsNameListing, entry_count, total_entries, tree_few, DiskView, IsDiskSound, FilesView, capped, file_count, byte_count, total_files, total_bytes, IsCount, tree_under, AreSet, MakesSteps, IsSource, CanMake, AreAhead, inside, entries_behind, todo, files_made, bytes_made, turns, turns_left, WalksOn, Copied}
 use Rattle.fs_trees.specs.declared.refusal.FsRefusal.TheVariants as no
 use Rattle.fs_copy.proofs.CopyLaws.{source_dir}
 use Rattle.fs_copy.proofs.GoingLaws.{goes_as, then_goes, err_as, ok_as, lost_goes, none_goes, now_set, same_source, source_of}
@@ -97,6 +97,13 @@ module _ {told : Type 0} {f g h k : FilesView} {old now : DiskView} {p : Path} {
       let u = tree_under f old in
       let can = can_later g.kind here.walked.made (todo u p a) (subst (λ s. CanMake g.kind s) (sym (here.walked.rest t)) (hold t)) in
       subst (λ (w : FilesView). CanMake w.kind (todo (tree_under h now) p a)) (sym here.into_same) (subst (λ y. CanMake g.kind (todo y p a)) (sym (turn_tree t)) can)
+
+  -- what was read ahead still comes next, as the source is now, and as it was
+  pub turn_ahead : (ns : List Name) → (told → AreAhead (tree_under f old) p a ns) → told → AreAhead (tree_under h now) p a ns
+  turn_ahead ns ahead t = subst (λ y. AreAhead y p a ns) (sym (turn_tree t)) (ahead t)
+
+  pub still_ahead : (q : Path) (b : Name) (ns : List Name) {more : Bool} → more ≡ true → (told → more ≡ true → AreAhead (tree_under h now) q b ns) → told → AreAhead (tree_under f old) q b ns
+  still_ahead q b ns on ahead t = subst (λ y. AreAhead y q b ns) (turn_tree t) (ahead t on)
 
   -- no turn is left
   pub turn_never : {X : Type 0} → left ≡ 0 → MakesSteps {X = X} told g old now (entry_steps [] (inside (tree_under f old))) (Err no.NotThisFs)

@@ -57,6 +57,17 @@ turns (a ∷ steps) = turns steps
 abbrev pub turns_left : Tree → Path → Name → ℕ
 turns_left t path after = turns (todo t path after) + length path
 
+-- ---- names that were read ahead
+
+-- of a directory's names each of these is the next one after the one before it
+abbrev pub ComeNext : List Name → Name → List Name → Type 0
+ComeNext ns after [] = Unit {0}
+ComeNext ns after (n ∷ more) = (above after ns ≡ Some n) × ComeNext ns n more
+
+-- the directory at a path has these next, behind a name
+abbrev pub AreAhead : Tree → Path → Name → List Name → Type 0
+AreAhead t path after ns = ComeNext (names_in (at t path)) after ns
+
 -- ---- one turn
 
 -- this is the next name of the directory

@@ -16,6 +16,7 @@ use crate::refusal::CopyRefusal;
 use crate::walk::copy_entries;
 use fs_port::{Blocks, Files};
 use fs_trees::{FsRefusal, Path};
+use fs_walks::Walks;
 
 /// What a refusal of a step is to a copy.
 fn copy_refusal(why: FsRefusal) -> CopyRefusal
@@ -27,8 +28,9 @@ fn copy_refusal(why: FsRefusal) -> CopyRefusal
     }
 }
 
-/// The first directory of the source's tree but `/`, where the target has none.
-fn nested_dir<K: Blocks, A: Files, B: Files>(
+/// The first directory of the source's tree but `/`, where the target has none. Where the source's layout has none,
+/// nothing is asked.
+fn nested_dir<K: Blocks, A: Walks, B: Files>(
     disk: &mut K,
     from: &mut A,
     into: &B,
@@ -43,6 +45,9 @@ fn nested_dir<K: Blocks, A: Files, B: Files>(
     if into.has_dirs() {
         return Ok(None);
     }
+    if !from.has_dirs() {
+        return Ok(None);
+    }
     first_dir(disk, from)
 }
 
@@ -52,7 +57,7 @@ fn nested_dir<K: Blocks, A: Files, B: Files>(
 /// `Nested` comes exactly where the target's layout has no directories and the tree has one, and then nothing has
 /// changed. `Into` is the refusal of a step; the target has the tree after those before it. `Device` comes only where
 /// the disk's count of faults rose. A disk that tells nothing may answer what no tree gives: that is `Into` too.
-pub fn copy_tree<K: Blocks, A: Files, B: Files>(
+pub fn copy_tree<K: Blocks, A: Walks, B: Files>(
     disk: &mut K,
     from: &mut A,
     into: &mut B,

@@ -1,7 +1,8 @@
 //! A tree copied from one root of a disk to another, in either layout.
 //!
-//! What it stands on: `fs_port` says what a disk and a file system promise, `fs_trees` which asks make a tree again,
-//! and `fs_laws` that what one root reaches stays while another is written.
+//! What it stands on: `fs_port` says what a disk and a file system promise, `fs_walks` what the source reads in one
+//! walk, `fs_trees` which asks make a tree again, and `fs_laws` that what one root reaches stays while another is
+//! written.
 //!
 //! What it promises (`specs/Copies`): the target's root has the source's tree afterwards, or the tree after the steps
 //! before the one that is refused. A crash at any moment leaves the source's tree, and under the target's root what was
@@ -10,10 +11,12 @@
 //! - `copy`: the whole.
 //! - `nested`: the first directory of a tree.
 //! - `walk`: the entries, depth first, without memory: where the walk is, is a path and the last name there.
+//! - `ahead`: the names of a directory, of which some are read ahead: they stay while the target changes.
 //! - `entry`, `pieces`: one entry, and the bytes of a file.
 //! - `paths`: what is asked is a path, also where the disk tells nothing.
 #![tactic(auto)]
 
+mod ahead;
 mod copied;
 mod copy;
 mod entry;

@@ -1,39 +1,45 @@
 //! The bytes of a file, piece by piece.
 
-ghost use Rattle.std.specs.Prelude.{◌≡◌, ◌<◌, ◌*◌, take, drop, length, [], ◌∷◌, IsTrue};
+ghost use Rattle.std.specs.Prelude.{◌≡◌, ◌≢◌, ◌<◌, ◌*◌, take, drop, length, [], ◌∷◌, IfErr, IfOk, IsTrue};
 ghost use Rattle.fs_trees.specs.Copying.{file_steps, piece_max};
 ghost use Rattle.fs_trees.specs.Names.{is_path};
 ghost use Rattle.fs_trees.specs.Tree.{at, bytes_in};
 ghost use Rattle.fs_trees.specs.declared.ask.ShellAsk.TheVariants as ask;
-ghost use Rattle.fs_copy.specs.Going.{AreSet, MakesSteps, IsFileAt, tree_under};
+ghost use Rattle.fs_trees.specs.declared.refusal.FsRefusal.TheVariants as no;
+ghost use Rattle.fs_port.specs.Runs.{Looks};
+ghost use Rattle.fs_copy.specs.Going.{AreSet, MakesSteps, IsFileAt, IsSource, tree_under};
 
 use fs_port::{Blocks, Files};
 use fs_trees::{FsRefusal, Path};
 use tsd_model::Data;
+use tsd_model::lists::DATA_MAX;
 
 /// How many bytes one ask carries.
 const PIECE_BYTES: u64 = 4096;
 
-/// Puts the first piece of a file, also where it has no bytes.
-fn put_piece<K: Blocks, A: Files, B: Files>(
+/// How many bytes a file has of which this is the first piece. Where that isn't full, it is all of them.
+pub fn size_of<K: Blocks, A: Files>(
     disk: &mut K,
     from: &mut A,
-    into: &mut B,
     path: &Path,
-) -> Result<(), FsRefusal>
-    requires set { AreSet K.told (A.view from.old) (B.view into.old) (K.view disk.old) }
+    first: &Data,
+) -> Result<u64, FsRefusal>
+    requires set { IsSource K.told (A.view from.old) (K.view disk.old) }
     requires named { IsTrue (is_path path.now) }
     requires file { K.told → IsFileAt (tree_under (A.view from.old) (K.view disk.old)) path.now }
-    ensures goes { MakesSteps K.told (B.view into.old) (K.view disk.old) (K.view disk.new) (ask.Put path.now
-        (take piece_max (bytes_in (at (tree_under (A.view from.old) (K.view disk.old)) path.now))) ∷ []) result }
-    ensures from_same { A.view from.new ≡ A.view from.old }
-    ensures into_same { B.view into.new ≡ B.view into.old }
+    requires first { K.told
+        → first.now ≡ take piece_max (bytes_in (at (tree_under (A.view from.old) (K.view disk.old)) path.now)) }
+    ensures told { K.told → IfOk result (λ size. size ≡ length (bytes_in (at (tree_under (A.view from.old)
+        (K.view disk.old)) path.now))) }
+    ensures only { K.told → IfErr result (λ e. e ≢ no.Device → ⊥) }
+    ensures looks { Looks K.told (K.view disk.old) (K.view disk.new) result }
+    ensures same { A.view from.new ≡ A.view from.old }
 {
-    let mut piece = Data::new();
-    match from.read_part(disk, path, 0, &mut piece) {
-        Ok(()) => into.put(disk, path, &piece),
-        Err(why) => Err(why),
+    let count = first.len();
+    if count < DATA_MAX {
+        return Ok(count as u64);
     }
+    from.size(disk, path)
 }
 
 /// Appends the piece of a file that begins at a position.
@@ -60,24 +66,27 @@ fn append_piece<K: Blocks, A: Files, B: Files>(
     }
 }
 
-/// Copies a file of so many bytes.
+/// Copies a file of so many bytes, of which this is the first piece. That is put also where it has no bytes.
 pub fn copy_file<K: Blocks, A: Files, B: Files>(
     disk: &mut K,
     from: &mut A,
     into: &mut B,
     path: &Path,
+    first: &Data,
     size: u64,
 ) -> Result<(), FsRefusal>
     requires set { AreSet K.told (A.view from.old) (B.view into.old) (K.view disk.old) }
     requires named { IsTrue (is_path path.now) }
     requires file { K.told → IsFileAt (tree_under (A.view from.old) (K.view disk.old)) path.now }
+    requires first { K.told
+        → first.now ≡ take piece_max (bytes_in (at (tree_under (A.view from.old) (K.view disk.old)) path.now)) }
     requires sized { K.told → size ≡ length (bytes_in (at (tree_under (A.view from.old) (K.view disk.old)) path.now)) }
     ensures goes { MakesSteps K.told (B.view into.old) (K.view disk.old) (K.view disk.new) (file_steps path.now
         (bytes_in (at (tree_under (A.view from.old) (K.view disk.old)) path.now))) result }
     ensures from_same { A.view from.new ≡ A.view from.old }
     ensures into_same { B.view into.new ≡ B.view into.old }
 {
-    match put_piece(disk, from, into, path) {
+    match into.put(disk, path, first) {
         Ok(()) => {}
         Err(why) => return Err(why),
     }

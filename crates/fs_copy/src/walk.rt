@@ -8,13 +8,16 @@ ghost use Rattle.fs_trees.specs.Tree.{at, is_dir};
 ghost use Rattle.fs_copy.specs.Counted.{IsCount};
 ghost use Rattle.fs_copy.specs.Going.{AreSet, MakesSteps, tree_under};
 ghost use Rattle.fs_copy.specs.Nesting.{CanMake};
-ghost use Rattle.fs_copy.specs.Walk.{IsCountedOn, IsNextName, WalksOn, inside, todo};
+ghost use Rattle.fs_copy.specs.Walk.{AreAhead, IsCountedOn, IsNextName, WalksOn, inside, todo};
 
+use crate::ahead::next_name;
 use crate::copied::Copied;
 use crate::entry::copy_entry;
 use crate::paths::is_path;
+use arrayvec::ArrayVec;
 use fs_port::{Blocks, Files};
 use fs_trees::{FsRefusal, Name, Path};
+use fs_walks::{NAMES_AT_ONCE, Walks};
 use image_device::WorkDone;
 use tsd_model::Geometry;
 
@@ -58,22 +61,27 @@ fn leave(path: &mut Path, after: &mut Name) -> bool
 }
 
 /// Copies the next entry of a directory, and goes inside where that is one.
-fn enter<K: Blocks, A: Files, B: Files>(
+fn enter<K: Blocks, A: Walks, B: Files>(
     disk: &mut K,
     from: &mut A,
     into: &mut B,
     path: &mut Path,
     after: &mut Name,
     copied: &mut Copied,
+    ahead: &mut ArrayVec<Name, NAMES_AT_ONCE>,
     name: Name,
 ) -> Result<bool, FsRefusal>
     requires set { AreSet K.told (A.view from.old) (B.view into.old) (K.view disk.old) }
     requires named { IsTrue (is_path path.old) }
     requires next { K.told → IsNextName (tree_under (A.view from.old) (K.view disk.old)) path.old after.old name }
+    requires ahead { K.told → AreAhead (tree_under (A.view from.old) (K.view disk.old)) path.old name
+        ahead.old.items }
     requires hold { K.told → CanMake (B.view into.old).kind (todo (tree_under (A.view from.old) (K.view disk.old))
         path.old after.old) }
     ensures turns { WalksOn K.told (B.view into.old) (tree_under (A.view from.old) (K.view disk.old)) (K.view disk.old)
         (K.view disk.new) path.old path.new after.old after.new copied.old copied.new result }
+    ensures ahead { K.told → IfOk result (λ more. more ≡ true → AreAhead (tree_under (A.view from.old)
+        (K.view disk.old)) path.new after.new ahead.new.items) }
     ensures from_same { A.view from.new ≡ A.view from.old }
     ensures into_same { B.view into.new ≡ B.view into.old }
 {
@@ -92,6 +100,7 @@ fn enter<K: Blocks, A: Files, B: Files>(
     match size {
         Some(_) => Ok(leave(path, after)),
         None => {
+            ahead.clear();
             *after = Name::new();
             Ok(true)
         }
@@ -99,38 +108,46 @@ fn enter<K: Blocks, A: Files, B: Files>(
 }
 
 /// Copies the next entry of a directory, or leaves it where there is none. False at the end.
-fn turn<K: Blocks, A: Files, B: Files>(
+fn turn<K: Blocks, A: Walks, B: Files>(
     disk: &mut K,
     from: &mut A,
     into: &mut B,
     path: &mut Path,
     after: &mut Name,
     copied: &mut Copied,
+    ahead: &mut ArrayVec<Name, NAMES_AT_ONCE>,
 ) -> Result<bool, FsRefusal>
     requires set { AreSet K.told (A.view from.old) (B.view into.old) (K.view disk.old) }
     requires named { IsTrue (is_path path.old) }
     requires dir { K.told → is_dir (at (tree_under (A.view from.old) (K.view disk.old)) path.old) ≡ true }
+    requires ahead { K.told → AreAhead (tree_under (A.view from.old) (K.view disk.old)) path.old after.old
+        ahead.old.items }
     requires hold { K.told → CanMake (B.view into.old).kind (todo (tree_under (A.view from.old) (K.view disk.old))
         path.old after.old) }
     ensures turns { WalksOn K.told (B.view into.old) (tree_under (A.view from.old) (K.view disk.old)) (K.view disk.old)
         (K.view disk.new) path.old path.new after.old after.new copied.old copied.new result }
+    ensures ahead { K.told → IfOk result (λ more. more ≡ true → AreAhead (tree_under (A.view from.old)
+        (K.view disk.old)) path.new after.new ahead.new.items) }
     ensures from_same { A.view from.new ≡ A.view from.old }
     ensures into_same { B.view into.new ≡ B.view into.old }
 {
-    let next = match from.name_after(disk, path, after) {
+    let next = match next_name(disk, from, path, after, ahead) {
         Ok(next) => next,
         Err(why) => return Err(why),
     };
     match next {
-        Some(name) => enter(disk, from, into, path, after, copied, name),
-        None => Ok(leave(path, after)),
+        Some(name) => enter(disk, from, into, path, after, copied, ahead, name),
+        None => {
+            ahead.clear();
+            Ok(leave(path, after))
+        }
     }
 }
 
 /// Copies all entries of a tree, depth first with names ascending. Where the walk is, is the path of a directory and
 /// the last name there that was copied; the empty name stands before all. A disk that tells nothing may go on without
 /// end: NotThisFs after more entries than it can have.
-pub fn copy_entries<K: Blocks, A: Files, B: Files>(
+pub fn copy_entries<K: Blocks, A: Walks, B: Files>(
     disk: &mut K,
     from: &mut A,
     into: &mut B,
@@ -147,9 +164,18 @@ pub fn copy_entries<K: Blocks, A: Files, B: Files>(
     let mut copied = Copied { files: 0, bytes: 0 };
     let mut path = Path::new();
     let mut after = Name::new();
+    let mut ahead = ArrayVec::new();
     let mut left = turns_max(&disk.geometry());
     while left > 0 {
-        let more = match turn(disk, from, into, &mut path, &mut after, &mut copied) {
+        let more = match turn(
+            disk,
+            from,
+            into,
+            &mut path,
+            &mut after,
+            &mut copied,
+            &mut ahead,
+        ) {
             Ok(more) => more,
             Err(why) => return Err(why),
         };

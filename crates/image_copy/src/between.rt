@@ -10,10 +10,11 @@ use crate::ending::CopyEnd;
 use fs_copy::{Copied, CopyRefusal, copy_tree};
 use fs_port::{Blocks, Files};
 use fs_trees::FsRefusal;
+use fs_walks::Walks;
 use tsd_words::Status;
 
 /// Mounts the source and copies its tree.
-pub(crate) fn copy_between<K: Blocks, A: Files, B: Files>(
+pub(crate) fn copy_between<K: Blocks, A: Walks, B: Files>(
     disk: &mut K,
     from: &mut A,
     into: &mut B,

@@ -18,6 +18,7 @@ use crate::opened::copy_and_close;
 use crate::shared::first_shared;
 use core_blocks::Placing;
 use fs_port::Files;
+use fs_walks::Walks;
 use image_device::{Device, Port, put_all};
 use image_runs::open_volume;
 use std::alloc::Global;
@@ -31,7 +32,7 @@ use volume::Volume;
 /// The status is Done, NotImage where the image stands for no world, RootDenied where a capability doesn't attain write
 /// at its root, the source's first, DeviceFault or PutFault where that count rose, or NoMemory where none was found
 /// before the first step.
-pub fn copy_over_image<A: Files, B: Files, L: Placing, P: Port>(
+pub fn copy_over_image<A: Walks, B: Files, L: Placing, P: Port>(
     alloc: Global,
     from: &mut A,
     into: &mut B,
@@ -78,7 +79,7 @@ pub fn copy_over_image<A: Files, B: Files, L: Placing, P: Port>(
 }
 
 /// Opens an image and copies.
-fn carry_out<A: Files, B: Files, L: Placing, D: Device>(
+fn carry_out<A: Walks, B: Files, L: Placing, D: Device>(
     alloc: Global,
     from: &mut A,
     into: &mut B,
@@ -97,7 +98,7 @@ fn carry_out<A: Files, B: Files, L: Placing, D: Device>(
 }
 
 /// Copies on a volume that was opened, where both capabilities attain write.
-fn copy_opened<A: Files, B: Files, L: Placing, D: Device>(
+fn copy_opened<A: Walks, B: Files, L: Placing, D: Device>(
     alloc: Global,
     volume: Volume,
     from: &mut A,
@@ -123,7 +124,7 @@ fn copy_opened<A: Files, B: Files, L: Placing, D: Device>(
 }
 
 /// Copies on a volume where no block is shared.
-fn copy_admitted<A: Files, B: Files, L: Placing, D: Device>(
+fn copy_admitted<A: Walks, B: Files, L: Placing, D: Device>(
     alloc: Global,
     volume: Volume,
     from: &mut A,

@@ -13,8 +13,8 @@ ghost use Rattle.image_copy.specs.Copied.{OnlyLooks, source};
 use crate::image::copy_over_image;
 use crate::sessions::{SOURCE_SESSION, TARGET_SESSION};
 use chain_fs::ChainFs;
-use fs_port::Files;
 use fs_trees::ShellKind;
+use fs_walks::Walks;
 use image_device::Port;
 use inode_fs::InodeFs;
 use place_policy::Placement;
@@ -103,7 +103,7 @@ pub fn copy_image<P: Port>(
 }
 
 /// The same, from this source.
-fn copy_from<A: Files, P: Port>(
+fn copy_from<A: Walks, P: Port>(
     alloc: Global,
     from: &mut A,
     words: &CopyFs,

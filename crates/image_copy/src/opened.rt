@@ -12,13 +12,14 @@ use crate::ending::CopyEnd;
 use crate::sessions::begin_both;
 use core_blocks::{CoreBlocks, Placing};
 use fs_port::Files;
+use fs_walks::Walks;
 use image_device::Device;
 use tsd_core::Core;
 use tsd_words::Status;
 
 /// Copies where no block is shared, and then does what is left to be done on the disk and puts the records of its
 /// journal in place.
-pub(crate) fn copy_and_close<A: Files, B: Files, L: Placing, D: Device>(
+pub(crate) fn copy_and_close<A: Walks, B: Files, L: Placing, D: Device>(
     shared: Option<u32>,
     core: &mut Core,
     from: &mut A,
@@ -44,7 +45,7 @@ pub(crate) fn copy_and_close<A: Files, B: Files, L: Placing, D: Device>(
 }
 
 /// Copies where no block is shared.
-fn copy_unless_shared<A: Files, B: Files, L: Placing, D: Device>(
+fn copy_unless_shared<A: Walks, B: Files, L: Placing, D: Device>(
     shared: Option<u32>,
     core: &mut Core,
     from: &mut A,
@@ -65,7 +66,7 @@ fn copy_unless_shared<A: Files, B: Files, L: Placing, D: Device>(
 }
 
 /// Opens the sessions, mounts the source and copies.
-fn copy_apart<A: Files, B: Files, L: Placing, D: Device>(
+fn copy_apart<A: Walks, B: Files, L: Placing, D: Device>(
     core: &mut Core,
     from: &mut A,
     into: &mut B,
@@ -84,7 +85,7 @@ fn copy_apart<A: Files, B: Files, L: Placing, D: Device>(
 }
 
 /// Mounts the source and copies, on a core with both sessions open.
-fn copy_on<A: Files, B: Files, L: Placing, D: Device>(
+fn copy_on<A: Walks, B: Files, L: Placing, D: Device>(
     core: &mut Core,
     from: &mut A,
     into: &mut B,

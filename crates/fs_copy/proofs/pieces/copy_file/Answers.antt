@@ -1,14 +1,22 @@
-use Rattle.std.proofs.Common.{◌^◌, ◌<◌, ◌∙◌, arith, rules}
-use Rattle.fs_copy.proofs.PieceLaws.{first_put, piece_end, piece_file, piece_lost, piece_next, piece_set, place_fits, put_lost}
+use Rattle.std.proofs.Common.{◌^◌, ◌<◌, refl, ◌∙◌, arith, rules}
+use Rattle.fs_copy.proofs.PieceLaws.{first_put, piece_end, piece_file, piece_lost, piece_next, piece_put, piece_set, place_fits, put_lost}
 use Rattle.fs_copy.proofs.pieces.copy_file.Goals as goal
 
+pub put-requires : goal.put-requires
+put-requires g c =
+    let set = c.requires.set in
+    record { ready = set.into_ready; valid = set.valid; named = c.requires.named; tree = λ t _. set.into_there t }
+
 pub returns-in-Err-clause-goes : goal.returns-in-Err-clause-goes
-returns-in-Err-clause-goes g c = put_lost c.requires.set c.in-Err.ensures.goes
+returns-in-Err-clause-goes g c =
+    let put = c.in-Err.ensures in
+    put_lost c.requires.set (piece_put c.requires.set (g.met.K.Blocks.sound c.args.disk.now) (g.met.K.Blocks.sound c.put.new.disk) c.requires.first put.answer put.changes)
 
 pub loop-i-init : goal.loop-i-init
 loop-i-init g c =
-    let first = c.in-Ok.ensures in
-    first_put c.requires.set (g.met.K.Blocks.sound c.args.disk.now) c.requires.file c.div_ceil-pieces.ensures c.requires.sized first.goes first.from_same first.into_same
+    let put = c.in-Ok.ensures in
+    let sound = g.met.K.Blocks.sound c.args.disk.now in
+    first_put c.requires.set sound c.requires.file c.div_ceil-pieces.ensures c.requires.sized (piece_put c.requires.set sound (g.met.K.Blocks.sound c.put.new.disk) c.requires.first put.answer put.changes) refl put.same
 
 pub overflow_mul-i : goal.overflow_mul-i
 overflow_mul-i g c =

@@ -1,6 +1,6 @@
 use Rattle.std.proofs.Common.{◌≡◌, true, sym, ◌∙◌, ap, arith}
-use Rattle.fs_copy.proofs.Common.{nat_tests, is_path}
-use Rattle.fs_copy.proofs.TurnLaws.{Leaves, at_entry, dir_entered, entry_fits, entry_hold, entry_never, entry_path, entry_refused, entry_there, file_passed}
+use Rattle.fs_copy.proofs.Common.{nat_tests, is_path, tree_under}
+use Rattle.fs_copy.proofs.TurnLaws.{Leaves, ahead_passed, at_entry, dir_entered, entry_fits, entry_hold, entry_never, entry_path, entry_refused, entry_there, file_passed, none_ahead}
 use Rattle.fs_copy.proofs.walk.enter.Goals as goal
 
 pub returns-in-Err-clause-turns : goal.returns-in-Err-clause-turns
@@ -46,3 +46,11 @@ returns-in-None-clause-turns g c =
     let path : is_path c.push.new.self ≡ true = sym c.is_path.ensures ∙ (let yes = c.if-not-is_path.false in grind (arith, nat_tests)) in
     let copied = c.in-Ok-copy_entry.ensures in
     dir_entered here c.in-Ok.ensures.ok path copied.told copied.goes c.counted.ensures c.new.ensures c.in-None.is
+
+pub returns-in-Some-clause-ahead : goal.returns-in-Some-clause-ahead
+returns-in-Some-clause-ahead g c =
+    let left : Leaves c.push.new.self c.leave.new.path c.leave.new.after c.leave.result = record { on = c.leave.ensures.on; over = c.leave.ensures.over; there = c.leave.ensures.there } in
+    λ t. ahead_passed (tree_under (g.A.Files.view c.args.from.now) (g.K.Blocks.view c.args.disk.now)) c.args.path.now c.args.name c.args.ahead.now.items c.in-Ok.ensures.ok left (c.requires.ahead t)
+
+pub returns-in-None-clause-ahead : goal.returns-in-None-clause-ahead
+returns-in-None-clause-ahead g c = λ t _. none_ahead (tree_under (g.A.Files.view c.args.from.now) (g.K.Blocks.view c.args.disk.now)) c.push.new.self c.new.result c.clear.ensures
