@@ -396,7 +396,7 @@ def cost_result(recorder: Recorder, program: Program, image: Path, cost: Cost) -
 # --- how often asks read ---
 
 SECTOR = 512
-# Of a disk of 64 blocks of one sector: those of counts, bits and slots follow sector 133; then come those of the blocks.
+# Of a disk of 64 blocks of one sector: the sectors of counts, bits and slots follow sector 133, then come the blocks.
 FIRST_OF_BLOCKS = 134 + 1 + 1 + 4
 # Blocks are taken from the lowest on: so file N has block N, and then every second block is free from 3 on. No block
 # that is read lies behind the one that was read before it, so that nothing is read ahead, and each read is one call.
@@ -414,9 +414,9 @@ class Reading(NamedTuple):
 
 
 # By the documents: over inodes mounting reads each inode once, by their names, and `ls` of nine names takes ten walks;
-# each part of a file reads the way to its inode, that, and the blocks of the part. Over chains a pass over the directory
-# has all its names, and one more has none; a file's clusters are read for its size, and for the part that it is. Either
-# looks at the size of a file first. What mounting reads comes before the first answer.
+# each part of a file reads the way to its inode, that, and the blocks of the part. Over chains a pass over the
+# directory has all its names, and one more has none; a file's clusters are read for its size, and for the part that it
+# is. Either looks at the size of a file first. What mounting reads comes before the first answer.
 READINGS = (
     Reading(INODE, (
         ("df", "free 50", [0, 3, 11, 2, 4, 6, 8, 10, 12, 14]),
