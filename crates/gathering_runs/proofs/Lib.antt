@@ -1,5 +1,6 @@
 mod Joined
 mod Handing
+mod Sent
 mod Turning
 mod Grouped
 mod OnDevice

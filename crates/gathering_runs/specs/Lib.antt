@@ -1,3 +1,5 @@
 pub mod Promise
+pub mod Sent
+pub mod ByTurns
 pub mod Turns
 pub mod Run

@@ -6,6 +6,7 @@ use Rattle.serving.specs.Voice.{spoken}
 use Rattle.gathering.specs.Gathered.{cleared}
 use Rattle.gathering_runs.proofs.Carried.{between, from_cleared, placed_home, ring_closed, to_cleared}
 use Rattle.gathering_runs.proofs.OnDevice.{left_in_place, went_in_place}
+use Rattle.gathering_runs.proofs.Sent.{sent_none}
 use Rattle.gathering_runs.proofs.Turning.{turned_err, turned_then, turned_to}
 use Rattle.gathering_runs.proofs.direct.serve_direct.Goals as goal
 
@@ -22,7 +23,7 @@ returns-then-is_err-clause-did g c told =
     let v1 = g.P.Device.view c.empty_journal.new.port in
     let b = c.requires.between told in
     let s = g.H.Handler.state h (cleared v0.reads) in
-    turned_err k part status.DeviceFault s _ v0 v1 (c.args.request.now ∷ [])
+    turned_err k part status.DeviceFault s _ v0 v1 (c.args.request.now ∷ []) (sent_none k status.DeviceFault s v0.sent v1.sent (c.args.request.now ∷ []) (c.empty_journal.ensures.sent told))
     (left_in_place k part s v0 v1 (λ x y has. g.met.H.GroupHandler.alike s x y has) (λ x y has. g.met.H.GroupHandler.aside_alike h x y has) b.firm (g.met.H.Handler.stands_now h (cleared v0.reads) b.held) (c.args.request.now ∷ []) (c.empty_journal.ensures.any_moment told))
 
 pub returns-clause-did : goal.returns-clause-did

@@ -3,9 +3,11 @@ use Rattle.std.specs.Prelude.{Result, Ok, Err, OnOk, OnErr}
 use Rattle.std.specs.Result.{result_unwrap_or}
 use Rattle.serving.specs.Voice.{spoken}
 use Rattle.gathering.specs.Gathered.{cleared, gathered_view}
-use Rattle.gathering_runs.specs.Turns.{HandsOut, waits_by}
+use Rattle.gathering_runs.specs.Turns.{HandsOut, status_by, waits_by}
 use Rattle.gathering_runs.proofs.Carried.{to_next}
-use Rattle.gathering_runs.proofs.Grouped.{gathered_badly, gathered_well, left_flushed, left_given_up, went_flushed}
+use Rattle.gathering_runs.proofs.Grouped.{gathered_badly, gathered_well, left_flushed, left_given_up, sent_by_flush, went_flushed}
+use Rattle.gathering_runs.specs.Sent.{IsSentBy}
+use Rattle.gathering_runs.proofs.Sent.{sent_given_up, sent_none, unsent_by}
 use Rattle.gathering_runs.proofs.Turning.{turned_err, turned_ok}
 use Rattle.gathering_runs.proofs.group.serve_group.Goals as goal
 
@@ -99,6 +101,16 @@ returns-in-Err-clause-did g c =
       λ told.
           let held = g.met.H.Handler.stands_now h0 (cleared start.reads) (c.requires.between told).held in
           turned_err k (g.H.Handler.aside h0) _ _ _ start new (q ∷ (done ++ more))
+          (subst (λ w. IsSentBy w k s start.sent (q ∷ (done ++ more)) new.sent) (sym c.status_of.ensures)
+          (elim (ok_or_err c.gather-gathered.result) [
+            | inl ok ↦
+                sent_by_flush k (g.H.Handler.aside h0) start v new (λ u x y has. g.met.H.GroupHandler.alike u x y has) (λ x y has. g.met.H.GroupHandler.aside_alike h0 x y has) s held (q ∷ done) more
+                (g.H.Handler.state h1 v.reads) _ e0.reads _ e0.sent _ (ap (λ x. g.H.Handler.state h0 x) e0.reads) (ok_is c.gather-gathered.result _ ok.1 (e1.did.2 told)) (g.met.H.Handler.stands_now h1 v.reads (ok_is c.gather-gathered.result _ ok.1 (e1.at told)).1) (ok_is c.gather-gathered.result _ ok.1 (e1.closed told)) (ok_is c.gather-gathered.result _ ok.1 (e1.part told))
+                c.in-Err.fault (unsent_by c.flush-inner.result.result c.in-Err.fault c.in-Err.is (e2.unsent told)) (λ put. e2.put_sent told (c.in-Err.is ∙ ap (λ x. Err x) put))
+            | inr bad ↦
+                sent_none k (status_by c.in-Err.fault) s start.sent new.sent (q ∷ (done ++ more)) (sent_given_up start new (g.met.P.Device.sound c.flush-inner.result.inner told)
+                (e2.given_up told (gathered_badly _ _ _ _ e0.faults e0.put_faults (err_is c.gather-gathered.result _ bad.1 e1.failed))))
+          ]))
           (elim (ok_or_err c.gather-gathered.result) [
             | inl ok ↦
                 left_flushed k (g.H.Handler.aside h0) start v new (λ u x y has. g.met.H.GroupHandler.alike u x y has) (λ x y has. g.met.H.GroupHandler.aside_alike h0 x y has) s held (q ∷ done) more

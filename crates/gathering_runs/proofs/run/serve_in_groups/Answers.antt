@@ -4,16 +4,18 @@ use Rattle.image_device.specs.Runs.{LeavesOnly}
 use Rattle.tsd_words.specs.declared.status.Status.TheVariants as status
 use Rattle.serving.specs.Goes.{Handed, ends_left}
 use Rattle.serving.specs.Ran.{AskedBy, IsAtEnd}
-use Rattle.serving.specs.Voice.{spoken}
+use Rattle.serving.specs.Voice.{spoken, spoken_counted}
 use Rattle.serving.proofs.Inputs.{came_first, came_then, handed_first}
 use Rattle.gathering.specs.Gathered.{cleared}
 use Rattle.gathering_runs.specs.Promise.{IsLeftByRun}
 use Rattle.gathering_runs.specs.Run.{AskedInGroups}
+use Rattle.gathering_runs.specs.Sent.{IsSentBy}
 use Rattle.gathering_runs.specs.Turns.{StopsBy, Turned}
-use Rattle.gathering_runs.proofs.Ending.{asked_none, asked_then_stopped, asked_to_end, left_longer, not_answered, not_done}
+use Rattle.gathering_runs.proofs.Ending.{asked_none, asked_then_stopped, asked_to_end, left_longer, not_done}
 use Rattle.gathering_runs.proofs.Handing.{handed_then}
 use Rattle.gathering_runs.proofs.Outcome.{counts_ok, err_is_if, ok_is}
-use Rattle.gathering_runs.proofs.Turning.{Went, left_then, went, went_then}
+use Rattle.gathering_runs.proofs.Sent.{sent_longer, sent_stopped}
+use Rattle.gathering_runs.proofs.Turning.{Went, left_then, sent_turned, went, went_then}
 use Rattle.gathering_runs.proofs.run.serve_in_groups.Goals as goal
 
 pub returns-in-Err-clause-ran : goal.returns-in-Err-clause-ran
@@ -23,7 +25,9 @@ returns-in-Err-clause-ran g c = record {
   asked = [];
   these = asked_none g.R.Protocol.spelling c.in-Err.why c.args.limit _ c.in-Err.ensures.stops g.met.R.Protocol.lawful.none;
   any_moment = λ told. (c.in-Err.ensures.did told).any_moment;
-  served = λ told all. absurd (not_answered c.in-Err.why c.in-Err.ensures.stops all);
+  sent = λ told.
+      sent_stopped (spoken g.H.Handler.rules g.R.Replies.voice) (spoken_counted g.H.Handler.rules g.R.Replies.voice (λ s q r t given. g.met.H.Handler.given_form s q r t given) g.met.R.Replies.apart)
+      _ _ [] _ c.in-Err.why c.in-Err.ensures.stops (c.in-Err.ensures.did told).stopped;
   done = λ told is. absurd (not_done c.in-Err.why c.in-Err.ensures.stops is);
 }
 
@@ -126,7 +130,11 @@ returns-in-Err-served-clause-ran g c =
       any_moment = λ told.
           left_longer k part s0 v0 v2 (was.1 ++ q ∷ did.0) asked.0
           (left_then k part s0 s1 v0 v1 v2 was.1 (q ∷ did.0) (was.4 told) (subst (λ (p : Image → Image). Turned r k p s1 s2 v1 v2 (q ∷ did.0)) i.aside (did.2 told)).any_moment);
-      served = λ told all. absurd (not_answered c.in-Err-served.why stops all);
+      sent = λ told.
+          sent_stopped k (spoken_counted g.H.Handler.rules g.R.Replies.voice (λ s q r t given. g.met.H.Handler.given_form s q r t given) g.met.R.Replies.apart)
+          s0 v0.sent ((was.1 ++ q ∷ did.0) ++ asked.0) v2.sent c.in-Err-served.why stops
+          (sent_longer k c.in-Err-served.why s0 v0.sent v2.sent (was.1 ++ q ∷ did.0) asked.0
+          (sent_turned k part r c.in-Err-served.why s0 s1 s2 v0 v1 v2 was.1 (q ∷ did.0) c.in-Err-served.is (was.4 told) (subst (λ (p : Image → Image). Turned r k p s1 s2 v1 v2 (q ∷ did.0)) i.aside (did.2 told))));
       done = λ told is. absurd (not_done c.in-Err-served.why stops is);
     }
 
@@ -153,7 +161,7 @@ returns-in-Ok-finished-clause-ran g c =
       asked = was.1;
       these = subst (λ n. AskedBy status.Done g.R.Protocol.spelling n (was.0 ++ found.0) ended was.1) (c.next.ensures.limit ∙ i.limit) found.2;
       any_moment = λ told. (all told).any_moment;
-      served = λ told is. (s2, (all told).served);
+      sent = λ told. (s2, (all told).served);
       done = λ told is. (all told).served;
     }
 
@@ -180,7 +188,11 @@ returns-in-Err-finished-clause-ran g c =
       any_moment = λ told.
           subst (λ l. ∥ LeavesOnly v0 v2 (IsLeftByRun k part s0 v0 l) ∥₁) (append-nil was.1)
           (left_then k part s0 s1 v0 v1 v2 was.1 [] (was.4 told) (subst (λ (p : Image → Image). Turned c.finish-left.result.1 k p s1 s2 v1 v2 []) i.aside (c.finish-left.ensures.did told)).any_moment);
-      served = λ told all. absurd (not_answered c.in-Err-finished.why stops all);
+      sent = λ told.
+          sent_stopped k (spoken_counted g.H.Handler.rules g.R.Replies.voice (λ s q r t given. g.met.H.Handler.given_form s q r t given) g.met.R.Replies.apart)
+          s0 v0.sent was.1 v2.sent c.in-Err-finished.why stops
+          (subst (λ l. IsSentBy c.in-Err-finished.why k s0 v0.sent l v2.sent) (append-nil was.1)
+          (sent_turned k part c.finish-left.result.1 c.in-Err-finished.why s0 s1 s2 v0 v1 v2 was.1 [] c.in-Err-finished.is (was.4 told) (subst (λ (p : Image → Image). Turned c.finish-left.result.1 k p s1 s2 v1 v2 []) i.aside (c.finish-left.ensures.did told))));
       done = λ told is. absurd (not_done c.in-Err-finished.why stops is);
     }
 
@@ -196,7 +208,7 @@ returns-in-CutOff-clause-ran g c =
       asked = was.1;
       these = subst (λ n. AskedBy status.Truncated g.R.Protocol.spelling n (was.0 ++ found.0) ended was.1) (c.next.ensures.limit ∙ i.limit) found.2;
       any_moment = λ told. (was.4 told).any_moment;
-      served = λ told all. (_, (was.4 told).served);
+      sent = λ told. (_, (was.4 told).served);
       done = λ told is. absurd (cc);
     }
 
@@ -212,7 +224,7 @@ returns-in-Fault-clause-ran g c =
       asked = was.1;
       these = subst (λ n. AskedBy status.SourceFault g.R.Protocol.spelling n (was.0 ++ found.0) ended was.1) (c.next.ensures.limit ∙ i.limit) found.2;
       any_moment = λ told. (was.4 told).any_moment;
-      served = λ told all. (_, (was.4 told).served);
+      sent = λ told. (_, (was.4 told).served);
       done = λ told is. absurd (cc);
     }
 
@@ -228,6 +240,6 @@ returns-in-TooLong-clause-ran g c =
       asked = was.1;
       these = subst (λ n. AskedBy status.TooLong g.R.Protocol.spelling n (was.0 ++ found.0) ended was.1) (c.next.ensures.limit ∙ i.limit) found.2;
       any_moment = λ told. (was.4 told).any_moment;
-      served = λ told all. (_, (was.4 told).served);
+      sent = λ told. (_, (was.4 told).served);
       done = λ told is. absurd (cc);
     }

@@ -7,7 +7,7 @@ use Rattle.gathering.specs.Gathered.{cleared}
 use Rattle.gathering.proofs.Merely.{rested_now}
 use Rattle.gathering_runs.specs.Turns.{Turned}
 use Rattle.gathering_runs.proofs.Outcome.{counts_ok, ok_is}
-use Rattle.gathering_runs.proofs.Turning.{left_then, turned_err, turned_ok, went, went_between, went_then}
+use Rattle.gathering_runs.proofs.Turning.{left_then, sent_turned, turned_err, turned_ok, went, went_between, went_then}
 use Rattle.gathering_runs.proofs.settle.settle_in_groups.Goals as goal
 
 pub settle_group-left-requires-clause-rests : goal.settle_group-left-requires-clause-rests
@@ -75,7 +75,7 @@ returns-in-Err-clause-did g c told =
     let s0 = g.H.Handler.state c.args.server.now (cleared v0.reads) in
     let s1 = g.H.Handler.state c.loop-group.server (cleared v1.reads) in
     let s2 = g.H.Handler.state c.settle_group-left.new.server (cleared v2.reads) in
-    turned_err k part c.in-Err.why s0 s2 v0 v2 [] (left_then k part s0 s1 v0 v1 v2 [] [] (i.went told) (subst (λ (p : Image → Image). Turned r k p s1 s2 v1 v2 []) i.aside (e.did told)).any_moment)
+    turned_err k part c.in-Err.why s0 s2 v0 v2 [] (sent_turned k part r c.in-Err.why s0 s1 s2 v0 v1 v2 [] [] c.in-Err.is (i.went told) (subst (λ (p : Image → Image). Turned r k p s1 s2 v1 v2 []) i.aside (e.did told))) (left_then k part s0 s1 v0 v1 v2 [] [] (i.went told) (subst (λ (p : Image → Image). Turned r k p s1 s2 v1 v2 []) i.aside (e.did told)).any_moment)
 
 pub returns-clause-did : goal.returns-clause-did
 returns-clause-did g c told = turned_ok (spoken g.H.Handler.rules g.R.Replies.voice) (g.H.Handler.aside c.args.server.now) tt _ _ _ _ [] (c.loop-group.invariant.went told)

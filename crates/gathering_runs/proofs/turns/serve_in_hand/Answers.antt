@@ -6,10 +6,11 @@ use Rattle.tsd_words.specs.declared.status.Status.TheVariants as status
 use Rattle.serving.specs.Voice.{spoken}
 use Rattle.gathering.specs.Gathered.{cleared}
 use Rattle.gathering_runs.specs.Promise.{IsLeftByRun}
+use Rattle.gathering_runs.specs.Sent.{IsSentBy}
 use Rattle.gathering_runs.specs.Turns.{HandsOut, Turned, waits_by}
 use Rattle.gathering_runs.proofs.Handing.{behind_first, behind_waiting, hands_none, hands_then}
 use Rattle.gathering_runs.proofs.Outcome.{counts_ok, ok_is}
-use Rattle.gathering_runs.proofs.Turning.{Went, left_then, turned_err, turned_ok, went, went_between, went_then}
+use Rattle.gathering_runs.proofs.Turning.{Went, left_then, sent_turned, turned_err, turned_ok, went, went_between, went_then}
 use Rattle.gathering_runs.proofs.turns.serve_in_hand.Goals as goal
 
 pub loop-disk-init : goal.loop-disk-init
@@ -125,6 +126,8 @@ returns-in-Err-clause-did g c =
           (subst (λ t. HandsOut sp fed1 fed2 c.loop-disk.intake c.serve_turn-left.new.intake (did.0 ++ waits_by t next)) c.in-Err.is did.1)),
       λ told.
           turned_err k part c.in-Err.why s0 s2 v0 v2 (c.args.request.now ∷ (was.1 ++ did.0))
+          (subst (λ l. IsSentBy c.in-Err.why k s0 v0.sent l v2.sent) (sym (behind_first c.args.request.now q was.1 was.0 did.0 was.2))
+          (sent_turned k part r c.in-Err.why s0 s1 s2 v0 v1 v2 was.0 (q ∷ did.0) c.in-Err.is (was.4 told) (subst (λ (p : Image → Image). Turned r k p s1 s2 v1 v2 (q ∷ did.0)) i.aside (did.2 told))))
           (subst (λ l. ∥ LeavesOnly v0 v2 (IsLeftByRun k part s0 v0 l) ∥₁) (sym (behind_first c.args.request.now q was.1 was.0 did.0 was.2))
           (left_then k part s0 s1 v0 v1 v2 was.0 (q ∷ did.0) (was.4 told) (subst (λ (p : Image → Image). Turned r k p s1 s2 v1 v2 (q ∷ did.0)) i.aside (did.2 told)).any_moment)),
     )

@@ -3,9 +3,12 @@ use Rattle.image_device.specs.Image.{Image}
 use Rattle.serving.specs.Voice.{spoken}
 use Rattle.gathering.specs.Gathered.{cleared}
 use Rattle.gathering.proofs.Merely.{rested_now}
+use Rattle.gathering_runs.specs.Sent.{IsSentBy}
 use Rattle.gathering_runs.specs.Turns.{Turned}
 use Rattle.gathering_runs.proofs.Ending.{left_longer}
 use Rattle.gathering_runs.proofs.Handing.{hands_none}
+use Rattle.gathering_runs.proofs.Outcome.{err_is_if}
+use Rattle.gathering_runs.proofs.Sent.{sent_longer}
 use Rattle.gathering_runs.proofs.Turning.{turned_err, turned_then, went}
 use Rattle.gathering_runs.proofs.turns.serve_turn.Goals as goal
 
@@ -42,5 +45,7 @@ returns-in-Err-clause-did g c =
     let s0 = g.H.Handler.state c.args.server.now (cleared v0.reads) in (
       [],
       hands_none g.R.Protocol.spelling _ _,
-      λ told. turned_err k part _ s0 _ v0 v1 (c.args.request.now ∷ []) (left_longer k part s0 v0 v1 [] (c.args.request.now ∷ []) (c.settle_in_groups-left.ensures.did told).any_moment),
+      λ told. turned_err k part _ s0 _ v0 v1 (c.args.request.now ∷ [])
+          (sent_longer k c.in-Err.why s0 v0.sent v1.sent [] (c.args.request.now ∷ []) (err_is_if (λ w. IsSentBy w k s0 v0.sent [] v1.sent) c.settle_in_groups-left.result.1 c.in-Err.why c.in-Err.is (c.settle_in_groups-left.ensures.did told).stopped))
+          (left_longer k part s0 v0 v1 [] (c.args.request.now ∷ []) (c.settle_in_groups-left.ensures.did told).any_moment),
     )
