@@ -1,5 +1,4 @@
 pub mod Promise
 pub mod Sent
-pub mod ByTurns
 pub mod Turns
 pub mod Run
