@@ -1,11 +1,11 @@
 -- Turns, one behind the other.
-use Rattle.std.proofs.Common.{◌≡◌, ◌×◌, ◌⊎◌, ◌≤◌, inl, inr, ℕ, ◌+◌, List, [], ◌∷◌, ◌++◌, refl, sym, ◌∙◌, ap, subst, append_assoc, append-nil}
+use Rattle.std.proofs.Common.{◌≡◌, ◌⊎◌, ◌≤◌, inl, inr, ℕ, ◌+◌, List, [], ◌∷◌, ◌++◌, refl, sym, ◌∙◌, ap, subst, append_assoc, append-nil}
 use Rattle.std.specs.Prelude.{Result, Ok, Err, OnOk}
 use Rattle.serving.specs.Prompt.{Mark}
 use Rattle.serving.specs.Runs.{Served}
 use Rattle.serving.specs.Service.{Service}
 use Rattle.serving.specs.Work.{WorkCount}
-use Rattle.gathering_runs.specs.ByTurns.{all_of, ByTurns, IsDirect, IsGroup, IsTurn, Turns}
+use Rattle.gathering_runs.specs.ByTurns.{all_of, ByTurns, IsDirect, IsGroup, IsReplied, IsTurn, AnswersByTurns}
 
 pub all_of-append : {Q : Type 0} (xs ys : List (List Q)) → all_of (xs ++ ys) ≡ all_of xs ++ all_of ys
 all_of-append [] ys = refl
@@ -26,7 +26,7 @@ module _ {Q : Type 0} (k : Service Q) (w : WorkCount Q k.States) (port : Mark �
   no_turns s t m n same unmoved = record { turns = []; all = refl; each = (same, unmoved) }
 
   pub one_turn : (s t : k.States) (qs : List Q) (old new : Mark) → port new → Served k s old.sent qs t new.sent → IsGroup old new ⊎ IsDirect k w port s qs old new → AllTurns s t qs old new
-  one_turn s t qs old new here served work = record { turns = qs ∷ []; all = append-nil qs; each = (t, new, record { of_port = here; served = served; work = work }, refl, refl) }
+  one_turn s t qs old new here served work = record { turns = qs ∷ []; all = append-nil qs; each = (t, new, record { of_port = here; served = served; work = work }, (refl, refl)) }
 
   pub all_then : (s m t : k.States) (qs more : List Q) (old mid new : Mark) → AllTurns s m qs old mid → AllTurns m t more mid new → AllTurns s t (qs ++ more) old new
   all_then s m t qs more old mid new a b = record {
@@ -39,7 +39,7 @@ module _ {Q : Type 0} (k : Service Q) (w : WorkCount Q k.States) (port : Mark �
   pub all_to : (s t u : k.States) (qs : List Q) (old new : Mark) → AllTurns s t qs old new → u ≡ t → AllTurns s u qs old new
   all_to s t u qs old new a same = subst (λ (z : k.States). AllTurns s z qs old new) (sym same) a
 
-  pub all_turns : {T E : Type 0} (r : Result T E) (x : T) (s t : k.States) (qs : List Q) (old new : Mark) → r ≡ Ok x → Turns r k w port s t qs old new → AllTurns s t qs old new
+  pub all_turns : {T E : Type 0} (r : Result T E) (x : T) (s t : k.States) (qs : List Q) (old new : Mark) → r ≡ Ok x → AnswersByTurns r k w port s t qs old new → AllTurns s t qs old new
   all_turns (Ok y) x s t qs old new is b = record {
     turns = b.turns;
     all = sym (b.parts ∙ ap (λ l. all_of b.turns ++ l) b.all.0 ∙ append-nil (all_of b.turns));
@@ -47,18 +47,18 @@ module _ {Q : Type 0} (k : Service Q) (w : WorkCount Q k.States) (port : Mark �
   }
   all_turns (Err e) x s t qs old new is b = absurd (cc)
 
-  pub turns_ok : {T E : Type 0} (x : T) (s t : k.States) (qs : List Q) (old new : Mark) → AllTurns s t qs old new → Turns {Q = Q} {T = T} {E = E} (Ok x) k w port s t qs old new
+  pub turns_ok : {T E : Type 0} (x : T) (s t : k.States) (qs : List Q) (old new : Mark) → AllTurns s t qs old new → AnswersByTurns {Q = Q} {T = T} {E = E} (Ok x) k w port s t qs old new
   turns_ok x s t qs old new a = record { turns = a.turns; rest = []; parts = sym a.all ∙ sym (append-nil (all_of a.turns)); state = t; rested = new; each = a.each; all = (refl, refl, refl) }
 
   -- these were answered, and then it stopped
-  pub turns_err : {T E : Type 0} (e : E) (s m t : k.States) (qs more : List Q) (old mid new : Mark) → AllTurns s m qs old mid → Turns {Q = Q} {T = T} {E = E} (Err e) k w port s t (qs ++ more) old new
+  pub turns_err : {T E : Type 0} (e : E) (s m t : k.States) (qs more : List Q) (old mid new : Mark) → AllTurns s m qs old mid → AnswersByTurns {Q = Q} {T = T} {E = E} (Err e) k w port s t (qs ++ more) old new
   turns_err e s m t qs more old mid new a = record { turns = a.turns; rest = more; parts = ap (λ l. l ++ more) (sym a.all); state = m; rested = mid; each = a.each; all = tt }
 
   -- it stopped in the first of them
-  pub turns_none : {T E : Type 0} (e : E) (s t : k.States) (qs : List Q) (old new : Mark) → Turns {Q = Q} {T = T} {E = E} (Err e) k w port s t qs old new
+  pub turns_none : {T E : Type 0} (e : E) (s t : k.States) (qs : List Q) (old new : Mark) → AnswersByTurns {Q = Q} {T = T} {E = E} (Err e) k w port s t qs old new
   turns_none e s t qs old new = turns_err e s s t [] qs old old new (no_turns s s old old refl refl)
 
-  pub turns_then : {T E : Type 0} (r : Result T E) (s m t : k.States) (qs more : List Q) (old mid new : Mark) → AllTurns s m qs old mid → Turns r k w port m t more mid new → Turns r k w port s t (qs ++ more) old new
+  pub turns_then : {T E : Type 0} (r : Result T E) (s m t : k.States) (qs more : List Q) (old mid new : Mark) → AllTurns s m qs old mid → AnswersByTurns r k w port m t more mid new → AnswersByTurns r k w port s t (qs ++ more) old new
   turns_then r s m t qs more old mid new a b = record {
     turns = a.turns ++ b.turns;
     rest = b.rest;
@@ -70,7 +70,7 @@ module _ {Q : Type 0} (k : Service Q) (w : WorkCount Q k.States) (port : Mark �
   }
 
   -- more requests behind, of a run that stopped
-  pub turns_longer : {T E : Type 0} (e : E) (s t u : k.States) (qs more : List Q) (old new : Mark) → Turns {Q = Q} {T = T} {E = E} (Err e) k w port s t qs old new → Turns {Q = Q} {T = T} {E = E} (Err e) k w port s u (qs ++ more) old new
+  pub turns_longer : {T E : Type 0} (e : E) (s t u : k.States) (qs more : List Q) (old new : Mark) → AnswersByTurns {Q = Q} {T = T} {E = E} (Err e) k w port s t qs old new → AnswersByTurns {Q = Q} {T = T} {E = E} (Err e) k w port s u (qs ++ more) old new
   turns_longer e s t u qs more old new b = record {
     turns = b.turns;
     rest = b.rest ++ more;
@@ -80,3 +80,16 @@ module _ {Q : Type 0} (k : Service Q) (w : WorkCount Q k.States) (port : Mark �
     each = b.each;
     all = tt;
   }
+
+  -- it stopped inside a turn behind these
+  pub turns_stopped : {T U E : Type 0} (r : Result T E) (e : E) (s m t : k.States) (qs more : List Q) (old mid new : Mark) → r ≡ Err e → AllTurns s m qs old mid → AnswersByTurns r k w port m t more mid new → AnswersByTurns {Q = Q} {T = U} {E = E} (Err e) k w port s t (qs ++ more) old new
+  turns_stopped r e s m t qs more old mid new is a b = let c = turns_then r s m t qs more old mid new a b in
+      record { turns = c.turns; rest = c.rest; parts = c.parts; state = c.state; rested = c.rested; each = c.each; all = tt }
+
+  -- a request on the device itself
+  pub direct_turn : {T E : Type 0} (r : Result T E) (s m t : k.States) (q : Q) (old emptied new : Mark) → port emptied → emptied.sent ≡ old.sent → emptied.writes ≤ old.writes + 121 → m ≡ s → port new → OnOk r (Served k s old.sent (q ∷ []) t new.sent)
+      → OnOk r (IsReplied w port m q emptied new) → AnswersByTurns r k w port s t (q ∷ []) old new
+  direct_turn (Ok x) s m t q old emptied new here unsent few same there served replied =
+      turns_ok x s t (q ∷ []) old new (one_turn s t (q ∷ []) old new there served
+      (inr (record { request = q; one = refl; emptied = emptied; of_port = here; nothing_sent = unsent; writes = few; replied = subst (λ (z : k.States). IsReplied w port z q emptied new) same replied })))
+  direct_turn (Err e) s m t q old emptied new here unsent few same there served replied = turns_none e s t (q ∷ []) old new

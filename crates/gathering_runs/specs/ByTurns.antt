@@ -1,9 +1,6 @@
--- How promptly a run of groups answered, and how often it wrote: turn by turn, and round by round of its input.
-use Rattle.std.specs.Prelude.{◌≡◌, ◌⊎◌, ℕ, ◌+◌, ◌≤◌, List, [], ◌∷◌, ◌++◌, length, take, Result, OnOk}
-use Rattle.tsd_words.specs.declared.status.Status.{Status}
-use Rattle.serving.specs.Input.{Spelling, all_requests}
-use Rattle.serving.specs.Prompt.{IsCutShort, Mark}
-use Rattle.serving.specs.Ran.{Taking}
+-- How promptly a run of groups answered, and how often it wrote, turn by turn.
+use Rattle.std.specs.Prelude.{◌≡◌, ◌⊎◌, ℕ, ◌+◌, ◌≤◌, List, [], ◌∷◌, ◌++◌, Result, OnOk}
+use Rattle.serving.specs.Prompt.{Mark}
 use Rattle.serving.specs.Runs.{Served}
 use Rattle.serving.specs.Service.{Service}
 use Rattle.serving.specs.Work.{WorkCount}
@@ -13,20 +10,25 @@ use Rattle.serving.specs.Work.{WorkCount}
 abbrev pub IsGroup : Mark → Mark → Type 0
 IsGroup old new = new.writes ≤ old.writes + 236
 
--- One request was carried out on the device itself: the journal was emptied, and when its answer was sent whole, so
--- often was written since, where its work is bounded.
+-- At a moment between these two the answer to a request was sent whole, and by then so often was written, where its
+-- work is bounded.
+pub record IsReplied {Q S : Type 0} (w : WorkCount Q S) (port : Mark → Type 0) (s : S) (q : Q)
+    (old new : Mark) : Type 0 where
+  pub replied : Mark
+  pub of_port : port replied
+  pub sent : replied.sent ≡ new.sent
+  pub before : w.bounded q → replied.writes ≤ old.writes + w.before_answer s (w.debt old.reads) q
+
+-- One request was carried out on the device itself: first the journal was emptied.
 pub record IsDirect {Q : Type 0} (k : Service Q) (w : WorkCount Q k.States) (port : Mark → Type 0) (s : k.States)
     (qs : List Q) (old new : Mark) : Type 0 where
   pub request : Q
   pub one : qs ≡ request ∷ []
   pub emptied : Mark
-  pub emptied_of_port : port emptied
+  pub of_port : port emptied
   pub nothing_sent : emptied.sent ≡ old.sent
   pub writes : emptied.writes ≤ old.writes + 121
-  pub replied : Mark
-  pub replied_of_port : port replied
-  pub sent : replied.sent ≡ new.sent
-  pub before : w.bounded request → replied.writes ≤ emptied.writes + w.before_answer s (w.debt emptied.reads) request
+  pub replied : IsReplied w port s request emptied new
 
 -- A turn, from the one moment to the other: these requests were answered, and all their answers sent. A turn with no
 -- request is a group that only does what is left to be done.
@@ -50,7 +52,7 @@ all_of (qs ∷ turns) = qs ++ all_of turns
 
 -- The first of these requests were answered by turns. Where that went well all were, and nothing was done behind the
 -- last turn.
-pub record Turns {Q T E : Type 0} (r : Result T E) (k : Service Q) (w : WorkCount Q k.States) (port : Mark → Type 0)
+pub record AnswersByTurns {Q T E : Type 0} (r : Result T E) (k : Service Q) (w : WorkCount Q k.States) (port : Mark → Type 0)
     (s t : k.States) (qs : List Q) (old new : Mark) : Type 0 where
   pub turns : List (List Q)
   pub rest : List Q
