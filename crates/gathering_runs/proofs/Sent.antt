@@ -1,10 +1,10 @@
 -- What was sent where a run stopped.
-use Rattle.std.proofs.Common.{◌≡◌, ◌≢◌, ◌⊎◌, inl, inr, ℕ, List, [], ◌∷◌, ◌++◌, refl, sym, ◌∙◌, ap, subst, append_assoc, append-nil}
+use Rattle.std.proofs.Common.{◌≡◌, ◌⊎◌, inl, inr, ℕ, List, [], ◌++◌, refl, sym, ◌∙◌, ap, subst, append_assoc, append-nil}
 use Rattle.std.proofs.Math.Logic.{∥∥₁_elim}
 use Rattle.std.proofs.lemmas.List.{append_cancel_left}
 use Rattle.std.specs.Coded.{coded_ℕ, coded_list}
 use base.Stored.{Coded-set}
-use Rattle.std.specs.Prelude.{Result, Ok, Err}
+use Rattle.std.specs.Prelude.{Result, Err}
 use Rattle.image_device.specs.Runs.{LeavesOnly}
 use Rattle.image_device.specs.View.{View, IsPart, IsSound}
 use Rattle.image_device.proofs.Moments.{ends_in}
@@ -18,7 +18,7 @@ use Rattle.serving.specs.Service.{IsCounted, Service}
 use Rattle.serving.proofs.Runs.{broken}
 use Rattle.gathering_runs.specs.Sent.{IsSentBy, IsSentInPart, IsSentWhole, SentInGroups}
 use Rattle.gathering_runs.specs.Turns.{StopsBy, status_by}
-use Rattle.gathering_runs.proofs.Joined.{run_joined, sent_joined, served_joined, served_none}
+use Rattle.gathering_runs.proofs.Joined.{run_joined, served_joined, served_none}
 use Rattle.serving.proofs.Runs.{texts-append}
 
 bytes_set : IsSet (List ℕ)
