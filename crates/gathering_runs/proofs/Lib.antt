@@ -2,6 +2,8 @@ mod Joined
 mod Handing
 mod Sent
 mod Turning
+mod ByTurns
+mod Rounds
 mod Grouped
 mod OnDevice
 mod Carried

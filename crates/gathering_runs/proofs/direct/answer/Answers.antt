@@ -1,9 +1,10 @@
-use Rattle.std.proofs.Common.{◌∷◌, [], sym, ◌∙◌, ap}
+use Rattle.std.proofs.Common.{◌∷◌, [], refl, sym, ◌∙◌, ap, arith}
 use Rattle.image_device.proofs.Outcomes.{unless_err}
 use Rattle.tsd_words.specs.declared.status.Status.TheVariants as status
 use Rattle.serving.specs.Voice.{spoken}
 use Rattle.gathering_runs.proofs.OnDevice.{left_applied, left_replied, sent_replied, went_replied, left_stayed, went_stayed}
 use Rattle.gathering_runs.proofs.Sent.{sent_none, sent_served}
+use Rattle.serving.specs.Prompt.{mark}
 use Rattle.gathering_runs.proofs.Turning.{turned_err, turned_ok}
 use Rattle.gathering_runs.proofs.direct.answer.Goals as goal
 
@@ -87,3 +88,14 @@ returns-clause-did g c told =
     turned_ok k part tt _ _ v0 v4 (c.args.request.now ∷ [])
     (went_stayed k part (g.H.Handler.aside c.settle_some.new.self) _ n v0 v3 v4 (c.args.request.now ∷ []) w3 (c.settle_some.ensures.aside ∙ c.apply.ensures.aside) (c.empty_ring.ensures.any_moment told) (c.empty_ring.ensures.aside_kept told)
     _ (g.met.P.Device.sound c.empty_ring.new.dev told) (unless_err c.empty_ring.result c.is_err-3.result c.if-is_err-3.false c.is_err-3.ensures.value (c.empty_ring.ensures.state told)) (c.empty_ring.ensures.sent told))
+
+pub returns-clause-prompt : goal.returns-clause-prompt
+returns-clause-prompt g c told = record {
+  replied = mark (g.P.Device.view c.put_reply.new.port);
+  of_port = (c.put_reply.new.port, refl);
+  sent = sym (c.empty_ring.ensures.sent told ∙ c.settle_some.ensures.sent told);
+  before = λ bounded.
+      let same = c.put_reply.ensures.puts.writes in
+      let few = c.in-Ok.ensures.before told bounded in
+      omega (arith, same, few);
+}

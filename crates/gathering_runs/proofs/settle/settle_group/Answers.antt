@@ -11,6 +11,8 @@ use Rattle.gathering_runs.proofs.Outcome.{err_is, ok_is, ok_or_err}
 use Rattle.gathering_runs.specs.Sent.{IsSentBy}
 use Rattle.gathering_runs.specs.Turns.{status_by}
 use Rattle.gathering_runs.proofs.Sent.{sent_given_up, sent_none, unsent_by}
+use Rattle.serving.specs.Prompt.{IsOfPort, mark}
+use Rattle.gathering_runs.proofs.ByTurns.{one_turn, turns_none, turns_ok}
 use Rattle.gathering_runs.proofs.Turning.{turned_err, turned_ok}
 use Rattle.gathering_runs.proofs.settle.settle_group.Goals as goal
 
@@ -108,3 +110,16 @@ returns-in-Err-clause-did g c told =
           left_given_up k (g.H.Handler.aside h0) start v new (λ u x y has. g.met.H.GroupHandler.alike u x y has) (λ x y has. g.met.H.GroupHandler.aside_alike h0 x y has) s held [] []
           (e2.given_up told (gathered_badly _ _ _ _ e0.faults e0.put_faults (err_is r _ bad.1 (failed_of _ r _ _ e1.faults))))
     ])
+
+pub returns-in-Ok-clause-turns : goal.returns-in-Ok-clause-turns
+returns-in-Ok-clause-turns g c told =
+    let k = spoken g.H.Handler.rules g.R.Replies.voice in
+    let start = g.K.Began.start in
+    let new = g.P.Device.view c.flush-inner.result.inner in
+    let s = g.H.Handler.state c.args.server.now (cleared start.reads) in
+    let t = g.H.Handler.state c.settle_few-settled.new.server (cleared new.reads) in
+    turns_ok k g.H.Handler.work (IsOfPort g.P.Device.view) _ s t [] (mark start) (mark new)
+    (one_turn k g.H.Handler.work (IsOfPort g.P.Device.view) s t [] (mark start) (mark new) (c.flush-inner.result.inner, refl) (returns-in-Ok-clause-did g c told).served (inl c.flush-inner.ensures.bounded))
+
+pub returns-in-Err-clause-turns : goal.returns-in-Err-clause-turns
+returns-in-Err-clause-turns g c told = turns_none (spoken g.H.Handler.rules g.R.Replies.voice) g.H.Handler.work (IsOfPort g.P.Device.view) _ _ _ [] _ _
