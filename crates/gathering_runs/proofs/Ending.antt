@@ -8,25 +8,29 @@ use Rattle.tsd_words.specs.declared.status.Status.{Status}
 use Rattle.tsd_words.specs.declared.status.Status.TheVariants as status
 use Rattle.serving.specs.Goes.{Handed}
 use Rattle.serving.specs.Input.{Spelling, IsSpelling}
+use Rattle.serving.specs.Prompt.{IsCutShort}
 use Rattle.serving.specs.Ran.{AskedBy}
 use Rattle.serving.specs.Service.{Service}
 use Rattle.serving.specs.declared.intake.Intake.{Intake}
 use Rattle.serving.proofs.Inputs.{asked_stopped}
 use Rattle.gathering_runs.specs.Promise.{IsLeftByRun}
-use Rattle.gathering_runs.specs.Run.{AnsweredAll, AskedInGroups}
+use Rattle.gathering_runs.specs.Run.{AskedInGroups}
 use Rattle.gathering_runs.specs.Turns.{StopsBy}
 use Rattle.gathering_runs.proofs.Joined.{of_earlier}
 
--- where it stops, not all that was asked need be answered
-pub not_answered : (why : Status) → StopsBy why → AnsweredAll why → ⊥
-not_answered why (inl e) all = subst AnsweredAll e all
-not_answered why (inr (inl e)) all = subst AnsweredAll e all
-not_answered why (inr (inr e)) all = subst AnsweredAll e all
+-- where it stops, the input isn't cut short
+pub not_cut : (why : Status) → StopsBy why → IsCutShort why → ⊥
+not_cut why (inl e) cut = subst IsCutShort e cut
+not_cut why (inr (inl e)) cut = subst IsCutShort e cut
+not_cut why (inr (inr e)) cut = subst IsCutShort e cut
 
+-- where it stops, not all is done
 pub not_done : (why : Status) → StopsBy why → why ≡ status.Done → ⊥
-not_done why stops done = not_answered why stops (subst AnsweredAll (sym done) tt)
+not_done why (inl e) done = cc
+not_done why (inr (inl e)) done = cc
+not_done why (inr (inr e)) done = cc
 
-take_none : (n : ℕ) → take {A = ℕ} n [] ≡ []
+pub take_none : (n : ℕ) → take {A = ℕ} n [] ≡ []
 take_none zero = refl
 take_none (suc n) = refl
 

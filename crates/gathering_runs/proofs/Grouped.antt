@@ -17,6 +17,11 @@ use Rattle.gathering.specs.Gathered.{cleared, AreClosed}
 use Rattle.gathering.specs.Left.{Moment, moment_of, IsHomeOf, IsLeftAtStart, IsLeftByGroup, IsSentBetween}
 use Rattle.gathering.proofs.Closed.{cleared_closed, cleared_home, closed_home, closed_valid}
 use Rattle.gathering_runs.specs.Promise.{IsLeftByRun, IsOfPrefix}
+use Rattle.gathering.specs.declared.flush.FlushFault.{FlushFault}
+use Rattle.gathering.specs.declared.flush.FlushFault.TheVariants as fault
+use Rattle.gathering_runs.specs.Sent.{IsSentBy}
+use Rattle.gathering_runs.specs.Turns.{status_by}
+use Rattle.gathering_runs.proofs.Sent.{sent_flushed}
 use Rattle.gathering_runs.proofs.Joined.{of_all, of_earlier, of_none}
 use Rattle.gathering_runs.proofs.Turning.{Went}
 
@@ -85,6 +90,9 @@ module _ {Q : Type 0} (k : Service Q) (part : Image → Image) (start v new : Vi
         (λ x f left.
         let p = all_count k part alike part_alike (moment_of start) s held qs (moment_of v) t from_start stands closed part_start x f left in
         (of_earlier k s start.sent qs more x f p.0, p.1))
+
+    pub sent_by_flush : (e : FlushFault) → ((e ≡ fault.Device) ⊎ (e ≡ fault.Room) → new.sent ≡ start.sent) → (e ≡ fault.Put → IsSentBetween start.sent v.sent new.sent) → IsSentBy (status_by e) k s start.sent (qs ++ more) new.sent
+    sent_by_flush e unsent put = sent_flushed k e s t start v new qs more from_start unsent put
 
     pub went_flushed : (u : k.States) (ring : List JournalRecord) → more ≡ [] → ∥ LeavesOnly start new (IsLeftByGroup (moment_of start) (moment_of v)) ∥₁ → AgreeBut is_journal v.reads (home new.reads) → IsRingAt ring new → new.sent ≡ v.sent → u ≡ t → Went k part s u start new qs
     went_flushed u ring none leaves done ring_at sent same = record {

@@ -8,13 +8,13 @@ use Rattle.serving.proofs.Runs.{texts-append}
 use Rattle.gathering_runs.specs.Promise.{IsOfPrefix}
 
 module _ {Q : Type 0} (k : Service Q) where
-  run_joined : (qs more : List Q) (xs ys : List (List ℕ)) (s m t : k.States) → Run k s qs xs m → Run k m more ys t → Run k s (qs ++ more) (xs ++ ys) t
+  pub run_joined : (qs more : List Q) (xs ys : List (List ℕ)) (s m t : k.States) → Run k s qs xs m → Run k m more ys t → Run k s (qs ++ more) (xs ++ ys) t
   run_joined [] more [] ys s m t a b = subst (λ (z : k.States). Run k z more ys t) (sym a) b
   run_joined [] more (x ∷ xs) ys s m t a b = absurd a
   run_joined (q ∷ qs) more [] ys s m t a b = absurd a
   run_joined (q ∷ qs) more (x ∷ xs) ys s m t a b = (a.0, a.1, run_joined qs more xs ys a.0 m t a.2 b)
 
-  sent_joined : (before mid now : List ℕ) (xs ys : List (List ℕ)) → mid ≡ before ++ texts xs → now ≡ mid ++ texts ys → now ≡ before ++ texts (xs ++ ys)
+  pub sent_joined : (before mid now : List ℕ) (xs ys : List (List ℕ)) → mid ≡ before ++ texts xs → now ≡ mid ++ texts ys → now ≡ before ++ texts (xs ++ ys)
   sent_joined before mid now xs ys one two =
       two ∙ ap (λ l. l ++ texts ys) one ∙ append_assoc before (texts xs) (texts ys) ∙ ap (λ l. before ++ l) (sym (texts-append xs ys))
 

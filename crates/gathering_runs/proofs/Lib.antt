@@ -1,6 +1,9 @@
 mod Joined
 mod Handing
+mod Sent
 mod Turning
+mod ByTurns
+mod Rounds
 mod Grouped
 mod OnDevice
 mod Carried

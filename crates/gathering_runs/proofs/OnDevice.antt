@@ -3,7 +3,7 @@ use Rattle.std.proofs.Common.{◌≡◌, inl, inr, ℕ, ◌||◌, List, [], ◌�
 use Rattle.image_device.specs.Image.{Image}
 use Rattle.image_device.specs.View.{View, IsLeftInPut, IsSound}
 use Rattle.image_device.specs.Runs.{IsFirm, LeavesOnly, LeavesPart}
-use Rattle.image_device.proofs.Moments.{firm_image, leaves_both, weakened}
+use Rattle.image_device.proofs.Moments.{ends_in, firm_image, leaves_both, weakened}
 use Rattle.image_device.proofs.Parts.{part_at_end}
 use Rattle.intent_journal.specs.Crash.{IsBefore}
 use Rattle.intent_journal.specs.Home.{home}
@@ -19,6 +19,9 @@ use Rattle.gathering_runs.specs.Promise.{IsLeftByRun, IsOfPrefix}
 use Rattle.gathering_runs.proofs.Grouped.{home_cleared}
 use Rattle.gathering_runs.proofs.Joined.{of_all, of_none}
 use Rattle.gathering.proofs.Merely.{joined_mere}
+use Rattle.tsd_words.specs.declared.status.Status.TheVariants as status
+use Rattle.gathering_runs.specs.Sent.{IsSentBy}
+use Rattle.gathering_runs.proofs.Sent.{sent_part}
 use Rattle.gathering_runs.proofs.Turning.{Went, left_then, went_then}
 
 module _ {Q : Type 0} (k : Service Q) (part : Image → Image) (s : k.States) (old new : View) where
@@ -54,6 +57,14 @@ module _ {Q : Type 0} (k : Service Q) (part : Image → Image) (s : k.States) (o
       kept = kept;
       any_moment = left_in_place [] leaves;
     }
+
+-- the put of a reply failed
+pub sent_replied : (rules : DiskRules) (voice : Voice) (s t : rules.States) (q : Request) (old new end : View) (r : Reply) → rules.gives s q r t → IsSound end → new.sent ≡ old.sent → LeavesOnly new end (IsLeftInPut (voice.text r) new)
+    → IsSentBy status.PutFault (spoken rules voice) s old.sent (q ∷ []) end.sent
+sent_replied rules voice s t q old new end r given sound sent puts =
+    let p = (ends_in new end (IsLeftInPut (voice.text r) new) sound puts).1 in
+    sent_part (spoken rules voice) s t old.sent end.sent (q ∷ []) [] (voice.text r ∷ []) (t, (r, refl, given), refl)
+    (record { front = p.front; back = p.back; sent = p.sent ∙ ap (λ l. l ++ p.front) sent; whole = append-nil (voice.text r) ∙ p.whole })
 
 -- ---- a request and its reply
 module _ (rules : DiskRules) (voice : Voice) (part : Image → Image) (s : rules.States) (q : Request) (old new : View) where

@@ -1,6 +1,6 @@
 -- What the outcome of a call tells.
 use Rattle.std.proofs.Common.{◌≡◌, ◌⊎◌, inl, inr, ℕ, refl, subst}
-use Rattle.std.specs.Prelude.{Result, Ok, Err, OnOk, OnErr, IfErr}
+use Rattle.std.specs.Prelude.{Result, Ok, Err, OnOk, OnErr, IfOk, IfErr}
 use Rattle.image_device.specs.Counts.{CountsFaultOf}
 
 pub ok_is : {T E P : Type 0} (r : Result T E) (x : T) → r ≡ Ok x → OnOk r P → P
@@ -26,3 +26,10 @@ err_is_if P (Err e) x is p = subst (λ y. P y) (err_same e x is) p
   where
     err_same : {T E : Type 0} (a b : E) → ◌≡◌ {A = Result T E} (Err a) (Err b) → a ≡ b
     err_same a b same = cc
+
+pub ok_is_if : {T E : Type 0} (P : T → Type 0) (r : Result T E) (x : T) → r ≡ Ok x → IfOk r P → P x
+ok_is_if P (Ok y) x is p = subst (λ z. P z) (ok_same y x is) p
+  where
+    ok_same : {T E : Type 0} (a b : T) → ◌≡◌ {A = Result T E} (Ok a) (Ok b) → a ≡ b
+    ok_same a b same = cc
+ok_is_if P (Err e) x is p = absurd (cc)

@@ -16,7 +16,11 @@ use Rattle.gathering.proofs.Merely.{joined_mere, weakened_mere}
 use Rattle.serving.specs.Runs.{Run, Served}
 use Rattle.serving.specs.Service.{Service}
 use Rattle.gathering_runs.specs.Promise.{IsLeftByRun}
+use Rattle.gathering_runs.specs.Sent.{IsSentBy}
 use Rattle.gathering_runs.specs.Turns.{Turned}
+use Rattle.tsd_words.specs.declared.status.Status.{Status}
+use Rattle.gathering_runs.proofs.Outcome.{err_is_if}
+use Rattle.gathering_runs.proofs.Sent.{sent_then}
 use Rattle.gathering_runs.proofs.Joined.{of_earlier, of_later, of_none, served_joined}
 
 module _ {Q : Type 0} (k : Service Q) (part : Image → Image) where
@@ -26,15 +30,15 @@ module _ {Q : Type 0} (k : Service Q) (part : Image → Image) where
     pub kept : part new.reads ≡ part old.reads
     pub any_moment : ∥ LeavesOnly old new (IsLeftByRun k part s old qs) ∥₁
 
-  pub went : {T E : Type 0} (r : Result T E) (x : T) (s t : k.States) (old new : View) (qs : List Q) → r ≡ Ok x → Turned r k part s t old new qs → Went s t old new qs
+  pub went : {T : Type 0} (r : Result T Status) (x : T) (s t : k.States) (old new : View) (qs : List Q) → r ≡ Ok x → Turned r k part s t old new qs → Went s t old new qs
   went (Ok y) x s t old new qs is turned = record { served = turned.served; kept = turned.kept; any_moment = turned.any_moment }
   went (Err e) x s t old new qs is turned = absurd (cc)
 
-  pub turned_ok : {T E : Type 0} (x : T) (s t : k.States) (old new : View) (qs : List Q) → Went s t old new qs → Turned {Q = Q} {T = T} {E = E} (Ok x) k part s t old new qs
-  turned_ok x s t old new qs w = record { served = w.served; kept = w.kept; any_moment = w.any_moment }
+  pub turned_ok : {T : Type 0} (x : T) (s t : k.States) (old new : View) (qs : List Q) → Went s t old new qs → Turned {Q = Q} {T = T} (Ok x) k part s t old new qs
+  turned_ok x s t old new qs w = record { served = w.served; stopped = tt; kept = w.kept; any_moment = w.any_moment }
 
-  pub turned_err : {T E : Type 0} (e : E) (s t : k.States) (old new : View) (qs : List Q) → ∥ LeavesOnly old new (IsLeftByRun k part s old qs) ∥₁ → Turned {Q = Q} {T = T} {E = E} (Err e) k part s t old new qs
-  turned_err e s t old new qs left = record { served = tt; kept = tt; any_moment = left }
+  pub turned_err : {T : Type 0} (e : Status) (s t : k.States) (old new : View) (qs : List Q) → IsSentBy e k s old.sent qs new.sent → ∥ LeavesOnly old new (IsLeftByRun k part s old qs) ∥₁ → Turned {Q = Q} {T = T} (Err e) k part s t old new qs
+  turned_err e s t old new qs sent left = record { served = tt; stopped = sent; kept = tt; any_moment = left }
 
   -- nothing was done
   pub went_nowhere : (s : k.States) (v : View) → IsSound v → IsFirm v → k.stands s v.reads → Went s s v v []
@@ -58,18 +62,23 @@ module _ {Q : Type 0} (k : Service Q) (part : Image → Image) where
     any_moment = left_then s m old mid new qs more a b.any_moment;
   }
 
-  pub turned_then : {T E : Type 0} (r : Result T E) (s m t : k.States) (old mid new : View) (qs more : List Q) → Went s m old mid qs → Turned r k part m t mid new more → Turned r k part s t old new (qs ++ more)
+  -- what was sent where it stopped then
+  pub sent_turned : {T : Type 0} (r : Result T Status) (e : Status) (s m t : k.States) (old mid new : View) (qs more : List Q) → r ≡ Err e → Went s m old mid qs → Turned r k part m t mid new more → IsSentBy e k s old.sent (qs ++ more) new.sent
+  sent_turned r e s m t old mid new qs more is a b = sent_then k e s m old.sent mid.sent new.sent qs more a.served (err_is_if (λ w. IsSentBy w k m mid.sent more new.sent) r e is b.stopped)
+
+  pub turned_then : {T : Type 0} (r : Result T Status) (s m t : k.States) (old mid new : View) (qs more : List Q) → Went s m old mid qs → Turned r k part m t mid new more → Turned r k part s t old new (qs ++ more)
   turned_then (Ok x) s m t old mid new qs more a b = turned_ok x s t old new (qs ++ more) (went_then s m t old mid new qs more a (went (Ok x) x m t mid new more refl b))
-  turned_then (Err e) s m t old mid new qs more a b = turned_err e s t old new (qs ++ more) (left_then s m old mid new qs more a b.any_moment)
+  turned_then (Err e) s m t old mid new qs more a b = turned_err e s t old new (qs ++ more) (sent_then k e s m old.sent mid.sent new.sent qs more a.served b.stopped) (left_then s m old mid new qs more a b.any_moment)
 
   -- the state at the end by another name
-  pub turned_to : {T E : Type 0} (r : Result T E) (s t u : k.States) (old new : View) (qs : List Q) → Turned r k part s t old new qs → OnOk r (u ≡ t) → Turned r k part s u old new qs
+  pub turned_to : {T : Type 0} (r : Result T Status) (s t u : k.States) (old new : View) (qs : List Q) → Turned r k part s t old new qs → OnOk r (u ≡ t) → Turned r k part s u old new qs
   turned_to (Ok x) s t u old new qs turned same = record {
+    stopped = tt;
     served = record { answers = turned.served.answers; run = subst (λ (z : k.States). Run k s qs turned.served.answers z) (sym same) turned.served.run; sent = turned.served.sent };
     kept = turned.kept;
     any_moment = turned.any_moment;
   }
-  turned_to (Err e) s t u old new qs turned same = turned_err e s u old new qs turned.any_moment
+  turned_to (Err e) s t u old new qs turned same = turned_err e s u old new qs turned.stopped turned.any_moment
 
   -- nothing was done between two groups
   pub went_between : (alike : (s : k.States) (x y : Image) → IsHomeOf (home x) y → k.stands s x → k.stands s y) (s : k.States) (v : View) (ring : List JournalRecord) → IsSound v → IsFirm v → IsRingAt ring v → k.stands s (cleared v.reads) → Went s s v v []

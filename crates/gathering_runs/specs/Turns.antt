@@ -1,5 +1,5 @@
 -- One group of requests, or one request on the device itself.
-use Rattle.std.specs.Prelude.{◌≡◌, ◌⊎◌, ℕ, Bool, true, false, List, [], ◌++◌, Result, Ok, Err, OnOk}
+use Rattle.std.specs.Prelude.{◌≡◌, ◌⊎◌, ℕ, Bool, true, false, List, [], ◌++◌, Result, Ok, Err, OnOk, IfErr}
 use Rattle.image_device.specs.Image.{Image}
 use Rattle.image_device.specs.Runs.{IsFirm, LeavesOnly}
 use Rattle.image_device.specs.View.{View}
@@ -16,6 +16,7 @@ use Rattle.serving.specs.declared.intake.Intake.{Intake}
 use Rattle.gathering.specs.declared.flush.FlushFault.{FlushFault}
 use Rattle.gathering.specs.declared.flush.FlushFault.TheVariants as fault
 use Rattle.gathering_runs.specs.Promise.{IsLeftByRun}
+use Rattle.gathering_runs.specs.Sent.{IsSentBy}
 
 -- What stands between two groups: nothing is loose, these are the records of the device, and what is held in memory
 -- fits what it stands for, with a closed journal.
@@ -33,11 +34,13 @@ pub record HandsOut {Q : Type 0} (p : Spelling Q) (was_fed fed : List ℕ → Ty
   pub reads : old.over ≡ false → (bytes : List ℕ) (before : List Q) → Reads p was_fed old bytes before
       → Reads p fed new bytes (before ++ qs)
 
--- Requests were carried out between these moments. Where that went well all were answered, and the answers sent. A
--- crash at any moment of it left an image of the state after some of them, with no more sent than the answers to those.
-pub record Turned {Q T E : Type 0} (r : Result T E) (k : Service Q) (part : Image → Image) (s t : k.States)
+-- Requests were carried out between these moments. Where that went well all were answered, and the answers sent; where
+-- it stopped, this was sent of them. A crash at any moment of it left an image of the state after some of them, with no
+-- more sent than the answers to those.
+pub record Turned {Q T : Type 0} (r : Result T Status) (k : Service Q) (part : Image → Image) (s t : k.States)
     (old new : View) (qs : List Q) : Type 0 where
   pub served : OnOk r (Served k s old.sent qs t new.sent)
+  pub stopped : IfErr r (λ why. IsSentBy why k s old.sent qs new.sent)
   -- what no request touches reads as before
   pub kept : OnOk r (part new.reads ≡ part old.reads)
   pub any_moment : ∥ LeavesOnly old new (IsLeftByRun k part s old qs) ∥₁

@@ -8,7 +8,9 @@ ghost use Rattle.intent_journal.specs.Home.{home, is_journal, AgreeBut};
 ghost use Rattle.intent_journal.specs.Ring.{IsRingAt};
 ghost use Rattle.gathering.specs.Gathered.{cleared, AreClosed};
 ghost use Rattle.serving.specs.Handling.{FitsDevice};
+ghost use Rattle.serving.specs.Prompt.{IsOfPort, mark};
 ghost use Rattle.serving.specs.Voice.{spoken};
+ghost use Rattle.gathering_runs.specs.ByTurns.{AnswersByTurns, IsReplied};
 ghost use Rattle.gathering_runs.specs.Turns.{StandsBetween, StopsBy, Turned};
 
 use crate::group::Disk;
@@ -31,6 +33,10 @@ pub(crate) fn serve_direct<P: Port, R: Protocol<Request = Request> + Replies, H:
         (H.state server.old (cleared (P.view disk.old.port).reads))
         (H.state server.new (cleared (P.view disk.new.port).reads)) (P.view disk.old.port) (P.view disk.new.port)
         (request.now ∷ []) }
+    ensures turns { P.told → AnswersByTurns result (spoken H.rules R.voice) H.work (IsOfPort P.view)
+        (H.state server.old (cleared (P.view disk.old.port).reads))
+        (H.state server.new (cleared (P.view disk.new.port).reads)) (request.now ∷ []) (mark (P.view disk.old.port))
+        (mark (P.view disk.new.port)) }
     ensures aside { H.aside server.new ≡ H.aside server.old }
     ensures ready { OnOk result (H.is_ready server.new) }
     ensures between { P.told → OnOk result (StandsBetween (H.holds server.new) disk.new.ring (P.view disk.new.port)) }
@@ -75,6 +81,8 @@ fn answer<P: Port, R: Protocol<Request = Request> + Replies, H: GroupHandler>(
     ensures did { P.told → Turned result (spoken H.rules R.voice) (H.aside server.old)
         (H.state server.old (P.view port.old).reads) (H.state server.new (P.view port.new).reads) (P.view port.old)
         (P.view port.new) (request.now ∷ []) }
+    ensures prompt { P.told → OnOk result (IsReplied H.work (IsOfPort P.view) (H.state server.old (P.view port.old).reads)
+        request.now (mark (P.view port.old)) (mark (P.view port.new))) }
     ensures aside { H.aside server.new ≡ H.aside server.old }
     ensures ready { OnOk result (H.is_ready server.new) }
     ensures at { P.told → OnOk result (FitsDevice (H.holds server.new) (P.view port.new)) }

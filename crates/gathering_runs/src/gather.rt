@@ -1,8 +1,8 @@
 // Requests carried out on a disk in memory.
-ghost use Rattle.std.specs.Prelude.{◌≡◌, ◌<◌, ◌≤◌, ◌++◌, ◌⊎◌, ◌∷◌, [], ℕ, List, Ok, OnOk, OnErr, IfOk, true, unwrap_or};
+ghost use Rattle.std.specs.Prelude.{◌≡◌, ◌<◌, ◌≤◌, ◌++◌, ◌⊎◌, ◌∷◌, [], ℕ, List, Ok, OnOk, OnErr, IfOk, true, false, unwrap_or};
 ghost use Rattle.image_device.specs.Counts.{Rose};
 ghost use Rattle.gathering.specs.Gathered.{AreClosed};
-ghost use Rattle.serving.specs.Goes.{remaining};
+ghost use Rattle.serving.specs.Goes.{remaining, unread};
 ghost use Rattle.serving.specs.Handling.{FitsDevice};
 ghost use Rattle.serving.specs.Runs.{Served};
 ghost use Rattle.serving.specs.Voice.{spoken};
@@ -37,6 +37,8 @@ pub(crate) fn gather<R: Protocol<Request = Request> + Replies, H: GroupHandler, 
         (G.view port.old).sent (request.old ∷ done) (H.state server.new (G.view port.new).reads)
         (G.view port.new).sent)) }
     ensures less { IfOk result (λ waits. waits ≡ true → remaining intake.new < remaining intake.old) }
+    // Where none waits, all bytes that were taken are read.
+    ensures read { IfOk result (λ waits. waits ≡ false → intake.old.over ≡ false → unread intake.new ≡ []) }
     ensures fewer { remaining intake.new ≤ remaining intake.old }
     ensures aside { H.aside server.new ≡ H.aside server.old }
     ensures ready { OnOk result (H.is_ready server.new) }

@@ -1,10 +1,12 @@
 // One group, from its first request to its flush.
-ghost use Rattle.std.specs.Prelude.{◌≡◌, ◌<◌, ◌≤◌, ◌++◌, ◌∷◌, [], List, OnOk, IfOk, IfErr, true};
+ghost use Rattle.std.specs.Prelude.{◌≡◌, ◌<◌, ◌≤◌, ◌++◌, ◌∷◌, [], List, OnOk, IfOk, IfErr, true, false};
 ghost use Rattle.image_device.specs.Calls.{Uses};
 ghost use Rattle.image_device.specs.Counts.{CountsFaultOf};
 ghost use Rattle.gathering.specs.Gathered.{cleared, HasRested};
-ghost use Rattle.serving.specs.Goes.{remaining};
+ghost use Rattle.serving.specs.Goes.{remaining, unread};
+ghost use Rattle.serving.specs.Prompt.{IsOfPort, mark};
 ghost use Rattle.serving.specs.Voice.{spoken};
+ghost use Rattle.gathering_runs.specs.ByTurns.{AnswersByTurns};
 ghost use Rattle.gathering_runs.specs.Turns.{HandsOut, StandsBetween, StopsBy, Turned, waits_by, status_by};
 ghost use Rattle.tsd_model.specs.declared.requests.Request.{Request as Asked};
 
@@ -48,8 +50,13 @@ pub(crate) fn serve_group<
         (λ x. R.was_fed x protocol.new) intake.old intake.new (done ++ waits_by result.1 request.new)
         × (P.told → Turned result.1 (spoken H.rules R.voice) (H.aside server.old)
         (H.state server.old (cleared K.start.reads)) (H.state server.new (cleared (P.view result.0.port).reads)) K.start
-        (P.view result.0.port) (request.old ∷ done)) }
+        (P.view result.0.port) (request.old ∷ done))
+        × (P.told → AnswersByTurns result.1 (spoken H.rules R.voice) H.work (IsOfPort P.view)
+        (H.state server.old (cleared K.start.reads)) (H.state server.new (cleared (P.view result.0.port).reads))
+        (request.old ∷ done) (mark K.start) (mark (P.view result.0.port))) }
     ensures less { IfOk result.1 (λ waits. waits ≡ true → remaining intake.new < remaining intake.old) }
+    // Where none waits, all bytes that were taken are read.
+    ensures read { IfOk result.1 (λ waits. waits ≡ false → intake.old.over ≡ false → unread intake.new ≡ []) }
     ensures fewer { remaining intake.new ≤ remaining intake.old }
     ensures aside { H.aside server.new ≡ H.aside server.old }
     ensures ready { OnOk result.1 (H.is_ready server.new) }

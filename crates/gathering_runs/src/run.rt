@@ -4,8 +4,10 @@ ghost use Rattle.std.specs.Prelude.{◌≡◌, ◌≢◌, ◌≤◌, [], OnOk, I
 ghost use Rattle.image_device.specs.Counts.{CountsFaultOf, Rose};
 ghost use Rattle.gathering.specs.Gathered.{cleared};
 ghost use Rattle.serving.specs.Handling.{FitsDevice};
+ghost use Rattle.serving.specs.Prompt.{IsOfPort, mark};
 ghost use Rattle.serving.specs.Ran.{EndsOnce, moments, taking};
 ghost use Rattle.serving.specs.Voice.{spoken};
+ghost use Rattle.gathering_runs.specs.Rounds.{RanByRounds};
 ghost use Rattle.gathering_runs.specs.Run.{RanInGroups};
 ghost use Rattle.gathering_runs.specs.Turns.{StandsBetween, StopsBy, Turned};
 
@@ -28,7 +30,8 @@ use tsd_words::Status;
 /// a group had no room, TooLong where a byte after the first `limit` came, or Truncated where the input ended inside a
 /// request.
 ///
-/// That no reply waits for a further take is shown by the code, and no clause says it.
+/// Between two rounds (`rounds`) the loop takes more input, and at no other time: that is shown by the code, since a
+/// source and a port have no clock together.
 pub fn serve_in_groups<
     S: Source,
     P: Port,
@@ -55,6 +58,15 @@ pub fn serve_in_groups<
     ensures ran { RanInGroups result.1 (spoken H.rules R.voice) R.spelling (H.aside server.old)
         (H.state server.old (P.view port).reads) (H.state server.new (P.view result.0).reads) limit
         (taking S.told S.taken S.left_bytes S.ended source.old source.new) (moments P.told P.view port result.0) }
+    // Round by round: no request that is whole waits while more input is taken.
+    /// promise: **Round by round**: bytes came, and then all requests were answered by turns, and their replies sent,
+    /// that were whole in what had come. A turn is a group, with at most 236 writes from its first call to its last
+    /// reply, or a request on the device itself. Of what comes in a round but the last 65,536 bytes make one request
+    /// whole at most. Where the input was cut short, nothing was written or sent behind the last round.
+    ensures rounds { P.told → RanByRounds result.1 (spoken H.rules R.voice) H.work (IsOfPort P.view) R.spelling limit
+        (H.state server.old (P.view port).reads)
+        (taking S.told S.taken S.left_bytes S.ended source.old source.new) (mark (P.view port))
+        (mark (P.view result.0)) }
     /// promise (with closed): After Done nothing is loose, what is held in memory fits the device, all that was left to
     /// be done is done, and the gates of the journal are closed.
     ensures at { result.1 ≡ Status.Done → P.told → FitsDevice (H.holds server.new) (P.view result.0) }
@@ -121,6 +133,7 @@ fn begin<P: Port, R: Protocol<Request = Request> + Replies, H: GroupHandler>(
     ensures did { P.told → Turned result (spoken H.rules R.voice) (H.aside server.old)
         (H.state server.old (P.view port.old).reads) (H.state server.new (cleared (P.view port.new).reads))
         (P.view port.old) (P.view port.new) [] }
+    ensures sent { P.told → (P.view port.new).sent ≡ (P.view port.old).sent }
     ensures aside { H.aside server.new ≡ H.aside server.old }
     ensures ready { OnOk result (H.is_ready server.new) }
     ensures between { P.told → IfOk result (λ rooms. StandsBetween (H.holds server.new) rooms.0 (P.view port.new)) }

@@ -4,7 +4,9 @@ ghost use Rattle.image_device.specs.Calls.{Uses};
 ghost use Rattle.image_device.specs.Counts.{CountsFault, CountsFaultOf};
 ghost use Rattle.gathering.specs.Gathered.{cleared, AreClosed, HasRested};
 ghost use Rattle.serving.specs.Handling.{FitsDevice};
+ghost use Rattle.serving.specs.Prompt.{IsOfPort, mark};
 ghost use Rattle.serving.specs.Voice.{spoken};
+ghost use Rattle.gathering_runs.specs.ByTurns.{AnswersByTurns};
 ghost use Rattle.gathering_runs.specs.Turns.{StandsBetween, StopsBy, Turned};
 
 use crate::group::{Disk, status_of};
@@ -30,6 +32,10 @@ pub(crate) fn settle_in_groups<P: Port, R: Protocol<Request = Request> + Replies
     ensures did { P.told → Turned result.1 (spoken H.rules R.voice) (H.aside server.old)
         (H.state server.old (cleared (P.view disk.port).reads))
         (H.state server.new (cleared (P.view result.0.port).reads)) (P.view disk.port) (P.view result.0.port) [] }
+    ensures turns { P.told → AnswersByTurns result.1 (spoken H.rules R.voice) H.work (IsOfPort P.view)
+        (H.state server.old (cleared (P.view disk.port).reads))
+        (H.state server.new (cleared (P.view result.0.port).reads)) [] (mark (P.view disk.port))
+        (mark (P.view result.0.port)) }
     ensures aside { H.aside server.new ≡ H.aside server.old }
     ensures ready { OnOk result.1 (H.is_ready server.new) }
     ensures between { P.told → OnOk result.1 (StandsBetween (H.holds server.new) result.0.ring
@@ -66,6 +72,9 @@ fn settle_group<P: Port, R: Protocol<Request = Request> + Replies, H: GroupHandl
     ensures did { P.told → Turned result.1 (spoken H.rules R.voice) (H.aside server.old)
         (H.state server.old (cleared K.start.reads)) (H.state server.new (cleared (P.view result.0.port).reads)) K.start
         (P.view result.0.port) [] }
+    ensures turns { P.told → AnswersByTurns result.1 (spoken H.rules R.voice) H.work (IsOfPort P.view)
+        (H.state server.old (cleared K.start.reads)) (H.state server.new (cleared (P.view result.0.port).reads)) []
+        (mark K.start) (mark (P.view result.0.port)) }
     ensures aside { H.aside server.new ≡ H.aside server.old }
     ensures ready { OnOk result.1 (H.is_ready server.new) }
     ensures between { P.told → OnOk result.1 (StandsBetween (H.holds server.new) result.0.ring

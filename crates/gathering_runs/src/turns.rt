@@ -1,9 +1,11 @@
 // Turns: groups, and requests on the device itself, one after another.
-ghost use Rattle.std.specs.Prelude.{◌≡◌, ◌<◌, ◌≤◌, ◌++◌, ◌∷◌, [], List, OnOk, IfOk, IfErr, true};
+ghost use Rattle.std.specs.Prelude.{◌≡◌, ◌<◌, ◌≤◌, ◌++◌, ◌∷◌, [], List, OnOk, IfOk, IfErr, true, false};
 ghost use Rattle.image_device.specs.Counts.{CountsFaultOf};
 ghost use Rattle.gathering.specs.Gathered.{cleared};
-ghost use Rattle.serving.specs.Goes.{remaining};
+ghost use Rattle.serving.specs.Goes.{remaining, unread};
+ghost use Rattle.serving.specs.Prompt.{IsOfPort, mark};
 ghost use Rattle.serving.specs.Voice.{spoken};
+ghost use Rattle.gathering_runs.specs.ByTurns.{AnswersByTurns};
 ghost use Rattle.gathering_runs.specs.Turns.{HandsOut, StandsBetween, StopsBy, Turned, waits_by};
 ghost use Rattle.tsd_model.specs.declared.requests.Request.{Request as Asked};
 
@@ -33,7 +35,13 @@ pub(crate) fn serve_in_hand<P: Port, R: Protocol<Request = Request> + Replies, H
         × (P.told → Turned result.1 (spoken H.rules R.voice) (H.aside server.old)
         (H.state server.old (cleared (P.view disk.port).reads))
         (H.state server.new (cleared (P.view result.0.port).reads)) (P.view disk.port) (P.view result.0.port)
-        (request.old ∷ done)) }
+        (request.old ∷ done))
+        × (P.told → AnswersByTurns result.1 (spoken H.rules R.voice) H.work (IsOfPort P.view)
+        (H.state server.old (cleared (P.view disk.port).reads))
+        (H.state server.new (cleared (P.view result.0.port).reads)) (request.old ∷ done) (mark (P.view disk.port))
+        (mark (P.view result.0.port))) }
+    // All bytes that were taken are read.
+    ensures read { OnOk result.1 (intake.old.over ≡ false → unread intake.new ≡ []) }
     ensures fewer { remaining intake.new ≤ remaining intake.old }
     ensures aside { H.aside server.new ≡ H.aside server.old }
     ensures ready { OnOk result.1 (H.is_ready server.new) }
@@ -73,8 +81,13 @@ fn serve_turn<P: Port, R: Protocol<Request = Request> + Replies, H: GroupHandler
         × (P.told → Turned result.1 (spoken H.rules R.voice) (H.aside server.old)
         (H.state server.old (cleared (P.view disk.port).reads))
         (H.state server.new (cleared (P.view result.0.port).reads)) (P.view disk.port) (P.view result.0.port)
-        (request.old ∷ done)) }
+        (request.old ∷ done))
+        × (P.told → AnswersByTurns result.1 (spoken H.rules R.voice) H.work (IsOfPort P.view)
+        (H.state server.old (cleared (P.view disk.port).reads))
+        (H.state server.new (cleared (P.view result.0.port).reads)) (request.old ∷ done) (mark (P.view disk.port))
+        (mark (P.view result.0.port))) }
     ensures less { IfOk result.1 (λ waits. waits ≡ true → remaining intake.new < remaining intake.old) }
+    ensures read { IfOk result.1 (λ waits. waits ≡ false → intake.old.over ≡ false → unread intake.new ≡ []) }
     ensures fewer { remaining intake.new ≤ remaining intake.old }
     ensures aside { H.aside server.new ≡ H.aside server.old }
     ensures ready { OnOk result.1 (H.is_ready server.new) }
@@ -112,8 +125,13 @@ fn serve_settled<P: Port, R: Protocol<Request = Request> + Replies, H: GroupHand
         × (P.told → Turned result.1 (spoken H.rules R.voice) (H.aside server.old)
         (H.state server.old (cleared (P.view disk.port).reads))
         (H.state server.new (cleared (P.view result.0.port).reads)) (P.view disk.port) (P.view result.0.port)
-        (request.old ∷ done)) }
+        (request.old ∷ done))
+        × (P.told → AnswersByTurns result.1 (spoken H.rules R.voice) H.work (IsOfPort P.view)
+        (H.state server.old (cleared (P.view disk.port).reads))
+        (H.state server.new (cleared (P.view result.0.port).reads)) (request.old ∷ done) (mark (P.view disk.port))
+        (mark (P.view result.0.port))) }
     ensures less { IfOk result.1 (λ waits. waits ≡ true → remaining intake.new < remaining intake.old) }
+    ensures read { IfOk result.1 (λ waits. waits ≡ false → intake.old.over ≡ false → unread intake.new ≡ []) }
     ensures fewer { remaining intake.new ≤ remaining intake.old }
     ensures aside { H.aside server.new ≡ H.aside server.old }
     ensures ready { OnOk result.1 (H.is_ready server.new) }

@@ -19,13 +19,14 @@ use Rattle.tsd_words.specs.declared.status.Status.TheVariants as status
 use Rattle.serving.specs.Input.{Spelling}
 use Rattle.serving.specs.ModelRules.{Placed}
 use Rattle.serving.specs.Ran.{Taking}
-use Rattle.serving.specs.Runs.{Served}
+use Rattle.serving.specs.Runs.{IsBroken, Served}
 use Rattle.serving.specs.Voice.{Voice}
 use Rattle.image_runs.specs.Opened.{IsJudged, IsNotImage, IsUnopened}
 use Rattle.image_runs.specs.Served.{disk_service, start_of, IsAtEase}
 use Rattle.image_runs.proofs.Behind.{behind_then}
 use Rattle.gathering_runs.specs.Promise.{IsLeftByRun, IsOfPrefix}
-use Rattle.gathering_runs.specs.Run.{AnsweredAll, AskedInGroups}
+use Rattle.gathering_runs.specs.Run.{AskedInGroups}
+use Rattle.gathering_runs.specs.Sent.{SentInGroups}
 use Rattle.image_groups.specs.Served.{GroupsEnd, ImageRanInGroups}
 
 module _ (v : Voice) (kind : PlaceKind) (old mid : View) (qs : List Request) (opens : IsFirm old → LeavesOnly old mid (λ x f. StandAlike old.reads x × (f ≡ old.sent))) where
@@ -46,11 +47,11 @@ module _ (v : Voice) (kind : PlaceKind) (old mid : View) (qs : List Request) (op
 
   pub ends_opened : (r : Status) (new : View) (s now : Placed) (part : Image → Image) → s ≡ start_of kind old.reads → mid.sent ≡ old.sent
       → ∥ LeavesOnly mid new (IsLeftByRun (disk_service v) part s mid qs) ∥₁
-      → (AnsweredAll r → (final : Placed) × Served (disk_service v) s mid.sent qs final new.sent)
+      → SentInGroups r (disk_service v) s mid.sent qs new.sent
       → (r ≡ status.Done → Served (disk_service v) s mid.sent qs now new.sent)
       → (r ≡ status.Done → IsAtEase new now.state.world)
       → GroupsEnd r v kind old new qs
-  ends_opened r new s now part at sent moments served done ease =
+  ends_opened r new s now part at sent moments answered done ease =
       let start = start_of kind old.reads in
       let P = IsOfPrefix (disk_service v) start old.sent qs in
       record {
@@ -59,7 +60,7 @@ module _ (v : Voice) (kind : PlaceKind) (old mid : View) (qs : List Request) (op
             ∥∥₁_elim moments prop (λ (run : LeavesOnly mid new (IsLeftByRun (disk_service v) part s mid qs)).
             ∣ joined old mid new P (IsLeftByRun (disk_service v) part s mid qs) (opening_left firm w stands) run (λ x f left.
             subst (λ (b : List ℕ). IsOfPrefix (disk_service v) start b qs x f) sent (subst (λ (p : Placed). IsOfPrefix (disk_service v) p mid.sent qs x f) at left.0)) ∣₁);
-        served = λ all. let it = served all in (it.0, here it.0 it.1);
+        sent = subst (λ (b : List ℕ). SentInGroups r (disk_service v) (start_of kind old.reads) b qs new.sent) sent (subst (λ (p : Placed). SentInGroups r (disk_service v) p mid.sent qs new.sent) at answered);
         done = λ is. (now, here now (done is), ease is);
       }
     where
@@ -67,15 +68,33 @@ module _ (v : Voice) (kind : PlaceKind) (old mid : View) (qs : List Request) (op
       here final it = subst (λ (b : List ℕ). Served (disk_service v) (start_of kind old.reads) b qs final new.sent) sent (subst (λ (p : Placed). Served (disk_service v) p mid.sent qs final new.sent) at it)
 
   -- nothing was opened, and nothing asked
-  pub ends_unopened : (r : Status) → qs ≡ [] → mid.sent ≡ old.sent → IsUnopened r → GroupsEnd r v kind old mid qs
-  ends_unopened r none sent why =
+  pub ends_unopened : v.acked [] ≡ 0 → (r : Status) → qs ≡ [] → mid.sent ≡ old.sent → IsUnopened r → GroupsEnd r v kind old mid qs
+  ends_unopened nothing r none sent why =
       let served : Served (disk_service v) (start_of kind old.reads) old.sent qs (start_of kind old.reads) mid.sent =
       subst (λ (l : List Request). Served (disk_service v) (start_of kind old.reads) old.sent l (start_of kind old.reads) mid.sent) (sym none) (record { answers = []; run = refl; sent = sent ∙ sym (append-nil old.sent) }) in
       record {
         any_moment = λ firm w stands. ∣ opening_left firm w stands ∣₁;
-        served = λ all. (start_of kind old.reads, served);
+        sent = unopened_sent r why served;
         done = λ is. absurd (subst IsUnopened is why);
       }
+    where
+      start : Placed
+      start = start_of kind old.reads
+
+      none_broken : Served (disk_service v) start old.sent qs start mid.sent → IsBroken (disk_service v) start old.sent qs mid.sent
+      none_broken served = record { answered = []; rest = qs; parts = refl; answers = []; state = start; run = refl; sent = sent ∙ sym (append-nil old.sent); count = nothing }
+
+      unopened_sent : (w : Status) → IsUnopened w → Served (disk_service v) start old.sent qs start mid.sent → SentInGroups w (disk_service v) start old.sent qs mid.sent
+      unopened_sent (status.NotImage reason) h served = (start, served)
+      unopened_sent status.DeviceFault h served = none_broken served
+      unopened_sent status.NoMemory h served = none_broken served
+      unopened_sent status.Done h served = absurd h
+      unopened_sent status.Usage h served = absurd h
+      unopened_sent status.SourceFault h served = absurd h
+      unopened_sent status.PutFault h served = absurd h
+      unopened_sent status.TooLong h served = absurd h
+      unopened_sent status.Truncated h served = absurd h
+      unopened_sent (status.RootDenied level) h served = absurd h
 
 -- what lies behind the image stays where the loop leaves its part
 pub behind_opened : (g : Geometry) (old mid new : View) (P : Image → List ℕ → Type 0) → IsSound mid → g ≡ size_of_image old.reads → LeavesBehind old mid

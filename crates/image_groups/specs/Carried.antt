@@ -1,5 +1,5 @@
 -- What a core holds in memory, from the disk of one group to that of the next.
-use Rattle.std.specs.Prelude.{◌≡◌, ◌+◌, [], ℕ}
+use Rattle.std.specs.Prelude.{◌≡◌, ◌+◌, []}
 use Rattle.std.proofs.Common.{sym, ◌∙◌, ap, arith}
 use Rattle.tsd_model.specs.Step.{State}
 use Rattle.tsd_model.specs.World.{World}

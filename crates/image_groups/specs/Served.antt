@@ -15,18 +15,18 @@ use Rattle.serving.specs.Runs.{Served}
 use Rattle.serving.specs.Voice.{Voice}
 use Rattle.image_runs.specs.Served.{disk_service, start_of, IsAtEase, NotOpened}
 use Rattle.gathering_runs.specs.Promise.{IsOfPrefix}
-use Rattle.gathering_runs.specs.Run.{AnsweredAll, AskedInGroups}
+use Rattle.gathering_runs.specs.Run.{AskedInGroups}
+use Rattle.gathering_runs.specs.Sent.{SentInGroups}
 
 -- How a run over these requests ended. Where the disk was firm and stood for a world, a crash at any moment, opening
 -- included, left an image of the state after a prefix of the requests that holds each one of whose reply something was
--- sent, and each reply is the one that the disk gives at that point. Unless a call failed or there was no memory, all
--- were answered; and after Done the disk stands for the last world, and nothing is left to be done.
+-- sent, and each reply is the one that the disk gives at that point. By the status all replies were sent, or those to
+-- the first requests; and after Done the disk stands for the last world, and nothing is left to be done.
 pub record GroupsEnd (r : Status) (v : Voice) (kind : PlaceKind) (old new : View) (asked : List Request)
     : Type 0 where
   pub any_moment : IsFirm old → (w : World) → Stands old.reads w
       → ∥ LeavesOnly old new (IsOfPrefix (disk_service v) (start_of kind old.reads) old.sent asked) ∥₁
-  pub served : AnsweredAll r
-      → (final : Placed) × Served (disk_service v) (start_of kind old.reads) old.sent asked final new.sent
+  pub sent : SentInGroups r (disk_service v) (start_of kind old.reads) old.sent asked new.sent
   pub done : r ≡ status.Done → (final : Placed)
       × Served (disk_service v) (start_of kind old.reads) old.sent asked final new.sent × IsAtEase new final.state.world
 

@@ -1,4 +1,4 @@
-use Rattle.std.proofs.Common.{◌∷◌, [], OnOk}
+use Rattle.std.proofs.Common.{◌∷◌, [], OnOk, refl}
 use Rattle.std.specs.Prelude.{Result, Ok, Err}
 use Rattle.image_device.proofs.Outcomes.{unless_err}
 use Rattle.tsd_words.specs.declared.status.Status.TheVariants as status
@@ -6,6 +6,9 @@ use Rattle.serving.specs.Voice.{spoken}
 use Rattle.gathering.specs.Gathered.{cleared}
 use Rattle.gathering_runs.proofs.Carried.{between, from_cleared, placed_home, ring_closed, to_cleared}
 use Rattle.gathering_runs.proofs.OnDevice.{left_in_place, went_in_place}
+use Rattle.gathering_runs.proofs.Sent.{sent_none}
+use Rattle.serving.specs.Prompt.{IsOfPort, mark}
+use Rattle.gathering_runs.proofs.ByTurns.{direct_turn, turns_none}
 use Rattle.gathering_runs.proofs.Turning.{turned_err, turned_then, turned_to}
 use Rattle.gathering_runs.proofs.direct.serve_direct.Goals as goal
 
@@ -22,7 +25,7 @@ returns-then-is_err-clause-did g c told =
     let v1 = g.P.Device.view c.empty_journal.new.port in
     let b = c.requires.between told in
     let s = g.H.Handler.state h (cleared v0.reads) in
-    turned_err k part status.DeviceFault s _ v0 v1 (c.args.request.now ∷ [])
+    turned_err k part status.DeviceFault s _ v0 v1 (c.args.request.now ∷ []) (sent_none k status.DeviceFault s v0.sent v1.sent (c.args.request.now ∷ []) (c.empty_journal.ensures.sent told))
     (left_in_place k part s v0 v1 (λ x y has. g.met.H.GroupHandler.alike s x y has) (λ x y has. g.met.H.GroupHandler.aside_alike h x y has) b.firm (g.met.H.Handler.stands_now h (cleared v0.reads) b.held) (c.args.request.now ∷ []) (c.empty_journal.ensures.any_moment told))
 
 pub returns-clause-did : goal.returns-clause-did
@@ -52,3 +55,20 @@ returns-clause-between g c told =
     let h2 = c.answer.new.server in
     let none = unless_err c.empty_journal.result c.is_err.result c.if-is_err.false c.is_err.ensures.value c.empty_journal.ensures.empty in
     both_ok c.answer.result (λ at shut. between (g.H.Handler.holds h2) (g.H.Handler.state h2) (g.met.H.GroupHandler.carried h2) c.empty_journal.new.ring v2 none at.0 at.1 shut) (c.answer.ensures.at told) (c.answer.ensures.closed told)
+
+pub returns-then-is_err-clause-turns : goal.returns-then-is_err-clause-turns
+returns-then-is_err-clause-turns g c told = turns_none (spoken g.H.Handler.rules g.R.Replies.voice) g.H.Handler.work (IsOfPort g.P.Device.view) _ _ _ (c.args.request.now ∷ []) _ _
+
+pub returns-clause-turns : goal.returns-clause-turns
+returns-clause-turns g c told =
+    let k = spoken g.H.Handler.rules g.R.Replies.voice in
+    let h = c.args.server.now in
+    let v0 = g.P.Device.view c.args.disk.now.port in
+    let v1 = g.P.Device.view c.empty_journal.new.port in
+    let v2 = g.P.Device.view c.answer.new.port in
+    let b = c.requires.between told in
+    let closed = ring_closed v1 (unless_err c.empty_journal.result c.is_err.result c.if-is_err.false c.is_err.ensures.value (c.empty_journal.ensures.at told)) in
+    let done = unless_err c.empty_journal.result c.is_err.result c.if-is_err.false c.is_err.ensures.value (c.empty_journal.ensures.done told) in
+    let over = from_cleared (g.H.Handler.holds h) (g.H.Handler.state h) (g.met.H.GroupHandler.carried h) v0.reads v1.reads b.held closed done in
+    direct_turn k g.H.Handler.work (IsOfPort g.P.Device.view) c.answer.result (g.H.Handler.state h (cleared v0.reads)) (g.H.Handler.state h v1.reads) (g.H.Handler.state c.answer.new.server (cleared v2.reads)) c.args.request.now (mark v0) (mark v1) (mark v2)
+    (c.empty_journal.new.port, refl) (c.empty_journal.ensures.sent told) c.empty_journal.ensures.uses.most over.1 (c.answer.new.port, refl) (returns-clause-did g c told).served (c.answer.ensures.prompt told)

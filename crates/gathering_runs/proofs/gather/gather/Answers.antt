@@ -100,3 +100,6 @@ returns-then-not-has_room-clause-did g c =
           subst (λ l. Served k (g.H.Handler.state c.args.server.now (g.G.Device.view c.args.port.now).reads) (g.G.Device.view c.args.port.now).sent l (g.H.Handler.state c.carry_out.new.server (g.G.Device.view c.carry_out.new.port).reads) (g.G.Device.view c.carry_out.new.port).sent) (sym was.2)
           (served_more k _ _ _ _ _ _ was.0 q a.0 (was.4 told) a.1 a.2),
     )
+
+pub returns-then-not-next_held-clause-read : goal.returns-then-not-next_held-clause-read
+returns-then-not-next_held-clause-read g c = λ none over. c.next_held.ensures.none c.if-not-next_held.true (c.loop-intake.invariant.goes.3.over ∙ over)

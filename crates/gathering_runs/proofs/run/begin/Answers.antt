@@ -1,9 +1,10 @@
-use Rattle.std.proofs.Common.{[], ◌∙◌}
+use Rattle.std.proofs.Common.{[], refl, ◌∙◌}
 use Rattle.tsd_words.specs.declared.status.Status.TheVariants as status
 use Rattle.serving.specs.Voice.{spoken}
 use Rattle.gathering.specs.Gathered.{cleared}
 use Rattle.gathering_runs.proofs.Carried.{between, to_cleared}
 use Rattle.gathering_runs.proofs.OnDevice.{left_resting, went_resting}
+use Rattle.gathering_runs.proofs.Sent.{sent_none}
 use Rattle.gathering_runs.proofs.Turning.{turned_err, turned_ok, went_nowhere}
 use Rattle.gathering_runs.proofs.run.begin.Goals as goal
 
@@ -13,7 +14,7 @@ returns-in-Err-clause-did g c told =
     let h = c.args.server.now in
     let v = g.P.Device.view c.args.port.now in
     let at = c.requires.at told in
-    turned_err k (g.H.Handler.aside h) status.NoMemory _ _ v v [] (went_nowhere k (g.H.Handler.aside h) (g.H.Handler.state h v.reads) v (g.met.P.Device.sound c.args.port.now told) at.0 (g.met.H.Handler.stands_now h v.reads at.1)).any_moment
+    turned_err k (g.H.Handler.aside h) status.NoMemory _ _ v v [] (sent_none k status.NoMemory _ v.sent v.sent [] refl) (went_nowhere k (g.H.Handler.aside h) (g.H.Handler.state h v.reads) v (g.met.P.Device.sound c.args.port.now told) at.0 (g.met.H.Handler.stands_now h v.reads at.1)).any_moment
 
 pub returns-in-Err-new-clause-did : goal.returns-in-Err-new-clause-did
 returns-in-Err-new-clause-did g c told =
@@ -21,7 +22,7 @@ returns-in-Err-new-clause-did g c told =
     let h = c.args.server.now in
     let v = g.P.Device.view c.args.port.now in
     let at = c.requires.at told in
-    turned_err k (g.H.Handler.aside h) status.NoMemory _ _ v v [] (went_nowhere k (g.H.Handler.aside h) (g.H.Handler.state h v.reads) v (g.met.P.Device.sound c.args.port.now told) at.0 (g.met.H.Handler.stands_now h v.reads at.1)).any_moment
+    turned_err k (g.H.Handler.aside h) status.NoMemory _ _ v v [] (sent_none k status.NoMemory _ v.sent v.sent [] refl) (went_nowhere k (g.H.Handler.aside h) (g.H.Handler.state h v.reads) v (g.met.P.Device.sound c.args.port.now told) at.0 (g.met.H.Handler.stands_now h v.reads at.1)).any_moment
 
 pub returns-in-Ok-empty_ring-clause-did : goal.returns-in-Ok-empty_ring-clause-did
 returns-in-Ok-empty_ring-clause-did g c told =
@@ -48,4 +49,4 @@ returns-in-Err-empty_ring-clause-did g c told =
     let h = c.args.server.now in
     let v = g.P.Device.view c.args.port.now in
     let w = g.P.Device.view c.empty_ring.new.dev in
-    turned_err k (g.H.Handler.aside h) status.DeviceFault _ _ v w [] (left_resting k (g.H.Handler.aside h) (g.H.Handler.state h v.reads) v w [] (c.empty_ring.ensures.any_moment told) (c.empty_ring.ensures.aside_kept told))
+    turned_err k (g.H.Handler.aside h) status.DeviceFault _ _ v w [] (sent_none k status.DeviceFault _ v.sent w.sent [] (c.empty_ring.ensures.sent told)) (left_resting k (g.H.Handler.aside h) (g.H.Handler.state h v.reads) v w [] (c.empty_ring.ensures.any_moment told) (c.empty_ring.ensures.aside_kept told))

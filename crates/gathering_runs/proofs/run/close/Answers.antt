@@ -1,10 +1,11 @@
-use Rattle.std.proofs.Common.{[]}
+use Rattle.std.proofs.Common.{[], ◌∙◌}
 use Rattle.image_device.proofs.Outcomes.{unless_err}
 use Rattle.tsd_words.specs.declared.status.Status.TheVariants as status
 use Rattle.serving.specs.Voice.{spoken}
 use Rattle.gathering.specs.Gathered.{cleared}
 use Rattle.gathering_runs.proofs.Carried.{from_cleared, placed_home, ring_closed}
 use Rattle.gathering_runs.proofs.OnDevice.{left_in_place, left_stayed, went_in_place, went_stayed}
+use Rattle.gathering_runs.proofs.Sent.{sent_none}
 use Rattle.gathering_runs.proofs.Turning.{turned_err, turned_ok}
 use Rattle.std.proofs.Common.{refl}
 use Rattle.gathering_runs.proofs.run.close.Goals as goal
@@ -18,7 +19,7 @@ returns-then-is_err-clause-did g c told =
     let v1 = g.P.Device.view c.checkpoint.new.dev in
     let b = c.requires.between told in
     let s = g.H.Handler.state h (cleared v0.reads) in
-    turned_err k part status.DeviceFault s _ v0 v1 []
+    turned_err k part status.DeviceFault s _ v0 v1 [] (sent_none k status.DeviceFault s v0.sent v1.sent [] (c.checkpoint.ensures.sent told))
     (left_in_place k part s v0 v1 (λ x y has. g.met.H.GroupHandler.alike s x y has) (λ x y has. g.met.H.GroupHandler.aside_alike h x y has) b.firm (g.met.H.Handler.stands_now h (cleared v0.reads) b.held) [] (c.checkpoint.ensures.any_moment told))
 
 pub returns-in-Ok-clause-did : goal.returns-in-Ok-clause-did
@@ -55,4 +56,4 @@ returns-in-Err-clause-did g c told =
     let over = from_cleared (g.H.Handler.holds h) (g.H.Handler.state h) (g.met.H.GroupHandler.carried h) v0.reads v1.reads b.held closed done in
     let first = went_in_place k part s v0 v1 (λ x y has. g.met.H.GroupHandler.alike s x y has) (λ x y has. g.met.H.GroupHandler.aside_alike h x y has) b.firm (g.met.H.Handler.stands_now h (cleared v0.reads) b.held) m over.1 (c.checkpoint.ensures.sent told)
     (g.met.H.GroupHandler.aside_alike h v0.reads v1.reads (placed_home v0.reads v1.reads closed done)) (c.checkpoint.ensures.any_moment told) in
-    turned_err k part status.DeviceFault s _ v0 v2 [] (left_stayed k part part s m v0 v1 v2 [] first refl (c.close.ensures.any_moment told) (c.close.ensures.aside_kept told))
+    turned_err k part status.DeviceFault s _ v0 v2 [] (sent_none k status.DeviceFault s v0.sent v2.sent [] (c.close.ensures.sent told ∙ c.checkpoint.ensures.sent told)) (left_stayed k part part s m v0 v1 v2 [] first refl (c.close.ensures.any_moment told) (c.close.ensures.aside_kept told))

@@ -3,6 +3,8 @@ use Rattle.image_device.specs.Image.{Image}
 use Rattle.serving.specs.Voice.{spoken}
 use Rattle.gathering.specs.Gathered.{cleared}
 use Rattle.gathering_runs.specs.Turns.{Turned}
+use Rattle.gathering_runs.specs.Sent.{IsSentBy}
+use Rattle.gathering_runs.proofs.Outcome.{err_is_if}
 use Rattle.gathering_runs.proofs.Turning.{turned_err, turned_then, went}
 use Rattle.gathering_runs.proofs.run.finish.Goals as goal
 
@@ -24,4 +26,5 @@ returns-in-Ok-clause-did g c told =
 pub returns-in-Err-clause-did : goal.returns-in-Err-clause-did
 returns-in-Err-clause-did g c told =
     let k = spoken g.H.Handler.rules g.R.Replies.voice in
-    turned_err k (g.H.Handler.aside c.args.server.now) _ _ _ (g.P.Device.view c.args.disk.port) (g.P.Device.view c.settle_in_groups-left.result.0.port) [] (c.settle_in_groups-left.ensures.did told).any_moment
+    turned_err k (g.H.Handler.aside c.args.server.now) _ _ _ (g.P.Device.view c.args.disk.port) (g.P.Device.view c.settle_in_groups-left.result.0.port) []
+    (err_is_if (λ w. IsSentBy w k _ _ [] _) c.settle_in_groups-left.result.1 c.in-Err.why c.in-Err.is (c.settle_in_groups-left.ensures.did told).stopped) (c.settle_in_groups-left.ensures.did told).any_moment

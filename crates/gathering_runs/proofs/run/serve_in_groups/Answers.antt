@@ -1,19 +1,24 @@
-use Rattle.std.proofs.Common.{◌≡◌, cond, ℕ, List, [], ◌∷◌, ◌++◌, refl, ◌∙◌, ap, subst, arith, append_assoc, append-nil}
+use Rattle.std.proofs.Common.{◌≡◌, cond, ℕ, false, List, [], ◌∷◌, ◌++◌, refl, ◌∙◌, ap, subst, arith, append_assoc, append-nil}
 use Rattle.image_device.specs.Image.{Image}
 use Rattle.image_device.specs.Runs.{LeavesOnly}
 use Rattle.tsd_words.specs.declared.status.Status.TheVariants as status
-use Rattle.serving.specs.Goes.{Handed, ends_left}
+use Rattle.serving.specs.Goes.{Handed, ends_left, unread}
 use Rattle.serving.specs.Ran.{AskedBy, IsAtEnd}
-use Rattle.serving.specs.Voice.{spoken}
+use Rattle.serving.specs.Voice.{spoken, spoken_counted}
 use Rattle.serving.proofs.Inputs.{came_first, came_then, handed_first}
 use Rattle.gathering.specs.Gathered.{cleared}
 use Rattle.gathering_runs.specs.Promise.{IsLeftByRun}
 use Rattle.gathering_runs.specs.Run.{AskedInGroups}
+use Rattle.gathering_runs.specs.Sent.{IsSentBy}
 use Rattle.gathering_runs.specs.Turns.{StopsBy, Turned}
-use Rattle.gathering_runs.proofs.Ending.{asked_none, asked_then_stopped, asked_to_end, left_longer, not_answered, not_done}
+use Rattle.gathering_runs.proofs.Ending.{asked_none, asked_then_stopped, asked_to_end, left_longer, not_cut, not_done, take_none}
 use Rattle.gathering_runs.proofs.Handing.{handed_then}
 use Rattle.gathering_runs.proofs.Outcome.{counts_ok, err_is_if, ok_is}
-use Rattle.gathering_runs.proofs.Turning.{Went, left_then, went, went_then}
+use Rattle.gathering_runs.proofs.Sent.{sent_longer, sent_stopped}
+use Rattle.serving.specs.Prompt.{IsOfPort, mark}
+use Rattle.gathering_runs.proofs.ByTurns.{all_turns}
+use Rattle.gathering_runs.proofs.Rounds.{all_handed, near_cut, near_end, near_fault, near_found, near_none, ran_by_rounds, run_none, so_far_more, so_far_none}
+use Rattle.gathering_runs.proofs.Turning.{Went, left_then, sent_turned, went, went_then}
 use Rattle.gathering_runs.proofs.run.serve_in_groups.Goals as goal
 
 pub returns-in-Err-clause-ran : goal.returns-in-Err-clause-ran
@@ -23,13 +28,16 @@ returns-in-Err-clause-ran g c = record {
   asked = [];
   these = asked_none g.R.Protocol.spelling c.in-Err.why c.args.limit _ c.in-Err.ensures.stops g.met.R.Protocol.lawful.none;
   any_moment = λ told. (c.in-Err.ensures.did told).any_moment;
-  served = λ told all. absurd (not_answered c.in-Err.why c.in-Err.ensures.stops all);
+  sent = λ told.
+      sent_stopped (spoken g.H.Handler.rules g.R.Replies.voice) (spoken_counted g.H.Handler.rules g.R.Replies.voice (λ s q r t given. g.met.H.Handler.given_form s q r t given) g.met.R.Replies.apart)
+      _ _ [] _ c.in-Err.why c.in-Err.ensures.stops (c.in-Err.ensures.did told).stopped;
   done = λ told is. absurd (not_done c.in-Err.why c.in-Err.ensures.stops is);
 }
 
 pub loop-server-init : goal.loop-server-init
 loop-server-init g c = record {
   limit = c.new-intake.ensures.limit;
+  read = λ over. c.new-intake.ensures.held;
   aside = c.begin.ensures.aside;
   ready = c.in-Ok.ensures.ready;
   between = c.in-Ok.ensures.between;
@@ -43,6 +51,9 @@ loop-server-init g c = record {
     came_first g.S.Source.told _ _,
     handed_first g.R.Protocol.spelling _ _ c.new-intake.result c.requires.fresh g.met.R.Protocol.lawful.none c.new-intake.ensures.taken c.new-intake.ensures.held c.new-intake.ensures.over,
     λ told. went (spoken g.H.Handler.rules g.R.Replies.voice) (g.H.Handler.aside c.args.server.now) _ _ _ _ _ _ [] refl (c.in-Ok.ensures.did told),
+    λ told.
+        so_far_none (spoken g.H.Handler.rules g.R.Replies.voice) g.H.Handler.work (IsOfPort g.P.Device.view) g.R.Protocol.spelling c.args.limit _ _ _ (mark (g.P.Device.view c.begin.new.port)) (c.begin.new.port, refl) (c.begin.ensures.sent told)
+        (run_none (spoken g.H.Handler.rules g.R.Replies.voice) _ _ (c.in-Ok.ensures.did told).served.answers (c.in-Ok.ensures.did told).served.run),
   );
 }
 
@@ -72,8 +83,11 @@ loop-server-preserved g c =
     let s1 = g.H.Handler.state c.loop-server.server (cleared v1.reads) in
     let s2 = g.H.Handler.state c.serve_in_hand-left.new.server (cleared v2.reads) in
     let left : ends_left j ≡ ends_left c.next.new.self = ap (λ b. cond b 0 1) did.1.over in
+    let handed = subst (λ l. Handed sp fed2 ended j bytes l) (append_assoc was.1 (q ∷ []) did.0) (handed_then sp fed1 fed2 ended c.next.new.self j bytes (was.1 ++ q ∷ []) did.0 found.2 did.1) in
+    let read : j.over ≡ false → unread j ≡ [] = λ over. ok_is r _ c.in-Ok-served.is e.read (sym did.1.over ∙ over) in
     record {
       limit = did.1.limit ∙ c.next.ensures.limit ∙ i.limit;
+      read = read;
       aside = e.aside ∙ i.aside;
       ready = ok_is r _ c.in-Ok-served.is e.ready;
       between = λ told. ok_is r _ c.in-Ok-served.is (e.between told);
@@ -85,10 +99,15 @@ loop-server-preserved g c =
         bytes,
         was.1 ++ q ∷ did.0,
         came_then g.S.Source.told _ _ _ _ _ _ was.0 found.0 was.2 found.1,
-        subst (λ l. Handed sp fed2 ended j bytes l) (append_assoc was.1 (q ∷ []) did.0) (handed_then sp fed1 fed2 ended c.next.new.self j bytes (was.1 ++ q ∷ []) did.0 found.2 did.1),
+        handed,
         λ told.
             went_then k part _ s1 s2 v0 v1 v2 was.1 (q ∷ did.0) (was.4 told)
             (went k part r _ s1 s2 v1 v2 (q ∷ did.0) c.in-Ok-served.is (subst (λ (p : Image → Image). Turned r k p s1 s2 v1 v2 (q ∷ did.0)) i.aside (did.2 told))),
+        λ told.
+            so_far_more k g.H.Handler.work (IsOfPort g.P.Device.view) sp c.args.limit _ s1 s2 was.0 found.0 was.1 (q ∷ did.0) _ (mark v1) (mark v2) (was.5 told)
+            (near_found sp fed1 ended c.next.new.self c.args.limit was.0 found.0 was.1 q (c.next.ensures.limit ∙ i.limit) found.2)
+            (all_turns k g.H.Handler.work (IsOfPort g.P.Device.view) r _ s1 s2 (q ∷ did.0) (mark v1) (mark v2) c.in-Ok-served.is (did.3 told))
+            (all_handed sp fed2 ended j c.args.limit bytes (was.1 ++ q ∷ did.0) (did.1.limit ∙ c.next.ensures.limit ∙ i.limit) read handed),
       );
     }
 
@@ -126,7 +145,11 @@ returns-in-Err-served-clause-ran g c =
       any_moment = λ told.
           left_longer k part s0 v0 v2 (was.1 ++ q ∷ did.0) asked.0
           (left_then k part s0 s1 v0 v1 v2 was.1 (q ∷ did.0) (was.4 told) (subst (λ (p : Image → Image). Turned r k p s1 s2 v1 v2 (q ∷ did.0)) i.aside (did.2 told)).any_moment);
-      served = λ told all. absurd (not_answered c.in-Err-served.why stops all);
+      sent = λ told.
+          sent_stopped k (spoken_counted g.H.Handler.rules g.R.Replies.voice (λ s q r t given. g.met.H.Handler.given_form s q r t given) g.met.R.Replies.apart)
+          s0 v0.sent ((was.1 ++ q ∷ did.0) ++ asked.0) v2.sent c.in-Err-served.why stops
+          (sent_longer k c.in-Err-served.why s0 v0.sent v2.sent (was.1 ++ q ∷ did.0) asked.0
+          (sent_turned k part r c.in-Err-served.why s0 s1 s2 v0 v1 v2 was.1 (q ∷ did.0) c.in-Err-served.is (was.4 told) (subst (λ (p : Image → Image). Turned r k p s1 s2 v1 v2 (q ∷ did.0)) i.aside (did.2 told))));
       done = λ told is. absurd (not_done c.in-Err-served.why stops is);
     }
 
@@ -153,7 +176,7 @@ returns-in-Ok-finished-clause-ran g c =
       asked = was.1;
       these = subst (λ n. AskedBy status.Done g.R.Protocol.spelling n (was.0 ++ found.0) ended was.1) (c.next.ensures.limit ∙ i.limit) found.2;
       any_moment = λ told. (all told).any_moment;
-      served = λ told is. (s2, (all told).served);
+      sent = λ told. (s2, (all told).served);
       done = λ told is. (all told).served;
     }
 
@@ -180,7 +203,11 @@ returns-in-Err-finished-clause-ran g c =
       any_moment = λ told.
           subst (λ l. ∥ LeavesOnly v0 v2 (IsLeftByRun k part s0 v0 l) ∥₁) (append-nil was.1)
           (left_then k part s0 s1 v0 v1 v2 was.1 [] (was.4 told) (subst (λ (p : Image → Image). Turned c.finish-left.result.1 k p s1 s2 v1 v2 []) i.aside (c.finish-left.ensures.did told)).any_moment);
-      served = λ told all. absurd (not_answered c.in-Err-finished.why stops all);
+      sent = λ told.
+          sent_stopped k (spoken_counted g.H.Handler.rules g.R.Replies.voice (λ s q r t given. g.met.H.Handler.given_form s q r t given) g.met.R.Replies.apart)
+          s0 v0.sent was.1 v2.sent c.in-Err-finished.why stops
+          (subst (λ l. IsSentBy c.in-Err-finished.why k s0 v0.sent l v2.sent) (append-nil was.1)
+          (sent_turned k part c.finish-left.result.1 c.in-Err-finished.why s0 s1 s2 v0 v1 v2 was.1 [] c.in-Err-finished.is (was.4 told) (subst (λ (p : Image → Image). Turned c.finish-left.result.1 k p s1 s2 v1 v2 []) i.aside (c.finish-left.ensures.did told))));
       done = λ told is. absurd (not_done c.in-Err-finished.why stops is);
     }
 
@@ -196,7 +223,7 @@ returns-in-CutOff-clause-ran g c =
       asked = was.1;
       these = subst (λ n. AskedBy status.Truncated g.R.Protocol.spelling n (was.0 ++ found.0) ended was.1) (c.next.ensures.limit ∙ i.limit) found.2;
       any_moment = λ told. (was.4 told).any_moment;
-      served = λ told all. (_, (was.4 told).served);
+      sent = λ told. (_, (was.4 told).served);
       done = λ told is. absurd (cc);
     }
 
@@ -212,7 +239,7 @@ returns-in-Fault-clause-ran g c =
       asked = was.1;
       these = subst (λ n. AskedBy status.SourceFault g.R.Protocol.spelling n (was.0 ++ found.0) ended was.1) (c.next.ensures.limit ∙ i.limit) found.2;
       any_moment = λ told. (was.4 told).any_moment;
-      served = λ told all. (_, (was.4 told).served);
+      sent = λ told. (_, (was.4 told).served);
       done = λ told is. absurd (cc);
     }
 
@@ -228,6 +255,97 @@ returns-in-TooLong-clause-ran g c =
       asked = was.1;
       these = subst (λ n. AskedBy status.TooLong g.R.Protocol.spelling n (was.0 ++ found.0) ended was.1) (c.next.ensures.limit ∙ i.limit) found.2;
       any_moment = λ told. (was.4 told).any_moment;
-      served = λ told all. (_, (was.4 told).served);
+      sent = λ told. (_, (was.4 told).served);
       done = λ told is. absurd (cc);
     }
+
+pub returns-in-Err-clause-rounds : goal.returns-in-Err-clause-rounds
+returns-in-Err-clause-rounds g c told =
+    let m1 = mark (g.P.Device.view c.begin.new.port) in
+    ran_by_rounds (spoken g.H.Handler.rules g.R.Replies.voice) g.H.Handler.work (IsOfPort g.P.Device.view) g.R.Protocol.spelling c.args.limit c.in-Err.why _ _ _ _ [] [] [] [] _ m1 m1 m1
+    (so_far_none (spoken g.H.Handler.rules g.R.Replies.voice) g.H.Handler.work (IsOfPort g.P.Device.view) g.R.Protocol.spelling c.args.limit _ _ _ m1 (c.begin.new.port, refl) (c.begin.ensures.sent told) refl)
+    (came_first g.S.Source.told _ _) (near_none g.R.Protocol.spelling c.args.limit g.met.R.Protocol.lawful.none (take_none c.args.limit)) (refl, refl) (λ cut. refl)
+
+pub returns-in-Err-served-clause-rounds : goal.returns-in-Err-served-clause-rounds
+returns-in-Err-served-clause-rounds g c told =
+    let i = c.loop-server.invariant in
+    let was = i.goes in
+    let found = c.in-Request.ensures.found was.0 was.1 was.3 in
+    let k = spoken g.H.Handler.rules g.R.Replies.voice in
+    let sp = g.R.Protocol.spelling in
+    let bytes = was.0 ++ found.0 in
+    let m1 = mark (g.P.Device.view c.loop-server.disk.port) in
+    let came = came_then g.S.Source.told _ _ _ _ _ _ was.0 found.0 was.2 found.1 in
+    let q = c.next.new.into in
+    let ended = IsAtEnd g.S.Source.told (g.S.Source.ended c.next.new.source) (g.S.Source.left_bytes c.next.new.source) in
+    let fed1 = λ (x : List ℕ). g.R.Protocol.was_fed x c.next.new.protocol in
+    let stops = err_is_if StopsBy c.serve_in_hand-left.result.1 _ c.in-Err-served.is c.serve_in_hand-left.ensures.stops in
+    let t = c.serve_in_hand-left.ensures.did.3 told in
+    ran_by_rounds k g.H.Handler.work (IsOfPort g.P.Device.view) sp c.args.limit c.in-Err-served.why _ _ t.state _ was.0 found.0 was.1 t.turns _ m1 t.rested _ (was.5 told) came
+    (near_found sp fed1 ended c.next.new.self c.args.limit was.0 found.0 was.1 q (c.next.ensures.limit ∙ i.limit) found.2) t.each (λ cut. absurd (not_cut c.in-Err-served.why stops cut))
+
+pub returns-in-Ok-finished-clause-rounds : goal.returns-in-Ok-finished-clause-rounds
+returns-in-Ok-finished-clause-rounds g c told =
+    let i = c.loop-server.invariant in
+    let was = i.goes in
+    let found = c.in-End.ensures.found was.0 was.1 was.3 in
+    let k = spoken g.H.Handler.rules g.R.Replies.voice in
+    let sp = g.R.Protocol.spelling in
+    let bytes = was.0 ++ found.0 in
+    let m1 = mark (g.P.Device.view c.loop-server.disk.port) in
+    let came = came_then g.S.Source.told _ _ _ _ _ _ was.0 found.0 was.2 found.1 in
+    let by = subst (λ n. AskedBy status.Done sp n bytes _ was.1) (c.next.ensures.limit ∙ i.limit) found.2 in
+    ran_by_rounds k g.H.Handler.work (IsOfPort g.P.Device.view) sp c.args.limit status.Done _ _ _ _ was.0 found.0 was.1 [] _ m1 m1 _ (was.5 told) came (near_end sp c.args.limit was.0 found.0 was.1 by.0 by.3) (refl, refl) (λ cut. absurd cut)
+
+pub returns-in-Err-finished-clause-rounds : goal.returns-in-Err-finished-clause-rounds
+returns-in-Err-finished-clause-rounds g c told =
+    let i = c.loop-server.invariant in
+    let was = i.goes in
+    let found = c.in-End.ensures.found was.0 was.1 was.3 in
+    let k = spoken g.H.Handler.rules g.R.Replies.voice in
+    let sp = g.R.Protocol.spelling in
+    let bytes = was.0 ++ found.0 in
+    let m1 = mark (g.P.Device.view c.loop-server.disk.port) in
+    let came = came_then g.S.Source.told _ _ _ _ _ _ was.0 found.0 was.2 found.1 in
+    let by = subst (λ n. AskedBy status.Done sp n bytes _ was.1) (c.next.ensures.limit ∙ i.limit) found.2 in
+    let stops = err_is_if StopsBy c.finish-left.result.1 _ c.in-Err-finished.is c.finish-left.ensures.stops in
+    ran_by_rounds k g.H.Handler.work (IsOfPort g.P.Device.view) sp c.args.limit c.in-Err-finished.why _ _ _ _ was.0 found.0 was.1 [] _ m1 m1 _ (was.5 told) came (near_end sp c.args.limit was.0 found.0 was.1 by.0 by.3) (refl, refl) (λ cut. absurd (not_cut c.in-Err-finished.why stops cut))
+
+pub returns-in-CutOff-clause-rounds : goal.returns-in-CutOff-clause-rounds
+returns-in-CutOff-clause-rounds g c told =
+    let i = c.loop-server.invariant in
+    let was = i.goes in
+    let found = c.in-CutOff.ensures.found was.0 was.1 was.3 in
+    let k = spoken g.H.Handler.rules g.R.Replies.voice in
+    let sp = g.R.Protocol.spelling in
+    let bytes = was.0 ++ found.0 in
+    let m1 = mark (g.P.Device.view c.loop-server.disk.port) in
+    let came = came_then g.S.Source.told _ _ _ _ _ _ was.0 found.0 was.2 found.1 in
+    let by = subst (λ n. AskedBy status.Truncated sp n bytes _ was.1) (c.next.ensures.limit ∙ i.limit) found.2 in
+    ran_by_rounds k g.H.Handler.work (IsOfPort g.P.Device.view) sp c.args.limit status.Truncated _ _ _ _ was.0 found.0 was.1 [] _ m1 m1 m1 (was.5 told) came (near_end sp c.args.limit was.0 found.0 was.1 by.0 by.3) (refl, refl) (λ cut. refl)
+
+pub returns-in-Fault-clause-rounds : goal.returns-in-Fault-clause-rounds
+returns-in-Fault-clause-rounds g c told =
+    let i = c.loop-server.invariant in
+    let was = i.goes in
+    let found = c.in-Fault.ensures.found was.0 was.1 was.3 in
+    let k = spoken g.H.Handler.rules g.R.Replies.voice in
+    let sp = g.R.Protocol.spelling in
+    let bytes = was.0 ++ found.0 in
+    let m1 = mark (g.P.Device.view c.loop-server.disk.port) in
+    let came = came_then g.S.Source.told _ _ _ _ _ _ was.0 found.0 was.2 found.1 in
+    let by = subst (λ n. AskedBy status.SourceFault sp n bytes (Unit {0}) was.1) (c.next.ensures.limit ∙ i.limit) found.2 in
+    ran_by_rounds k g.H.Handler.work (IsOfPort g.P.Device.view) sp c.args.limit status.SourceFault _ _ _ _ was.0 found.0 was.1 [] _ m1 m1 m1 (was.5 told) came (near_fault sp c.args.limit was.0 found.0 was.1 by.0 by.1) (refl, refl) (λ cut. refl)
+
+pub returns-in-TooLong-clause-rounds : goal.returns-in-TooLong-clause-rounds
+returns-in-TooLong-clause-rounds g c told =
+    let i = c.loop-server.invariant in
+    let was = i.goes in
+    let found = c.in-TooLong.ensures.found was.0 was.1 was.3 in
+    let k = spoken g.H.Handler.rules g.R.Replies.voice in
+    let sp = g.R.Protocol.spelling in
+    let bytes = was.0 ++ found.0 in
+    let m1 = mark (g.P.Device.view c.loop-server.disk.port) in
+    let came = came_then g.S.Source.told _ _ _ _ _ _ was.0 found.0 was.2 found.1 in
+    let by = subst (λ n. AskedBy status.TooLong sp n bytes (Unit {0}) was.1) (c.next.ensures.limit ∙ i.limit) found.2 in
+    ran_by_rounds k g.H.Handler.work (IsOfPort g.P.Device.view) sp c.args.limit status.TooLong _ _ _ _ was.0 found.0 was.1 [] _ m1 m1 m1 (was.5 told) came (near_cut sp c.args.limit was.0 found.0 was.1 by.1) (refl, refl) (λ cut. refl)

@@ -6,8 +6,13 @@ use Rattle.serving.specs.Voice.{spoken}
 use Rattle.gathering.specs.Gathered.{AreClosed, cleared, gathered_view}
 use Rattle.gathering.proofs.Closed.{cleared_closed}
 use Rattle.gathering_runs.proofs.Carried.{to_next}
-use Rattle.gathering_runs.proofs.Grouped.{gathered_badly, gathered_well, left_flushed, left_given_up, went_flushed}
+use Rattle.gathering_runs.proofs.Grouped.{gathered_badly, gathered_well, left_flushed, left_given_up, sent_by_flush, went_flushed}
 use Rattle.gathering_runs.proofs.Outcome.{err_is, ok_is, ok_or_err}
+use Rattle.gathering_runs.specs.Sent.{IsSentBy}
+use Rattle.gathering_runs.specs.Turns.{status_by}
+use Rattle.gathering_runs.proofs.Sent.{sent_given_up, sent_none, unsent_by}
+use Rattle.serving.specs.Prompt.{IsOfPort, mark}
+use Rattle.gathering_runs.proofs.ByTurns.{one_turn, turns_none, turns_ok}
 use Rattle.gathering_runs.proofs.Turning.{turned_err, turned_ok}
 use Rattle.gathering_runs.proofs.settle.settle_group.Goals as goal
 
@@ -87,6 +92,16 @@ returns-in-Err-clause-did g c told =
     let s = g.H.Handler.state h0 (cleared start.reads) in
     let held = g.met.H.Handler.stands_now h0 (cleared start.reads) (c.requires.between told).held in
     turned_err k (g.H.Handler.aside h0) _ _ _ start new []
+    (subst (λ w. IsSentBy w k s start.sent [] new.sent) (sym c.status_of.ensures)
+    (elim (ok_or_err r) [
+      | inl ok ↦
+          sent_by_flush k (g.H.Handler.aside h0) start v new (λ u x y has. g.met.H.GroupHandler.alike u x y has) (λ x y has. g.met.H.GroupHandler.aside_alike h0 x y has) s held [] []
+          (g.H.Handler.state h1 v.reads) _ e0.reads _ e0.sent _ (ap (λ x. g.H.Handler.state h0 x) e0.reads) (record { answers = []; run = sym (ok_is r _ ok.1 (e1.state told)); sent = ok_is r _ ok.1 (e1.sent told) ∙ sym (append-nil _) }) (g.met.H.Handler.stands_now h1 v.reads (ok_is r _ ok.1 (e1.at told)).1) (ok_is r _ ok.1 (e1.closed told)) (ok_is r _ ok.1 (e1.part told))
+          c.in-Err.fault (unsent_by c.flush-inner.result.result c.in-Err.fault c.in-Err.is (e2.unsent told)) (λ put. e2.put_sent told (c.in-Err.is ∙ ap (λ x. Err x) put))
+      | inr bad ↦
+          sent_none k (status_by c.in-Err.fault) s start.sent new.sent [] (sent_given_up start new (g.met.P.Device.sound c.flush-inner.result.inner told)
+          (e2.given_up told (gathered_badly _ _ _ _ e0.faults e0.put_faults (err_is r _ bad.1 (failed_of _ r _ _ e1.faults)))))
+    ]))
     (elim (ok_or_err r) [
       | inl ok ↦
           left_flushed k (g.H.Handler.aside h0) start v new (λ u x y has. g.met.H.GroupHandler.alike u x y has) (λ x y has. g.met.H.GroupHandler.aside_alike h0 x y has) s held [] []
@@ -95,3 +110,16 @@ returns-in-Err-clause-did g c told =
           left_given_up k (g.H.Handler.aside h0) start v new (λ u x y has. g.met.H.GroupHandler.alike u x y has) (λ x y has. g.met.H.GroupHandler.aside_alike h0 x y has) s held [] []
           (e2.given_up told (gathered_badly _ _ _ _ e0.faults e0.put_faults (err_is r _ bad.1 (failed_of _ r _ _ e1.faults))))
     ])
+
+pub returns-in-Ok-clause-turns : goal.returns-in-Ok-clause-turns
+returns-in-Ok-clause-turns g c told =
+    let k = spoken g.H.Handler.rules g.R.Replies.voice in
+    let start = g.K.Began.start in
+    let new = g.P.Device.view c.flush-inner.result.inner in
+    let s = g.H.Handler.state c.args.server.now (cleared start.reads) in
+    let t = g.H.Handler.state c.settle_few-settled.new.server (cleared new.reads) in
+    turns_ok k g.H.Handler.work (IsOfPort g.P.Device.view) _ s t [] (mark start) (mark new)
+    (one_turn k g.H.Handler.work (IsOfPort g.P.Device.view) s t [] (mark start) (mark new) (c.flush-inner.result.inner, refl) (returns-in-Ok-clause-did g c told).served (inl c.flush-inner.ensures.bounded))
+
+pub returns-in-Err-clause-turns : goal.returns-in-Err-clause-turns
+returns-in-Err-clause-turns g c told = turns_none (spoken g.H.Handler.rules g.R.Replies.voice) g.H.Handler.work (IsOfPort g.P.Device.view) _ _ _ [] _ _

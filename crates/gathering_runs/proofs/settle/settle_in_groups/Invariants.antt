@@ -2,6 +2,8 @@ use Rattle.std.proofs.Common.{◌≡◌, []}
 use Rattle.serving.specs.Voice.{spoken}
 use Rattle.gathering.specs.Gathered.{cleared}
 use Rattle.gathering_runs.specs.Turns.{StandsBetween}
+use Rattle.serving.specs.Prompt.{IsOfPort, mark}
+use Rattle.gathering_runs.proofs.ByTurns.{AllTurns}
 use Rattle.gathering_runs.proofs.Turning.{Went}
 use Rattle.gathering_runs.proofs.settle.settle_in_groups.Given as goal
 
@@ -19,4 +21,5 @@ invariant-loop-group g l =
       faults : (view l.disk.port).faults ≡ start.faults;
       put_faults : (view l.disk.port).put_faults ≡ start.put_faults;
       went : g.P.Device.told → Went (spoken g.H.Handler.rules g.R.Replies.voice) (g.H.Handler.aside l.initial.server) (g.H.Handler.state l.initial.server (cleared start.reads)) (g.H.Handler.state l.server (cleared (view l.disk.port).reads)) start (view l.disk.port) [];
+      turned : g.P.Device.told → AllTurns (spoken g.H.Handler.rules g.R.Replies.voice) g.H.Handler.work (IsOfPort view) (g.H.Handler.state l.initial.server (cleared start.reads)) (g.H.Handler.state l.server (cleared (view l.disk.port).reads)) [] (mark start) (mark (view l.disk.port));
     }

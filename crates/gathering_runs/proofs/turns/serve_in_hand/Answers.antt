@@ -1,15 +1,20 @@
 use Rattle.std.proofs.Common.{◌≡◌, ℕ, true, false, List, [], ◌∷◌, ◌++◌, refl, sym, ◌∙◌, ap, subst, arith, append-nil}
-use Rattle.std.specs.Prelude.{Ok}
+use Rattle.std.specs.Prelude.{Ok, Err}
 use Rattle.image_device.specs.Image.{Image}
 use Rattle.image_device.specs.Runs.{LeavesOnly}
 use Rattle.tsd_words.specs.declared.status.Status.TheVariants as status
 use Rattle.serving.specs.Voice.{spoken}
 use Rattle.gathering.specs.Gathered.{cleared}
 use Rattle.gathering_runs.specs.Promise.{IsLeftByRun}
+use Rattle.gathering_runs.specs.Sent.{IsSentBy}
 use Rattle.gathering_runs.specs.Turns.{HandsOut, Turned, waits_by}
 use Rattle.gathering_runs.proofs.Handing.{behind_first, behind_waiting, hands_none, hands_then}
-use Rattle.gathering_runs.proofs.Outcome.{counts_ok, ok_is}
-use Rattle.gathering_runs.proofs.Turning.{Went, left_then, turned_err, turned_ok, went, went_between, went_then}
+use Rattle.serving.specs.Goes.{unread}
+use Rattle.gathering_runs.proofs.Outcome.{counts_ok, ok_is, ok_is_if}
+use Rattle.serving.specs.Prompt.{IsOfPort, mark}
+use Rattle.gathering_runs.specs.ByTurns.{AnswersByTurns}
+use Rattle.gathering_runs.proofs.ByTurns.{AllTurns, all_then, all_turns, no_turns, turns_ok, turns_stopped}
+use Rattle.gathering_runs.proofs.Turning.{Went, left_then, sent_turned, turned_err, turned_ok, went, went_between, went_then}
 use Rattle.gathering_runs.proofs.turns.serve_in_hand.Goals as goal
 
 pub loop-disk-init : goal.loop-disk-init
@@ -28,6 +33,7 @@ loop-disk-init g c = record {
     λ told.
         let b = c.requires.between told in
         went_between (spoken g.H.Handler.rules g.R.Replies.voice) (g.H.Handler.aside c.args.server.now) (λ s x y has. g.met.H.GroupHandler.alike s x y has) _ (g.P.Device.view c.args.disk.port) c.args.disk.ring (g.met.P.Device.sound c.args.disk.port told) b.firm b.ring_at (g.met.H.Handler.stands_now c.args.server.now _ b.held),
+    λ told. no_turns (spoken g.H.Handler.rules g.R.Replies.voice) g.H.Handler.work (IsOfPort g.P.Device.view) _ _ _ _ refl refl,
   );
 }
 
@@ -62,6 +68,9 @@ loop-disk-preserved g c =
             went_then k (g.H.Handler.aside c.args.server.now) _ _ _ (g.P.Device.view c.args.disk.port) (g.P.Device.view c.loop-disk.disk.port) (g.P.Device.view c.serve_turn-left.result.0.port) was.0 (c.loop-disk.request ∷ did.0) (was.4 told)
             (went k (g.H.Handler.aside c.args.server.now) r true _ _ _ _ (c.loop-disk.request ∷ did.0) ok
             (subst (λ (p : Image → Image). Turned r k p (g.H.Handler.state c.loop-disk.server (cleared (g.P.Device.view c.loop-disk.disk.port).reads)) (g.H.Handler.state c.serve_turn-left.new.server (cleared (g.P.Device.view c.serve_turn-left.result.0.port).reads)) (g.P.Device.view c.loop-disk.disk.port) (g.P.Device.view c.serve_turn-left.result.0.port) (c.loop-disk.request ∷ did.0)) i.aside (did.2 told))),
+        λ told.
+            all_then k g.H.Handler.work (IsOfPort g.P.Device.view) (g.H.Handler.state c.args.server.now (cleared (g.P.Device.view c.args.disk.port).reads)) (g.H.Handler.state c.loop-disk.server (cleared (g.P.Device.view c.loop-disk.disk.port).reads)) (g.H.Handler.state c.serve_turn-left.new.server (cleared (g.P.Device.view c.serve_turn-left.result.0.port).reads)) was.0 (c.loop-disk.request ∷ did.0) (mark (g.P.Device.view c.args.disk.port)) (mark (g.P.Device.view c.loop-disk.disk.port)) (mark (g.P.Device.view c.serve_turn-left.result.0.port)) (was.5 told)
+            (all_turns k g.H.Handler.work (IsOfPort g.P.Device.view) r true _ _ (c.loop-disk.request ∷ did.0) _ _ ok (did.3 told)),
       );
     }
 
@@ -96,6 +105,10 @@ returns-in-Ok-false-clause-did g c =
           (subst (λ l. Went k part s0 s2 v0 v2 l) (sym (behind_first c.args.request.now q was.1 was.0 did.0 was.2))
           (went_then k part s0 s1 s2 v0 v1 v2 was.0 (q ∷ did.0) (was.4 told)
           (went k part r false s1 s2 v1 v2 (q ∷ did.0) ok (subst (λ (p : Image → Image). Turned r k p s1 s2 v1 v2 (q ∷ did.0)) i.aside (did.2 told))))),
+      λ told.
+          turns_ok k g.H.Handler.work (IsOfPort g.P.Device.view) tt s0 s2 (c.args.request.now ∷ (was.1 ++ did.0)) (mark v0) (mark v2)
+          (subst (λ l. AllTurns k g.H.Handler.work (IsOfPort g.P.Device.view) s0 s2 l (mark v0) (mark v2)) (sym (behind_first c.args.request.now q was.1 was.0 did.0 was.2))
+          (all_then k g.H.Handler.work (IsOfPort g.P.Device.view) s0 s1 s2 was.0 (q ∷ did.0) (mark v0) (mark v1) (mark v2) (was.5 told) (all_turns k g.H.Handler.work (IsOfPort g.P.Device.view) r false s1 s2 (q ∷ did.0) (mark v1) (mark v2) ok (did.3 told)))),
     )
 
 pub returns-in-Err-clause-did : goal.returns-in-Err-clause-did
@@ -125,6 +138,18 @@ returns-in-Err-clause-did g c =
           (subst (λ t. HandsOut sp fed1 fed2 c.loop-disk.intake c.serve_turn-left.new.intake (did.0 ++ waits_by t next)) c.in-Err.is did.1)),
       λ told.
           turned_err k part c.in-Err.why s0 s2 v0 v2 (c.args.request.now ∷ (was.1 ++ did.0))
+          (subst (λ l. IsSentBy c.in-Err.why k s0 v0.sent l v2.sent) (sym (behind_first c.args.request.now q was.1 was.0 did.0 was.2))
+          (sent_turned k part r c.in-Err.why s0 s1 s2 v0 v1 v2 was.0 (q ∷ did.0) c.in-Err.is (was.4 told) (subst (λ (p : Image → Image). Turned r k p s1 s2 v1 v2 (q ∷ did.0)) i.aside (did.2 told))))
           (subst (λ l. ∥ LeavesOnly v0 v2 (IsLeftByRun k part s0 v0 l) ∥₁) (sym (behind_first c.args.request.now q was.1 was.0 did.0 was.2))
           (left_then k part s0 s1 v0 v1 v2 was.0 (q ∷ did.0) (was.4 told) (subst (λ (p : Image → Image). Turned r k p s1 s2 v1 v2 (q ∷ did.0)) i.aside (did.2 told)).any_moment)),
+      λ told.
+          subst (λ l. AnswersByTurns {T = Unit {0}} (Err c.in-Err.why) k g.H.Handler.work (IsOfPort g.P.Device.view) s0 s2 l (mark v0) (mark v2)) (sym (behind_first c.args.request.now q was.1 was.0 did.0 was.2))
+          (turns_stopped k g.H.Handler.work (IsOfPort g.P.Device.view) r c.in-Err.why s0 s1 s2 was.0 (q ∷ did.0) (mark v0) (mark v1) (mark v2) c.in-Err.is (was.5 told) (did.3 told)),
     )
+
+pub returns-in-Ok-false-clause-read : goal.returns-in-Ok-false-clause-read
+returns-in-Ok-false-clause-read g c over =
+    let was = c.loop-disk.invariant.goes in
+    let r = c.serve_turn-left.result.1 in
+    let ok : r ≡ Ok false = c.in-Ok-false.is ∙ ap (λ b. Ok b) c.in-Ok-false.field-0-test in
+    ok_is_if (λ waits. waits ≡ false → c.loop-disk.intake.over ≡ false → unread c.serve_turn-left.new.intake ≡ []) r false ok c.serve_turn-left.ensures.read refl (was.3.over ∙ over)

@@ -1,4 +1,4 @@
-use Rattle.std.proofs.Common.{inl, inr, ℕ, [], refl, sym, ◌∙◌, ap, subst, append-nil, arith}
+use Rattle.std.proofs.Common.{inl, inr, ℕ, [], refl, sym, ◌∙◌, ap, subst, append-nil}
 use Rattle.std.specs.Prelude.{Err}
 use Rattle.image_runs.proofs.Common.{Rose, Status, behind}
 use Rattle.image_runs.proofs.Behind.{size_of_core}
@@ -25,7 +25,7 @@ returns-in-Ok-clause-ran g c =
       ends = λ told.
           ends_opened g.R.Replies.voice c.args.placement.now.kind old mid ran.asked (c.open_core.ensures.any_moment told) c.serve_in_groups.result.1 (g.P.Device.view c.serve_in_groups.result.0) _ _ (behind c.in-Ok.core.volume.tables.geometry)
           (placed_at c.args.placement.now.kind c.in-Ok.core mid.reads _ (c.in-Ok.ensures.state told)) (c.open_core.ensures.sent told)
-          (ran.any_moment told) (ran.served told) (ran.done told)
+          (ran.any_moment told) (ran.sent told) (ran.done told)
           (λ done.
           let at = c.serve_in_groups.ensures.at done told in
           record { firm = at.0; stands = record { good = at.1.good; world = refl }; quiet = c.serve_in_groups.ensures.closed done told });
@@ -63,7 +63,7 @@ returns-in-Err-clause-ran g c =
       came_in = record { taken = λ tells. sym (append-nil _); left = λ tells. refl };
       asked = [];
       these = inl (record { why = c.in-Err.ensures.stops; untouched = refl; none = refl; sent = c.open_core.ensures.sent; alike = c.open_core.ensures.any_moment });
-      ends = λ told. ends_unopened g.R.Replies.voice c.args.placement.now.kind old now [] (c.open_core.ensures.any_moment told) c.in-Err.why refl (c.open_core.ensures.sent told) c.in-Err.ensures.stops;
+      ends = λ told. ends_unopened g.R.Replies.voice c.args.placement.now.kind old now [] (c.open_core.ensures.any_moment told) g.met.R.Replies.apart.nothing c.in-Err.why refl (c.open_core.ensures.sent told) c.in-Err.ensures.stops;
     }
 
 pub returns-in-Err-clause-source_fault : goal.returns-in-Err-clause-source_fault
