@@ -69,20 +69,16 @@ module _ (f : FilesView) (start : World) (first second : ShellState) (x : Image)
       record { tree = as_left.tree ∙ none; mounted = as_left.mounted ∙ ap is_there none; tidy = as_left.tidy; geometry = as_left.geometry; others = as_left.others }
 
 pub found_again : WhatACrashLeftIsMounted
-found_again f start left first second before asked x sent is_first acked is_second = elim acked [
-  | inl b ↦ inl (b.0, found f start first second x is_first is_second b.0.state (after_run start first b.0.state b.0.answered b.0.answers b.0.run) b.1)
-  | inr c ↦
-      let run = after_run start first c.0.state c.0.answered c.0.answers c.0.run in
-      let one = after_answer start c.0.state c.0.next c.0.request c.0.answer c.0.given in
-      inr (
-        c.0,
-        c.1,
-        elim c.2 [
-          | inl not_yet ↦ inl (elim not_yet [
-            | inl now ↦ found f start first second x is_first is_second c.0.state run now
-            | inr between ↦ found_none f start first second x is_first is_second c.0.state c.0.request run between
-          ])
-          | inr next ↦ inr (found f start first second x is_first is_second c.0.next (one.0 ∙ run.0, one.1 ∙ run.1) next)
-        ],
-      )
-]
+found_again f start first second before asked x sent is_first is_second = (
+  λ b left. found f start first second x is_first is_second b.state (after_run start first b.state b.answered b.answers b.run) left,
+  λ c left.
+      let run = after_run start first c.state c.answered c.answers c.run in
+      let one = after_answer start c.state c.next c.request c.answer c.given in
+      elim left [
+        | inl not_yet ↦ inl (elim not_yet [
+          | inl now ↦ found f start first second x is_first is_second c.state run now
+          | inr between ↦ found_none f start first second x is_first is_second c.state c.request run between
+        ])
+        | inr next ↦ inr (found f start first second x is_first is_second c.next (one.0 ∙ run.0, one.1 ∙ run.1) next)
+      ],
+)

@@ -1,5 +1,5 @@
 -- A run over what a crash left of another.
-use Rattle.std.specs.Prelude.{◌≡◌, ◌⊎◌, ℕ, true, List, ◌++◌}
+use Rattle.std.specs.Prelude.{◌≡◌, ◌⊎◌, ℕ, true, List}
 use Rattle.tsd_model.specs.World.{World}
 use Rattle.image_layout.specs.Image.{Image}
 use Rattle.fs_trees.specs.Tree.{is_there}
@@ -7,10 +7,10 @@ use Rattle.fs_trees.specs.Layouts.{IsTidy}
 use Rattle.fs_trees.specs.Outside.{OthersStay}
 use Rattle.fs_trees.specs.declared.ask.ShellAsk.{ShellAsk}
 use Rattle.fs_port.specs.Files.{FilesView}
-use Rattle.serving.specs.Runs.{IsBroken, IsCutOff, texts}
-use Rattle.serving.specs.Seen.{IsLeftInRun, IsSeen}
+use Rattle.serving.specs.Runs.{IsBroken, IsCutOff}
+use Rattle.serving.specs.Service.{IsNotYetAfter}
 use Rattle.image_world.specs.Stands.{world_of}
-use Rattle.shell_server.specs.Shell.{ShellState, shell_service, tree_of, tree_under}
+use Rattle.shell_server.specs.Shell.{ShellState, IsLeftOf, shell_service, tree_of, tree_under}
 use Rattle.image_shell.specs.Served.{IsFirstState}
 
 -- The tree of a state of the one run is the tree that the other begins with: mounted where it is there, in a tidy world
@@ -22,16 +22,16 @@ pub record IsFoundAgain (start : World) (s second : ShellState) : Type 0 where
   pub geometry : second.world.geometry ≡ start.geometry
   pub others : OthersStay s.files.root start second.world
 
--- A crash of a run from this world left this image, with these bytes sent. A run over that image, of the same layout
--- and root, begins with the tree after as many asks as whole answers were sent, or where an answer was under way, with
--- the tree of a state that was seen then, or the one that this answer tells.
+-- A crash of a run from this world left this image, with these bytes sent, in one of the two cases of IsLeftInRun. A
+-- run over that image, of the same layout and root, begins with the tree after as many asks as whole answers were sent;
+-- where an answer was under way, with the tree of the very state in which its ask came, or with the one that it tells.
 abbrev pub WhatACrashLeftIsMounted : Type 0
 WhatACrashLeftIsMounted =
-    (f : FilesView) (start : World) (left : Image → List ℕ → Type 0) (first second : ShellState) (before : List ℕ)
-    (asked : List ShellAsk) (x : Image) (sent : List ℕ)
-    → IsFirstState f start first → IsLeftInRun (shell_service start) left first before asked x sent
-    → IsFirstState f (world_of x) second
-    → ((b : IsBroken (shell_service start) first before asked sent) × IsFoundAgain start b.state second)
-    ⊎ ((c : IsCutOff (shell_service start) first before asked sent)
-    × IsSeen (shell_service start) left c.state (before ++ texts c.answers)
-    × (IsFoundAgain start c.state second ⊎ IsFoundAgain start c.next second))
+    (f : FilesView) (start : World) (first second : ShellState) (before : List ℕ) (asked : List ShellAsk) (x : Image)
+    (sent : List ℕ)
+    → IsFirstState f start first → IsFirstState f (world_of x) second
+    → ((b : IsBroken (shell_service start) first before asked sent) → IsLeftOf start b.state x
+    → IsFoundAgain start b.state second)
+    × ((c : IsCutOff (shell_service start) first before asked sent)
+    → IsNotYetAfter (shell_service start) c.state c.request x ⊎ IsLeftOf start c.next x
+    → IsFoundAgain start c.state second ⊎ IsFoundAgain start c.next second)
