@@ -1,11 +1,11 @@
 -- Turns, one behind the other.
-use Rattle.std.proofs.Common.{◌≡◌, ◌⊎◌, ◌≤◌, inl, inr, ℕ, ◌+◌, List, [], ◌∷◌, ◌++◌, refl, sym, ◌∙◌, ap, subst, append_assoc, append-nil}
+use Rattle.std.proofs.Common.{◌≡◌, ◌⊎◌, ◌≤◌, inr, ◌+◌, List, [], ◌∷◌, ◌++◌, refl, sym, ◌∙◌, ap, subst, append_assoc, append-nil}
 use Rattle.std.specs.Prelude.{Result, Ok, Err, OnOk}
 use Rattle.serving.specs.Prompt.{Mark}
 use Rattle.serving.specs.Runs.{Served}
 use Rattle.serving.specs.Service.{Service}
 use Rattle.serving.specs.Work.{WorkCount}
-use Rattle.gathering_runs.specs.ByTurns.{all_of, ByTurns, IsDirect, IsGroup, IsReplied, IsTurn, AnswersByTurns}
+use Rattle.gathering_runs.specs.ByTurns.{all_of, ByTurns, IsDirect, IsGroup, IsReplied, AnswersByTurns}
 
 pub all_of-append : {Q : Type 0} (xs ys : List (List Q)) → all_of (xs ++ ys) ≡ all_of xs ++ all_of ys
 all_of-append [] ys = refl

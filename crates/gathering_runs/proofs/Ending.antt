@@ -1,5 +1,5 @@
 -- How a run of groups ends.
-use Rattle.std.proofs.Common.{◌≡◌, inl, inr, ℕ, zero, suc, List, [], ◌++◌, take, refl, sym, ◌∙◌, ap, subst}
+use Rattle.std.proofs.Common.{◌≡◌, inl, inr, ℕ, List, [], ◌++◌, take, refl, sym, ◌∙◌, ap, subst}
 use Rattle.image_device.specs.Image.{Image}
 use Rattle.image_device.specs.View.{View}
 use Rattle.image_device.specs.Runs.{LeavesOnly}
@@ -16,6 +16,7 @@ use Rattle.serving.proofs.Inputs.{asked_stopped}
 use Rattle.gathering_runs.specs.Promise.{IsLeftByRun}
 use Rattle.gathering_runs.specs.Run.{AskedInGroups}
 use Rattle.gathering_runs.specs.Turns.{StopsBy}
+use Rattle.gathering_runs.proofs.Rounds.{take_none}
 use Rattle.gathering_runs.proofs.Joined.{of_earlier}
 
 -- where it stops, the input isn't cut short
@@ -29,10 +30,6 @@ pub not_done : (why : Status) → StopsBy why → why ≡ status.Done → ⊥
 not_done why (inl e) done = cc
 not_done why (inr (inl e)) done = cc
 not_done why (inr (inr e)) done = cc
-
-pub take_none : (n : ℕ) → take {A = ℕ} n [] ≡ []
-take_none zero = refl
-take_none (suc n) = refl
 
 module _ {Q : Type 0} (p : Spelling Q) where
   -- by an input of which nothing came

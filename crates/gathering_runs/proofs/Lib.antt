@@ -3,7 +3,7 @@ mod Handing
 mod Sent
 mod Turning
 mod ByTurns
-mod Rounds
+pub mod Rounds
 mod Grouped
 mod OnDevice
 mod Carried

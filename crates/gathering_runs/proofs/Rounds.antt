@@ -1,5 +1,5 @@
 -- Rounds, one behind the other.
-use Rattle.std.proofs.Common.{◌≡◌, ◌⊎◌, ◌≤◌, inl, inr, ℕ, ◌+◌, ◌-◌, Bool, true, false, MatchBool, List, [], ◌∷◌, ◌++◌, length, take, drop, min, slice_range, refl, sym, ◌∙◌, ap, subst, arith, append_assoc, append-nil, length-append}
+use Rattle.std.proofs.Common.{◌≡◌, ◌≤◌, inl, inr, ℕ, zero, suc, ◌+◌, ◌-◌, false, MatchBool, List, [], ◌∷◌, ◌++◌, length, take, drop, refl, sym, ◌∙◌, ap, subst, arith, append-nil, length-append}
 use Rattle.std.proofs.lemmas.List.{length-take, take_all}
 use Rattle.std.proofs.lemmas.Bool.{cases_Bool}
 use Rattle.tsd_words.specs.declared.status.Status.{Status}
@@ -12,9 +12,13 @@ use Rattle.serving.specs.Runs.{Run}
 use Rattle.serving.specs.Service.{Service}
 use Rattle.serving.specs.Work.{WorkCount}
 use Rattle.serving.specs.declared.intake.Intake.{Intake}
-use Rattle.gathering_runs.specs.ByTurns.{all_of, ByTurns}
+use Rattle.gathering_runs.specs.ByTurns.{all_of, ByTurns, IsDirect, IsTurn}
 use Rattle.gathering_runs.specs.Rounds.{AreAll, ByRounds, IsNear, RanByRounds, Round}
 use Rattle.gathering_runs.proofs.ByTurns.{AllTurns}
+
+pub take_none : (n : ℕ) → take {A = ℕ} n [] ≡ []
+take_none zero = refl
+take_none (suc n) = refl
 
 module _ {Q : Type 0} (p : Spelling Q) where
   -- all that came, as far as it is served, makes no more than one request more whole
@@ -148,3 +152,53 @@ module _ {Q : Type 0} (k : Service Q) (w : WorkCount Q k.States) (port : Mark �
 pub run_none : {Q : Type 0} (k : Service Q) (s t : k.States) (xs : List (List ℕ)) → Run k s [] xs t → s ≡ t
 run_none k s t [] run = run
 run_none k s t (a ∷ xs) run = absurd run
+
+-- the same of another port of which all of it is seen
+module _ {Q : Type 0} (k : Service Q) (w : WorkCount Q k.States) (A B : Mark → Type 0) (over : (m : Mark) → A m → B m) where
+  direct_over : (s : k.States) (qs : List Q) (old new : Mark) → IsDirect k w A s qs old new → IsDirect k w B s qs old new
+  direct_over s qs old new d = record {
+    request = d.request;
+    one = d.one;
+    emptied = d.emptied;
+    of_port = over d.emptied d.of_port;
+    nothing_sent = d.nothing_sent;
+    writes = d.writes;
+    replied = record { replied = d.replied.replied; of_port = over d.replied.replied d.replied.of_port; sent = d.replied.sent; before = d.replied.before };
+  }
+
+  turn_over : (s : k.States) (qs : List Q) (t : k.States) (old new : Mark) → IsTurn k w A s qs t old new → IsTurn k w B s qs t old new
+  turn_over s qs t old new turn = record {
+    of_port = over new turn.of_port;
+    served = turn.served;
+    work = elim turn.work [ inl group ↦ inl group | inr direct ↦ inr (direct_over s qs old new direct) ];
+  }
+
+  turns_over : (turns : List (List Q)) (s t : k.States) (old new : Mark) → ByTurns k w A s turns t old new → ByTurns k w B s turns t old new
+  turns_over [] s t old new a = a
+  turns_over (qs ∷ turns) s t old new a = (a.0, a.1, turn_over s qs a.0 old a.1 a.2, turns_over turns a.0 t a.1 new a.3)
+
+  rounds_over : (p : Spelling Q) (limit : ℕ) (rounds : List (Round Q)) (s t : k.States) (came0 came : List ℕ) (qs0 qs : List Q) (old new : Mark) → ByRounds k w A p limit s came0 qs0 rounds t came qs old new → ByRounds k w B p limit s came0 qs0 rounds t came qs old new
+  rounds_over p limit [] s t came0 came qs0 qs old new a = a
+  rounds_over p limit (r ∷ rounds) s t came0 came qs0 qs old new a =
+      (a.0, a.1, a.2, turns_over r.turns s a.0 old a.1 a.3, a.4, rounds_over p limit rounds a.0 t (came0 ++ r.more) came (qs0 ++ all_of r.turns) qs a.1 new a.5)
+
+  pub ran_over : (r : Status) (p : Spelling Q) (limit : ℕ) (s : k.States) (source : Taking) (old new : Mark) → RanByRounds r k w A p limit s source old new → RanByRounds r k w B p limit s source old new
+  ran_over r p limit s source old new a = record {
+    begun = a.begun;
+    of_port = over a.begun a.of_port;
+    nothing_sent = a.nothing_sent;
+    rounds = a.rounds;
+    state = a.state;
+    came = a.came;
+    answered = a.answered;
+    rested = a.rested;
+    each = rounds_over p limit a.rounds s a.state [] a.came [] a.answered a.begun a.rested a.each;
+    more = a.more;
+    came_in = a.came_in;
+    near = a.near;
+    turns = a.turns;
+    last = a.last;
+    stopped = a.stopped;
+    behind = turns_over a.turns a.state a.last a.rested a.stopped a.behind;
+    as_it_was = a.as_it_was;
+  }

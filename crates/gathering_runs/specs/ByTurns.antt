@@ -1,5 +1,5 @@
 -- How promptly a run of groups answered, and how often it wrote, turn by turn.
-use Rattle.std.specs.Prelude.{◌≡◌, ◌⊎◌, ℕ, ◌+◌, ◌≤◌, List, [], ◌∷◌, ◌++◌, Result, OnOk}
+use Rattle.std.specs.Prelude.{◌≡◌, ◌⊎◌, ◌+◌, ◌≤◌, List, [], ◌∷◌, ◌++◌, Result, OnOk}
 use Rattle.serving.specs.Prompt.{Mark}
 use Rattle.serving.specs.Runs.{Served}
 use Rattle.serving.specs.Service.{Service}
@@ -52,8 +52,8 @@ all_of (qs ∷ turns) = qs ++ all_of turns
 
 -- The first of these requests were answered by turns. Where that went well all were, and nothing was done behind the
 -- last turn.
-pub record AnswersByTurns {Q T E : Type 0} (r : Result T E) (k : Service Q) (w : WorkCount Q k.States) (port : Mark → Type 0)
-    (s t : k.States) (qs : List Q) (old new : Mark) : Type 0 where
+pub record AnswersByTurns {Q T E : Type 0} (r : Result T E) (k : Service Q) (w : WorkCount Q k.States)
+    (port : Mark → Type 0) (s t : k.States) (qs : List Q) (old new : Mark) : Type 0 where
   pub turns : List (List Q)
   pub rest : List Q
   pub parts : qs ≡ all_of turns ++ rest

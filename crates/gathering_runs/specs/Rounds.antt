@@ -27,7 +27,8 @@ pub record IsNear {Q : Type 0} (p : Spelling Q) (limit : ℕ) (came : List ℕ) 
 abbrev pub AreAll : {Q : Type 0} → Spelling Q → ℕ → List ℕ → List Q → Type 0
 AreAll p limit came qs = (qs ≡ p.requests (take limit came)) ⊎ (qs ≡ all_requests p came)
 
--- Round by round: bytes came, and before more came, all requests were answered by turns that are whole in what had come.
+-- Round by round: bytes came, and before more came, all requests were answered by turns that are whole in what had
+-- come.
 abbrev pub ByRounds : {Q : Type 0} → (k : Service Q) → WorkCount Q k.States → (Mark → Type 0) → Spelling Q → ℕ
     → k.States → List ℕ → List Q → List (Round Q) → k.States → List ℕ → List Q → Mark → Mark → Type 0
 ByRounds k w port p limit s came qs [] t came_then qs_then old new =

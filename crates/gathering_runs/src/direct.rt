@@ -81,8 +81,8 @@ fn answer<P: Port, R: Protocol<Request = Request> + Replies, H: GroupHandler>(
     ensures did { P.told → Turned result (spoken H.rules R.voice) (H.aside server.old)
         (H.state server.old (P.view port.old).reads) (H.state server.new (P.view port.new).reads) (P.view port.old)
         (P.view port.new) (request.now ∷ []) }
-    ensures prompt { P.told → OnOk result (IsReplied H.work (IsOfPort P.view) (H.state server.old (P.view port.old).reads)
-        request.now (mark (P.view port.old)) (mark (P.view port.new))) }
+    ensures prompt { P.told → OnOk result (IsReplied H.work (IsOfPort P.view)
+        (H.state server.old (P.view port.old).reads) request.now (mark (P.view port.old)) (mark (P.view port.new))) }
     ensures aside { H.aside server.new ≡ H.aside server.old }
     ensures ready { OnOk result (H.is_ready server.new) }
     ensures at { P.told → OnOk result (FitsDevice (H.holds server.new) (P.view port.new)) }

@@ -10,11 +10,14 @@ use Rattle.tsd_words.specs.declared.status.Status.{Status}
 use Rattle.tsd_words.specs.declared.status.Status.TheVariants as status
 use Rattle.serving.specs.Input.{Spelling}
 use Rattle.serving.specs.ModelRules.{Placed}
+use Rattle.serving.specs.Prompt.{Mark, mark}
 use Rattle.serving.specs.Ran.{Moments, Taking}
 use Rattle.serving.specs.Runs.{Served}
 use Rattle.serving.specs.Voice.{Voice}
 use Rattle.image_runs.specs.Served.{disk_service, start_of, IsAtEase, NotOpened}
 use Rattle.gathering_runs.specs.Promise.{IsOfPrefix}
+use Rattle.image_runs.specs.Server.{disk_work}
+use Rattle.gathering_runs.specs.Rounds.{RanByRounds}
 use Rattle.gathering_runs.specs.Run.{AskedInGroups}
 use Rattle.gathering_runs.specs.Sent.{SentInGroups}
 
@@ -29,6 +32,15 @@ pub record GroupsEnd (r : Status) (v : Voice) (kind : PlaceKind) (old new : View
   pub sent : SentInGroups r (disk_service v) (start_of kind old.reads) old.sent asked new.sent
   pub done : r ≡ status.Done → (final : Placed)
       × Served (disk_service v) (start_of kind old.reads) old.sent asked final new.sent × IsAtEase new final.state.world
+
+-- How promptly a run answered that ended so: from a moment at which the image was opened, with nothing sent, round by
+-- round.
+pub record ImageRanByRounds (r : Status) (v : Voice) (p : Spelling Request) (kind : PlaceKind) (port : Mark → Type 0)
+    (limit : ℕ) (source : Taking) (old new : View) : Type 0 where
+  pub opened : Mark
+  pub of_port : port opened
+  pub nothing_sent : opened.sent ≡ old.sent
+  pub rounds : RanByRounds r (disk_service v) disk_work port p limit (start_of kind old.reads) source opened (mark new)
 
 -- Bytes that came in, the requests that were asked by them, and how the run over these ended, where the port tells.
 pub record ImageRanInGroups (r : Status) (v : Voice) (p : Spelling Request) (kind : PlaceKind) (limit : ℕ)

@@ -5,9 +5,10 @@ ghost use Rattle.image_device.specs.Counts.{Rose};
 ghost use Rattle.image_device.specs.Runs.{IsFirm};
 ghost use Rattle.image_world.specs.Behind.{LeavesBehind};
 ghost use Rattle.recovery.specs.Opening.{IsForeign, IsSpared, IsUntouched};
+ghost use Rattle.serving.specs.Prompt.{IsOfPort};
 ghost use Rattle.serving.specs.Ran.{EndsOnce, moments, taking};
 ghost use Rattle.image_runs.specs.Opened.{IsJudged, IsNotImage};
-ghost use Rattle.image_groups.specs.Served.{ImageRanInGroups};
+ghost use Rattle.image_groups.specs.Served.{ImageRanByRounds, ImageRanInGroups};
 
 use crate::run::serve_image_in_groups;
 use image_device::{Port, Source};
@@ -38,6 +39,9 @@ pub fn serve_port_in_groups<S: Source, P: Port, R: Protocol<Request = Request> +
     /// it is.
     ensures ran { ImageRanInGroups result R.voice R.spelling placement.now.kind limit
         (taking S.told S.taken S.left_bytes S.ended source.old source.new) (moments P.told P.view port.old port.new) }
+    /// promise: So it is of its rounds.
+    ensures rounds { P.told → ImageRanByRounds result R.voice R.spelling placement.now.kind (IsOfPort P.view) limit
+        (taking S.told S.taken S.left_bytes S.ended source.old source.new) (P.view port.old) (P.view port.new) }
     // Where the image fails one of the tests that need no write, nothing is written, and the disk reads as before;
     // where it fails another, nothing is lost that a repair could use.
     ensures untouched { P.told → IsForeign (P.view port.old).reads
@@ -78,6 +82,9 @@ fn serve_loan<'a, S: Source, P: Port, R: Protocol<Request = Request> + Replies, 
     ensures ran { ImageRanInGroups result.1 R.voice R.spelling placement.now.kind limit
         (taking S.told S.taken S.left_bytes S.ended source.old source.new)
         (moments P.told P.view loan.entry.port.now result.0.port.now) }
+    ensures rounds { P.told → ImageRanByRounds result.1 R.voice R.spelling placement.now.kind (IsOfPort P.view) limit
+        (taking S.told S.taken S.left_bytes S.ended source.old source.new) (P.view loan.entry.port.now)
+        (P.view result.0.port.now) }
     ensures untouched { P.told → IsForeign (P.view loan.entry.port.now).reads
         → IsUntouched (P.view loan.entry.port.now) (P.view result.0.port.now) }
     ensures spared { P.told → IsNotImage result.1

@@ -5,9 +5,10 @@ ghost use Rattle.image_device.specs.Counts.{Rose};
 ghost use Rattle.image_device.specs.Runs.{IsFirm};
 ghost use Rattle.image_world.specs.Behind.{LeavesBehind};
 ghost use Rattle.recovery.specs.Opening.{IsForeign, IsSpared, IsUntouched};
+ghost use Rattle.serving.specs.Prompt.{IsOfPort};
 ghost use Rattle.serving.specs.Ran.{EndsOnce, moments, taking};
 ghost use Rattle.image_runs.specs.Opened.{IsJudged, IsNotImage};
-ghost use Rattle.image_groups.specs.Served.{ImageRanInGroups};
+ghost use Rattle.image_groups.specs.Served.{ImageRanByRounds, ImageRanInGroups};
 
 use crate::server::GroupServer;
 use gathering_runs::serve_in_groups;
@@ -43,6 +44,11 @@ pub fn serve_image_in_groups<S: Source, P: Port, R: Protocol<Request = Request> 
     /// opened, and served in groups; by the status what came in, what was sent and what a crash leaves.
     ensures ran { ImageRanInGroups result.1 R.voice R.spelling placement.now.kind limit
         (taking S.told S.taken S.left_bytes S.ended source.old source.new) (moments P.told P.view port result.0) }
+    // Round by round: no request that is whole waits while more input is taken.
+    /// promise: What `serve_in_groups` says of its rounds, from a moment at which the image was opened and nothing was
+    /// sent.
+    ensures rounds { P.told → ImageRanByRounds result.1 R.voice R.spelling placement.now.kind (IsOfPort P.view) limit
+        (taking S.told S.taken S.left_bytes S.ended source.old source.new) (P.view port) (P.view result.0) }
     // Where the image fails one of the tests that need no write, nothing is written, and the disk reads as before;
     // where it fails another, nothing is lost that a repair could use.
     /// promise (with spared): Where the image fails one of the first three tests, nothing is written; where it fails

@@ -1,13 +1,15 @@
 -- How promptly requests are answered.
-use Rattle.std.specs.Prelude.{⊤, Option, Some}
+use Rattle.std.specs.Prelude.{◌^◌, ⊤, Option, Some}
 use Rattle.image_device.specs.View.{View}
 use Rattle.tsd_words.specs.declared.commands.Command.{Command}
 use Rattle.tsd_words.specs.declared.commands.Command.TheVariants as command
 use Rattle.tsd_words.specs.declared.status.Status.{Status}
-use Rattle.serving.specs.FrameSpelling.{frame_voice}
+use Rattle.serving.specs.FrameSpelling.{frame_spelling, frame_voice}
 use Rattle.serving.specs.LineSpelling.{line_voice}
 use Rattle.image_world.specs.Stands.{world_of}
 use Rattle.serving.specs.Prompt.{IsOfPort, mark}
+use Rattle.serving.specs.Ran.{Taking}
+use Rattle.image_groups.specs.Served.{ImageRanByRounds}
 use Rattle.image_runs.specs.Fresh.{IsPromptFresh, single_world}
 use Rattle.image_runs.specs.Served.{IsPromptRun}
 use Rattle.image_shell.specs.Served.{IsNotServed, IsPromptShell}
@@ -27,3 +29,10 @@ AnswersPromptly (Some (command.Shell shell)) r view old new =
     ¬ IsNotServed r → IsPromptShell r (unmounted shell.layout shell.root shell.cap) (IsOfPort view)
     (world_of (view old).reads) (view old).sent (mark (view new))
 AnswersPromptly words r view old new = ⊤
+
+-- Of the command that serves in groups: round by round all is answered that is whole in what came, by turns that are
+-- groups or requests on the device itself, and what each writes has a bound.
+abbrev pub AnswersByRounds : {P : Type 0} → Option Command → Status → Taking → (P → View) → P → P → Type 0
+AnswersByRounds (Some (command.Group kind)) r source view old new =
+    ImageRanByRounds r frame_voice frame_spelling kind (IsOfPort view) (2 ^ 40) source (view old) (view new)
+AnswersByRounds words r source view old new = ⊤

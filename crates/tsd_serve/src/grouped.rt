@@ -4,6 +4,7 @@ ghost use Rattle.std.specs.Prelude.{◌≡◌, ◌≢◌, Some};
 ghost use Rattle.image_device.specs.Counts.{Rose};
 ghost use Rattle.serving.specs.Ran.{EndsOnce, moments, taking};
 ghost use Rattle.tsd_serve.specs.Did.{Did};
+ghost use Rattle.tsd_serve.specs.Prompt.{AnswersByRounds};
 ghost use Rattle.tsd_words.specs.declared.commands.Command.TheVariants as command;
 
 use image_device::{Port, Source};
@@ -27,6 +28,8 @@ pub(crate) fn group_frames<S: Source, P: Port>(
     ensures other { result ≢ Status.Usage }
     ensures did { Did (Some (command.Group kind)) result
         (taking S.told S.taken S.left_bytes S.ended source.old source.new) (moments P.told P.view port.old port.new) }
+    ensures rounds { P.told → AnswersByRounds (Some (command.Group kind)) result
+        (taking S.told S.taken S.left_bytes S.ended source.old source.new) P.view port.old port.new }
     ensures once { EndsOnce (S.ends source.old) (S.ends source.new) }
     // A count of faults rose only where the status is that fault's.
     ensures source_fault { result ≡ Status.SourceFault → Rose (S.faults source.old) (S.faults source.new) }

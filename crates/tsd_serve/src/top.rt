@@ -5,7 +5,7 @@ ghost use Rattle.image_device.specs.Counts.{Rose};
 ghost use Rattle.serving.specs.Ran.{EndsOnce, moments, taking};
 ghost use Rattle.tsd_model.specs.Geometry.{IsLawful};
 ghost use Rattle.tsd_serve.specs.Did.{Did};
-ghost use Rattle.tsd_serve.specs.Prompt.{AnswersPromptly};
+ghost use Rattle.tsd_serve.specs.Prompt.{AnswersByRounds, AnswersPromptly};
 ghost use Rattle.tsd_words.specs.Words.{IsInLimits, command_of};
 ghost use Rattle.tsd_words.specs.declared.commands.Command.TheVariants as command;
 
@@ -62,6 +62,13 @@ pub fn tsd<S: Source, P: Port>(
     /// nothing is written but these. With `shell` the last is alone said, of the last answer.
     ensures prompt { P.told → AnswersPromptly (command_of (map string_bytes words.now.items)) result P.view port.old
         port.new }
+    /// promise: With `group`, **round by round**: bytes came, and then all requests were answered by turns, and their
+    /// replies sent, that were whole in what had come. A turn is a group, with at most 236 writes from its first call
+    /// to its last reply, or a request on the disk itself. Of what comes in a round all but the last 65,536 bytes make
+    /// one request whole at most. After SourceFault, TooLong and Truncated nothing was written or sent behind the last
+    /// round.
+    ensures rounds { P.told → AnswersByRounds (command_of (map string_bytes words.now.items)) result
+        (taking S.told S.taken S.left_bytes S.ended source.old source.new) P.view port.old port.new }
     // Nothing more is taken once the end was found.
     /// promise: Nothing is taken after the end of the input was found.
     ensures once { EndsOnce (S.ends source.old) (S.ends source.new) }
@@ -99,6 +106,8 @@ pub(crate) fn obey<S: Source, P: Port>(
     // What is written before each reply has a bound, and what is written behind it; where the input was cut short,
     // nothing is done behind the last one but that.
     ensures prompt { P.told → AnswersPromptly (Some words) result P.view port.old port.new }
+    ensures rounds { P.told → AnswersByRounds (Some words) result
+        (taking S.told S.taken S.left_bytes S.ended source.old source.new) P.view port.old port.new }
     ensures once { EndsOnce (S.ends source.old) (S.ends source.new) }
     // A count of faults rose only where the status is that fault's.
     ensures source_fault { result ≡ Status.SourceFault → Rose (S.faults source.old) (S.faults source.new) }

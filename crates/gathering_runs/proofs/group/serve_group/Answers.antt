@@ -50,13 +50,13 @@ returns-in-Ok-clause-did g c =
     let well = gathered_well c.gather-gathered.result _ _ _ _ e0.faults e0.put_faults whole.0 whole.1 e1.failed in
     let was = ok_by c.gather-gathered.result well.0 c.unwrap_or.result well.1 c.unwrap_or.ensures in
     let went_so = λ (told : g.P.Device.told).
-          let at = ok_is c.gather-gathered.result _ well.1 (e1.at told) in
-          let closed = ok_is c.gather-gathered.result _ well.1 (e1.closed told) in
-          let flushed = ok_is c.flush-inner.result.result _ c.in-Ok.is (e2.done told) in
-          let over = to_next (g.H.Handler.holds h1) (g.H.Handler.state h1) (g.met.H.GroupHandler.carried h1) v.reads new.reads at.1 closed flushed in
-          went_flushed k (g.H.Handler.aside h0) start v new (λ s x y has. g.met.H.GroupHandler.alike s x y has) (λ x y has. g.met.H.GroupHandler.aside_alike h0 x y has) (g.H.Handler.state h0 (cleared start.reads)) (g.met.H.Handler.stands_now h0 (cleared start.reads) (c.requires.between told).held) (q ∷ done) []
-          (g.H.Handler.state h1 v.reads) _ e0.reads _ e0.sent _ (ap (λ x. g.H.Handler.state h0 x) e0.reads) (ok_is c.gather-gathered.result _ well.1 (e1.did.2 told)) (g.met.H.Handler.stands_now h1 v.reads at.1) closed (ok_is c.gather-gathered.result _ well.1 (e1.part told))
-          (g.H.Handler.state h1 (cleared new.reads)) c.flush-inner.result.ring refl (e2.any_moment told) flushed (ok_is c.flush-inner.result.result _ c.in-Ok.is (e2.at told)) (ok_is c.flush-inner.result.result _ c.in-Ok.is (e2.sent told)) over.1 in (
+    let at = ok_is c.gather-gathered.result _ well.1 (e1.at told) in
+    let closed = ok_is c.gather-gathered.result _ well.1 (e1.closed told) in
+    let flushed = ok_is c.flush-inner.result.result _ c.in-Ok.is (e2.done told) in
+    let over = to_next (g.H.Handler.holds h1) (g.H.Handler.state h1) (g.met.H.GroupHandler.carried h1) v.reads new.reads at.1 closed flushed in
+    went_flushed k (g.H.Handler.aside h0) start v new (λ s x y has. g.met.H.GroupHandler.alike s x y has) (λ x y has. g.met.H.GroupHandler.aside_alike h0 x y has) (g.H.Handler.state h0 (cleared start.reads)) (g.met.H.Handler.stands_now h0 (cleared start.reads) (c.requires.between told).held) (q ∷ done) []
+    (g.H.Handler.state h1 v.reads) _ e0.reads _ e0.sent _ (ap (λ x. g.H.Handler.state h0 x) e0.reads) (ok_is c.gather-gathered.result _ well.1 (e1.did.2 told)) (g.met.H.Handler.stands_now h1 v.reads at.1) closed (ok_is c.gather-gathered.result _ well.1 (e1.part told))
+    (g.H.Handler.state h1 (cleared new.reads)) c.flush-inner.result.ring refl (e2.any_moment told) flushed (ok_is c.flush-inner.result.result _ c.in-Ok.is (e2.at told)) (ok_is c.flush-inner.result.result _ c.in-Ok.is (e2.sent told)) over.1 in (
       done,
       subst (λ r. HandsOut g.R.Protocol.spelling (λ x. g.R.Protocol.was_fed x c.args.protocol.now) (λ x. g.R.Protocol.was_fed x c.gather-gathered.new.protocol) c.args.intake.now c.gather-gathered.new.intake (done ++ waits_by r next)) was e1.did.1,
       λ told. turned_ok k (g.H.Handler.aside h0) _ _ _ start new (q ∷ done) (went_so told),

@@ -1,4 +1,4 @@
-use Rattle.std.proofs.Common.{◌≡◌, cond, ℕ, false, List, [], ◌∷◌, ◌++◌, refl, ◌∙◌, ap, subst, arith, append_assoc, append-nil}
+use Rattle.std.proofs.Common.{◌≡◌, cond, ℕ, false, List, [], ◌∷◌, ◌++◌, refl, sym, ◌∙◌, ap, subst, arith, append_assoc, append-nil}
 use Rattle.image_device.specs.Image.{Image}
 use Rattle.image_device.specs.Runs.{LeavesOnly}
 use Rattle.tsd_words.specs.declared.status.Status.TheVariants as status
@@ -11,13 +11,13 @@ use Rattle.gathering_runs.specs.Promise.{IsLeftByRun}
 use Rattle.gathering_runs.specs.Run.{AskedInGroups}
 use Rattle.gathering_runs.specs.Sent.{IsSentBy}
 use Rattle.gathering_runs.specs.Turns.{StopsBy, Turned}
-use Rattle.gathering_runs.proofs.Ending.{asked_none, asked_then_stopped, asked_to_end, left_longer, not_cut, not_done, take_none}
+use Rattle.gathering_runs.proofs.Ending.{asked_none, asked_then_stopped, asked_to_end, left_longer, not_cut, not_done}
 use Rattle.gathering_runs.proofs.Handing.{handed_then}
 use Rattle.gathering_runs.proofs.Outcome.{counts_ok, err_is_if, ok_is}
 use Rattle.gathering_runs.proofs.Sent.{sent_longer, sent_stopped}
 use Rattle.serving.specs.Prompt.{IsOfPort, mark}
 use Rattle.gathering_runs.proofs.ByTurns.{all_turns}
-use Rattle.gathering_runs.proofs.Rounds.{all_handed, near_cut, near_end, near_fault, near_found, near_none, ran_by_rounds, run_none, so_far_more, so_far_none}
+use Rattle.gathering_runs.proofs.Rounds.{all_handed, near_cut, near_end, near_fault, near_found, near_none, ran_by_rounds, run_none, so_far_more, so_far_none, take_none}
 use Rattle.gathering_runs.proofs.Turning.{Went, left_then, sent_turned, went, went_then}
 use Rattle.gathering_runs.proofs.run.serve_in_groups.Goals as goal
 
@@ -294,7 +294,8 @@ returns-in-Ok-finished-clause-rounds g c told =
     let bytes = was.0 ++ found.0 in
     let m1 = mark (g.P.Device.view c.loop-server.disk.port) in
     let came = came_then g.S.Source.told _ _ _ _ _ _ was.0 found.0 was.2 found.1 in
-    let by = subst (λ n. AskedBy status.Done sp n bytes _ was.1) (c.next.ensures.limit ∙ i.limit) found.2 in
+    let ended = IsAtEnd g.S.Source.told (g.S.Source.ended c.next.new.source) (g.S.Source.left_bytes c.next.new.source) in
+    let by = subst (λ n. AskedBy status.Done sp n bytes ended was.1) (c.next.ensures.limit ∙ i.limit) found.2 in
     ran_by_rounds k g.H.Handler.work (IsOfPort g.P.Device.view) sp c.args.limit status.Done _ _ _ _ was.0 found.0 was.1 [] _ m1 m1 _ (was.5 told) came (near_end sp c.args.limit was.0 found.0 was.1 by.0 by.3) (refl, refl) (λ cut. absurd cut)
 
 pub returns-in-Err-finished-clause-rounds : goal.returns-in-Err-finished-clause-rounds
@@ -307,7 +308,8 @@ returns-in-Err-finished-clause-rounds g c told =
     let bytes = was.0 ++ found.0 in
     let m1 = mark (g.P.Device.view c.loop-server.disk.port) in
     let came = came_then g.S.Source.told _ _ _ _ _ _ was.0 found.0 was.2 found.1 in
-    let by = subst (λ n. AskedBy status.Done sp n bytes _ was.1) (c.next.ensures.limit ∙ i.limit) found.2 in
+    let ended = IsAtEnd g.S.Source.told (g.S.Source.ended c.next.new.source) (g.S.Source.left_bytes c.next.new.source) in
+    let by = subst (λ n. AskedBy status.Done sp n bytes ended was.1) (c.next.ensures.limit ∙ i.limit) found.2 in
     let stops = err_is_if StopsBy c.finish-left.result.1 _ c.in-Err-finished.is c.finish-left.ensures.stops in
     ran_by_rounds k g.H.Handler.work (IsOfPort g.P.Device.view) sp c.args.limit c.in-Err-finished.why _ _ _ _ was.0 found.0 was.1 [] _ m1 m1 _ (was.5 told) came (near_end sp c.args.limit was.0 found.0 was.1 by.0 by.3) (refl, refl) (λ cut. absurd (not_cut c.in-Err-finished.why stops cut))
 
@@ -321,7 +323,8 @@ returns-in-CutOff-clause-rounds g c told =
     let bytes = was.0 ++ found.0 in
     let m1 = mark (g.P.Device.view c.loop-server.disk.port) in
     let came = came_then g.S.Source.told _ _ _ _ _ _ was.0 found.0 was.2 found.1 in
-    let by = subst (λ n. AskedBy status.Truncated sp n bytes _ was.1) (c.next.ensures.limit ∙ i.limit) found.2 in
+    let ended = IsAtEnd g.S.Source.told (g.S.Source.ended c.next.new.source) (g.S.Source.left_bytes c.next.new.source) in
+    let by = subst (λ n. AskedBy status.Truncated sp n bytes ended was.1) (c.next.ensures.limit ∙ i.limit) found.2 in
     ran_by_rounds k g.H.Handler.work (IsOfPort g.P.Device.view) sp c.args.limit status.Truncated _ _ _ _ was.0 found.0 was.1 [] _ m1 m1 m1 (was.5 told) came (near_end sp c.args.limit was.0 found.0 was.1 by.0 by.3) (refl, refl) (λ cut. refl)
 
 pub returns-in-Fault-clause-rounds : goal.returns-in-Fault-clause-rounds

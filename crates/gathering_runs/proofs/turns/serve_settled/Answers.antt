@@ -4,7 +4,7 @@ use Rattle.gathering.proofs.Merely.{rested_now}
 use Rattle.gathering_runs.proofs.Handing.{hands_held, hands_none}
 use Rattle.gathering_runs.specs.Sent.{IsSentBy}
 use Rattle.gathering_runs.proofs.Outcome.{err_is_if}
-use Rattle.serving.specs.Prompt.{IsOfPort, mark}
+use Rattle.serving.specs.Prompt.{IsOfPort}
 use Rattle.gathering_runs.proofs.ByTurns.{all_turns, turns_none, turns_ok}
 use Rattle.gathering_runs.proofs.Turning.{turned_err, turned_ok, went}
 use Rattle.gathering_runs.proofs.turns.serve_settled.Goals as goal

@@ -1,7 +1,11 @@
 use Rattle.std.proofs.Common.{sym}
 use Rattle.recovery.specs.Opening.{IsForeign, IsUntouched}
 use Rattle.serving.specs.Ran.{moments, taking}
-use Rattle.image_groups.specs.Served.{ImageRanInGroups}
+use Rattle.image_groups.specs.Served.{ImageRanByRounds, ImageRanInGroups}
+use Rattle.serving.specs.Prompt.{IsOfPort}
+use Rattle.image_runs.specs.Served.{disk_service}
+use Rattle.image_runs.specs.Server.{disk_work}
+use Rattle.gathering_runs.proofs.Rounds.{ran_over}
 use Rattle.image_groups.proofs.Opened.{of_same, ran_alike}
 use Rattle.image_groups.proofs.on_port.serve_loan.Goals as goal
 
@@ -18,3 +22,19 @@ pub returns-clause-untouched : goal.returns-clause-untouched
 returns-clause-untouched g c =
     let view = g.P.Device.view in
     of_same (λ x y. g.P.Device.told → IsForeign (view x).reads → IsUntouched (view x) (view y)) _ _ _ _ c.new-lent.ensures (sym c.into_loan.ensures.port) c.serve_image_in_groups-lent.ensures.untouched
+
+pub returns-clause-rounds : goal.returns-clause-rounds
+returns-clause-rounds g c told =
+    let view = g.P.Device.view in
+    let r = c.serve_image_in_groups-lent.result.1 in
+    let kind = c.args.placement.now.kind in
+    let source = taking g.S.Source.told g.S.Source.taken g.S.Source.left_bytes g.S.Source.ended c.args.source.now c.serve_image_in_groups-lent.new.source in
+    let ran = c.serve_image_in_groups-lent.ensures.rounds told in
+    of_same (λ x y. ImageRanByRounds r g.R.Replies.voice g.R.Protocol.spelling kind (IsOfPort view) c.args.limit source (view x) (view y))
+    _ _ _ _ c.new-lent.ensures (sym c.into_loan.ensures.port)
+    (record {
+      opened = ran.opened;
+      of_port = (ran.of_port.0.loan.port.now, ran.of_port.1);
+      nothing_sent = ran.nothing_sent;
+      rounds = ran_over (disk_service g.R.Replies.voice) disk_work _ (IsOfPort view) (λ m here. (here.0.loan.port.now, here.1)) r g.R.Protocol.spelling c.args.limit _ source _ _ ran.rounds;
+    })

@@ -4,6 +4,13 @@ use Rattle.image_runs.proofs.Common.{Rose, Status, behind}
 use Rattle.image_runs.proofs.Behind.{size_of_core}
 use Rattle.image_runs.proofs.Opened.{not_foreign}
 use Rattle.image_runs.proofs.Started.{placed_at, not_of_source, not_of_put}
+use Rattle.serving.specs.ModelRules.{Placed}
+use Rattle.serving.specs.Prompt.{IsOfPort, mark}
+use Rattle.serving.specs.Ran.{taking}
+use Rattle.image_runs.specs.Served.{disk_service, start_of}
+use Rattle.image_runs.specs.Server.{disk_work}
+use Rattle.gathering_runs.specs.Rounds.{RanByRounds}
+use Rattle.gathering_runs.proofs.Rounds.{near_none, ran_by_rounds, so_far_none, take_none}
 use Rattle.image_groups.proofs.Opened.{asked_groups, behind_opened, ends_opened, ends_unopened, judged_groups, ok_no_err}
 use Rattle.image_groups.proofs.run.serve_image_in_groups.Goals as goal
 
@@ -97,3 +104,32 @@ returns-in-Ok-clause-behind g c told firm =
 
 pub returns-in-Err-clause-behind : goal.returns-in-Err-clause-behind
 returns-in-Err-clause-behind g c told firm = ∣ c.open_core.ensures.behind told firm ∣₁
+
+pub returns-in-Ok-clause-rounds : goal.returns-in-Ok-clause-rounds
+returns-in-Ok-clause-rounds g c told =
+    let old = g.P.Device.view c.args.port in
+    let mid = g.P.Device.view c.open_core.new.dev in
+    let r = c.serve_in_groups.result.1 in
+    let source = taking g.S.Source.told g.S.Source.taken g.S.Source.left_bytes g.S.Source.ended c.args.source.now c.serve_in_groups.new.source in
+    record {
+      opened = mark mid;
+      of_port = (c.open_core.new.dev, refl);
+      nothing_sent = c.open_core.ensures.sent told;
+      rounds = subst (λ (s : Placed). RanByRounds r (disk_service g.R.Replies.voice) disk_work (IsOfPort g.P.Device.view) g.R.Protocol.spelling c.args.limit s source (mark mid) (mark (g.P.Device.view c.serve_in_groups.result.0)))
+          (placed_at c.args.placement.now.kind c.in-Ok.core mid.reads _ (c.in-Ok.ensures.state told)) (c.serve_in_groups.ensures.rounds told);
+    }
+
+pub returns-in-Err-clause-rounds : goal.returns-in-Err-clause-rounds
+returns-in-Err-clause-rounds g c told =
+    let k = disk_service g.R.Replies.voice in
+    let port = IsOfPort g.P.Device.view in
+    let p = g.R.Protocol.spelling in
+    let m = mark (g.P.Device.view c.open_core.new.dev) in
+    let s = start_of c.args.placement.now.kind (g.P.Device.view c.args.port).reads in
+    record {
+      opened = m;
+      of_port = (c.open_core.new.dev, refl);
+      nothing_sent = c.open_core.ensures.sent told;
+      rounds = ran_by_rounds k disk_work port p c.args.limit c.in-Err.why s s s _ [] [] [] [] m m m m (so_far_none k disk_work port p c.args.limit s s m.sent m (c.open_core.new.dev, refl) refl refl)
+          (record { taken = λ tells. sym (append-nil _); left = λ tells. refl }) (near_none p c.args.limit g.met.R.Protocol.lawful.none (take_none c.args.limit)) (refl, refl) (λ cut. refl);
+    }

@@ -6,7 +6,7 @@ use Rattle.serving.specs.Ran.{moments, taking}
 use Rattle.tsd_words.specs.declared.commands.Command.{Command}
 use Rattle.image_runs.specs.Load.{HasLoaded, IsLeftOfLoad}
 use Rattle.tsd_serve.specs.Did.{Did}
-use Rattle.tsd_serve.specs.Prompt.{AnswersPromptly}
+use Rattle.tsd_serve.specs.Prompt.{AnswersByRounds, AnswersPromptly}
 use Rattle.tsd_serve.proofs.top.obey.Goals as goal
 
 pub returns-in-Load-clause-did : goal.returns-in-Load-clause-did
@@ -47,3 +47,8 @@ pub returns-in-Shell-clause-prompt : goal.returns-in-Shell-clause-prompt
 returns-in-Shell-clause-prompt g c told =
     subst (λ (x : Command). AnswersPromptly (Some x) c.shell_lines.result g.P.Device.view c.args.port.now c.shell_lines.new.port) (sym c.in-Shell.is)
     (c.shell_lines.ensures.prompt told)
+
+pub returns-in-Group-clause-rounds : goal.returns-in-Group-clause-rounds
+returns-in-Group-clause-rounds g c told =
+    let source = taking g.S.Source.told g.S.Source.taken g.S.Source.left_bytes g.S.Source.ended c.args.source.now c.group_frames.new.source in
+    subst (λ (x : Command). AnswersByRounds (Some x) c.group_frames.result source g.P.Device.view c.args.port.now c.group_frames.new.port) (sym c.in-Group.is) (c.group_frames.ensures.rounds told)
