@@ -108,20 +108,22 @@ pub waits_put : (es new : List Event) (piece : Vec ℕ) → new ≡ es ++ Put pi
 waits_put es new piece is old waiting text same grown waits s =
     ap (λ (z : HistoryState). z.sent) (pushed es new (Put piece) is s) ∙ (λ i. waits s i ++ same i) ∙ append_assoc s.sent old text ∙ ap (λ l. s.sent ++ l) (sym grown)
 
+all_none : (k i : ℕ) → ◌≡◌ {A = Option (List ℕ)} (get_or (replicate k None) i None) None
+all_none zero i = refl
+all_none (suc k) zero = refl
+all_none (suc k) (suc i) = all_none k i
+
+-- no sector of the journal was written
+pub none_kept : (last : List (Option (List ℕ))) → last ≡ replicate journal_size None → (n : ℕ) → get_or last (n - ring_start) None ≡ None
+none_kept last empty n = ap (λ (l : List (Option (List ℕ))). get_or l (n - ring_start) None) empty ∙ all_none journal_size (n - ring_start)
+
 -- nothing was done yet
 module _ (es : List Event) (none : es ≡ []) where
   pub net_none : (batch : List Patch) → batch ≡ [] → IsNet es batch
   net_none batch empty s n out = ap (λ (l : List Event). (after l s).reads n) none ∙ ap (λ (ps : List Patch). overlaid ps s.reads n) (sym empty)
 
   pub journal_none : (last : List (Option (List ℕ))) → last ≡ replicate journal_size None → AreLastOfJournal es last
-  journal_none last empty s n inside =
-      ap (λ (l : List Event). (after l s).reads n) none
-      ∙ sym (ap (λ (o : Option (List ℕ)). unwrap_or o (s.reads n)) (ap (λ (l : List (Option (List ℕ))). get_or l (n - ring_start) None) empty ∙ all_none journal_size (n - ring_start)))
-    where
-      all_none : (k i : ℕ) → ◌≡◌ {A = Option (List ℕ)} (get_or (replicate k None) i None) None
-      all_none zero i = refl
-      all_none (suc k) zero = refl
-      all_none (suc k) (suc i) = all_none k i
+  journal_none last empty s n inside = ap (λ (l : List Event). (after l s).reads n) none ∙ sym (ap (λ (o : Option (List ℕ)). unwrap_or o (s.reads n)) (none_kept last empty n))
 
   pub waits_none : (bytes : List ℕ) → bytes ≡ [] → ArePut es bytes
   waits_none bytes empty s = ap (λ (l : List Event). (after l s).sent) none ∙ sym (append-nil s.sent) ∙ ap (λ b. s.sent ++ b) (sym empty)

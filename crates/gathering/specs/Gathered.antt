@@ -18,6 +18,10 @@ use Rattle.std.proofs.Common.{refl}
 abbrev pub cleared : Image → Image
 cleared x n = cond (is_journal n) zeros (home x n)
 
+-- the same with these patches in place
+abbrev pub gone_on : List Patch → Image → Image
+gone_on batch x = overlaid batch (cleared x)
+
 -- every gate of the journal reads closed
 abbrev pub AreClosed : Image → Type 0
 AreClosed x = (index : ℕ) → index < records → is_gate_open x index ≡ false
@@ -56,6 +60,12 @@ AreLastOfJournal es last =
 abbrev pub IsNet : List Event → List Patch → Type 0
 IsNet es batch =
     (s : HistoryState) (n : ℕ) → is_journal n ≡ false → (after es s).reads n ≡ overlaid batch s.reads n
+
+-- These events come to this batch, which they wrote and synced.
+pub record ComesTo (es : List Event) (batch : List Patch) : Type 0 where
+  pub reads : (s : HistoryState) → (after es s).reads ≡ overlaid batch s.reads
+  pub firm : (s : HistoryState) (n : ℕ) → (after es s).loose n ≡ false
+  pub sent : (s : HistoryState) → (after es s).sent ≡ s.sent
 
 -- the bytes that the events put
 abbrev pub ArePut : List Event → List ℕ → Type 0

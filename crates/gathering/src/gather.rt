@@ -54,7 +54,7 @@ impl<P: Port, K: Began> Gather<P, K> {
     ghost use Rattle.std.specs.Prelude.{[], OnOk};
     ghost use Rattle.image_layout.specs.Ring.{bodies};
     ghost use Rattle.intent_journal.specs.Home.{home, overlaid, is_journal, AgreeBut};
-    ghost use Rattle.gathering.specs.Gathered.{cleared, HasRested};
+    ghost use Rattle.gathering.specs.Gathered.{cleared, gone_on, HasRested};
     ghost use Rattle.gathering.specs.Left.{most_writes, moment_of, IsLeftAtStart, IsLeftByGroup, IsSentBetween};
 
     /// Begins a group over a device that has rested since the start that proofs pick.
@@ -85,6 +85,97 @@ impl<P: Port, K: Began> Gather<P, K> {
             device_failed: false,
             began: PhantomData,
         }
+    }
+
+    /// Goes on with a group that was left off, over a device that has rested since the start that proofs pick.
+    pub fn resume(inner: P, ring: Ring, room: Room) -> Gather<P, K>
+        requires rests { P.told → HasRested K.start (P.view inner) }
+        requires firm { P.told → IsFirm K.start }
+        requires counts { Uses 0 K.start (P.view inner) }
+        requires faults { (P.view inner).faults ≡ K.start.faults }
+        requires at { P.told → IsRingAt ring K.start }
+        /// promise (with firm, at, sent): The disk in memory begins as the batch of that group makes what the real disk
+        /// stands for, its journal closed, nothing loose and nothing sent.
+        ensures reads { (⟦<Gather<P, K> as Device>⟧.view result).reads ≡ gone_on room.batch K.start.reads }
+        ensures firm { IsFirm (⟦<Gather<P, K> as Device>⟧.view result) }
+        ensures at { IsRingAt [] (⟦<Gather<P, K> as Device>⟧.view result) }
+        ensures sent { (⟦<Gather<P, K> as Device>⟧.view result).sent ≡ K.start.sent }
+        ensures faults { (⟦<Gather<P, K> as Device>⟧.view result).faults ≡ 0 }
+        ensures put_faults { (⟦<Gather<P, K> as Device>⟧.view result).put_faults ≡ 0 }
+        ensures writes { (⟦<Gather<P, K> as Device>⟧.view result).writes ≡ 0 }
+    {
+        Gather {
+            inner,
+            ring,
+            group: Group::resumed(room),
+            faults: 0,
+            put_faults: 0,
+            writes: 0,
+            device_failed: false,
+            began: PhantomData,
+        }
+    }
+
+    /// Leaves a group off: nothing is committed, and nothing sent. Its batch stays in the room, for a group that goes on
+    /// with it; what was put is gone. The fault `Put` never comes.
+    pub fn suspend(self) -> Flushed<P>
+        /// promise (with at, reads, loose, sent, any_moment): What the disk in memory holds outside the journal is what
+        /// the batch in the room makes of what the real disk stands for, and that was only read: so a crash leaves what
+        /// it left at the start.
+        ensures holds { AgreeBut is_journal (⟦<Gather<P, K> as Device>⟧.view self).reads
+            (gone_on result.room.batch K.start.reads) }
+        ensures at { P.told → IsRingAt result.ring (P.view result.inner) }
+        ensures reads { P.told → (P.view result.inner).reads ≡ K.start.reads }
+        ensures loose { P.told → (P.view result.inner).loose ≡ K.start.loose }
+        ensures sent { P.told → (P.view result.inner).sent ≡ K.start.sent }
+        ensures any_moment { P.told → ∥ LeavesOnly K.start (P.view result.inner) (IsLeftNow K.start) ∥₁ }
+        ensures counts { Uses 0 K.start (P.view result.inner) }
+        /// promise (with device, room, no_device): Ok comes only where no call of the group failed, `Device` only where
+        /// the real disk's count of faults rose, and `Room` only where that count is as it was and a call failed.
+        ensures whole { OnOk result.result (((⟦<Gather<P, K> as Device>⟧.view self).faults ≡ 0)
+            × ((⟦<Gather<P, K> as Device>⟧.view self).put_faults ≡ 0)) }
+        ensures device { result.result ≡ Err FlushFault.Device → Rose K.start.faults (P.view result.inner).faults }
+        ensures room { result.result ≡ Err FlushFault.Room → (0 < (⟦<Gather<P, K> as Device>⟧.view self).faults)
+            ⊎ (0 < (⟦<Gather<P, K> as Device>⟧.view self).put_faults) }
+        ensures no_put { result.result ≡ Err FlushFault.Put → ⊥ }
+        ensures no_device { (result.result ≡ Err FlushFault.Device → ⊥)
+            → (P.view result.inner).faults ≡ K.start.faults }
+    {
+        let result = self.outcome();
+        let Gather {
+            inner,
+            ring,
+            group,
+            faults: _,
+            put_faults: _,
+            writes: _,
+            device_failed: _,
+            began: _,
+        } = self;
+        Flushed {
+            inner,
+            ring,
+            room: group.into_room(),
+            result,
+        }
+    }
+
+    /// Whether no call of the group failed, and else why.
+    fn outcome(&self) -> Result<(), FlushFault>
+        ensures whole { OnOk result ((self.now.device_failed ≡ false) × (self.now.faults ≡ 0)
+            × (self.now.put_faults ≡ 0)) }
+        ensures device { result ≡ Err FlushFault.Device → self.now.device_failed ≡ true }
+        ensures room { result ≡ Err FlushFault.Room → (self.now.device_failed ≡ false) × ((0 < self.now.faults)
+            ⊎ (0 < self.now.put_faults)) }
+        ensures no_put { result ≡ Err FlushFault.Put → ⊥ }
+    {
+        if self.device_failed {
+            return Err(FlushFault::Device);
+        }
+        if self.faults > 0 || self.put_faults > 0 {
+            return Err(FlushFault::Room);
+        }
+        Ok(())
     }
 
     /// How many sectors outside the journal were written, each counted once. There is room for 113.

@@ -6,7 +6,7 @@ ghost use Rattle.image_layout.specs.Ring.{bodies};
 ghost use Rattle.intent_journal.specs.Batch.{has_home, with_patch, IsBatch};
 ghost use Rattle.intent_journal.specs.Home.{is_journal};
 ghost use Rattle.intent_journal.specs.Homes.{is_lawful_home};
-ghost use Rattle.gathering.specs.Gathered.{ArePut, AreLastOfJournal, IsNet};
+ghost use Rattle.gathering.specs.Gathered.{ArePut, AreLastOfJournal, ComesTo, IsNet};
 
 use crate::homes::Homes;
 use crate::journal::JournalSectors;
@@ -64,6 +64,28 @@ impl Group {
         } = room.cleared();
         Group {
             past: Past::of(&()),
+            homes,
+            journal,
+            batch,
+            waiting,
+        }
+    }
+
+    /// What the batch in the room does was done, and is on the disk in memory.
+    pub(crate) fn resumed(room: Room) -> Group
+        ensures past { ComesTo result.past.events room.batch }
+        ensures batch { result.batch ≡ room.batch }
+        ensures was { IsBatch room.batch }
+    {
+        let Room {
+            batch,
+            homes,
+            journal,
+            waiting,
+        } = room.with_batch_alone();
+        let _length = batch.len();
+        Group {
+            past: Past::of(&batch),
             homes,
             journal,
             batch,
@@ -143,8 +165,10 @@ impl Group {
         Ok(())
     }
 
-    /// The room that it took.
-    pub(crate) fn into_room(self) -> Room {
+    /// The room that it took, with its batch.
+    pub(crate) fn into_room(self) -> Room
+        ensures { result.batch ≡ self.batch }
+    {
         let Group {
             past: _,
             homes,

@@ -18,6 +18,7 @@ pub struct Room {
     pub(crate) homes: Homes,
     pub(crate) journal: JournalSectors,
     pub(crate) waiting: Vec<u8>,
+    ghost same: { homes.patches.items ≡ batch },
 }
 
 impl Room {
@@ -47,6 +48,18 @@ impl Room {
         let mut room = self;
         room.batch.clear();
         room.homes.clear();
+        room.journal.clear();
+        room.waiting.clear();
+        room
+    }
+
+    /// The same room with its batch alone in it.
+    pub(crate) fn with_batch_alone(self) -> Room
+        ensures batch { result.batch ≡ self.batch }
+        ensures journal { result.journal.last.items ≡ replicate journal_size None }
+        ensures waiting { result.waiting.items ≡ [] }
+    {
+        let mut room = self;
         room.journal.clear();
         room.waiting.clear();
         room
