@@ -11,4 +11,5 @@ pub mod PieceLaws
 pub mod WalkLaws
 pub mod NestedLaws
 pub mod FlatLaws
+pub mod BatchLaws
 pub mod EntryLaws

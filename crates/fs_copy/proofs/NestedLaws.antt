@@ -186,10 +186,10 @@ path_never n r e is named = none_of (is_path (n ∷ [])) (n ∷ []) named (sym e
 -- ---- the stages of the search
 
 module _ {told : Type 0} {f h : FilesView} {old now : DiskView} (source : IsSource told f old) (looks : Looks {X = Unit {0}} told old now (Ok tt)) (same : h ≡ f) where
-  source_now : IsSource told h now
+  pub source_now : IsSource told h now
   source_now = subst (λ k. IsSource told k now) (sym same) (still_source told f old now tt source looks)
 
-  tree_now : told → tree_under h now ≡ tree_under f old
+  pub tree_now : told → tree_under h now ≡ tree_under f old
   tree_now t = ap (λ k. tree_under k now) same ∙ same_tree told f old now tt source looks t
 
 -- At each turn no directory stands before this name, and the source is seen as it was.

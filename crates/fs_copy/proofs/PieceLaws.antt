@@ -1,10 +1,10 @@
 -- A file that is copied piece by piece.
-use Rattle.std.proofs.Common.{◌≡◌, ◌+◌, ◌-◌, ◌*◌, ◌^◌, ◌<◌, ◌≤◌, ℕ, suc, false, List, [], ◌∷◌, ◌++◌, length, map, take, drop, sym, ◌∙◌, ap, subst, arith, append_assoc, append-nil, Result, Ok, Err}
-use Rattle.fs_copy.proofs.Common.{div_ceil_times, div_ceil, file_pieces, file_steps, Path, at, bytes_in, ShellAsk, FsRefusal, DiskView, IsDiskSound, FilesView, Answers, TellsPart, Looks, Changes, done, tree_under, AreSet, MakesSteps, IsFileAt}
+use Rattle.std.proofs.Common.{◌≡◌, ◌≢◌, ◌+◌, ◌-◌, ◌*◌, ◌^◌, ◌<◌, ◌≤◌, ℕ, zero, suc, false, List, [], ◌∷◌, ◌++◌, length, map, take, drop, sym, ◌∙◌, ap, subst, arith, append_assoc, append-nil, Result, Ok, Err}
+use Rattle.fs_copy.proofs.Common.{div_ceil_times, div_ceil, file_pieces, file_steps, Path, at, bytes_in, ShellAsk, FsRefusal, DiskView, IsDiskSound, FilesView, Answers, Looks, Changes, done, tree_under, AreSet, MakesSteps, IsFileAt}
 use Rattle.std.proofs.lemmas.List.{drop-drop, length-take}
 use Rattle.fs_trees.specs.declared.ask.ShellAsk.TheVariants as ask
-use Rattle.fs_copy.proofs.GoingLaws.{change_goes, goes_as, then_goes, err_as, look_lost, now_set, same_source, target_of}
-use Rattle.fs_copy.proofs.ReadLaws.{never_refused, part_refused, part_tells}
+use Rattle.fs_trees.specs.declared.refusal.FsRefusal.TheVariants as no
+use Rattle.fs_copy.proofs.GoingLaws.{AfterLook, change_goes, goes_as, look_then, then_goes, err_as, look_lost, now_set, same_source, target_of}
 
 abbrev pub Done : Type 0
 Done = Result (Unit {0}) FsRefusal
@@ -29,13 +29,22 @@ next_piece n i y h = ap (λ k. file_pieces k y) (one_less n i h)
     one_less : (n i : ℕ) → i < n → n - i ≡ suc (n - (i + 1))
     one_less n i h = omega (arith, h)
 
+further_on : (i : ℕ) (x : List ℕ) → drop 4096 (drop (i * 4096) x) ≡ drop ((i + 1) * 4096) x
+further_on i x = drop-drop 4096 (i * 4096) x ∙ ap (λ k. drop k x) (omega arith)
+
 next_from : (path : Path) (n i : ℕ) (x : List ℕ) → i < n → pieces_from path n i x ≡ piece_at path i x ∷ pieces_from path n (i + 1) x
 next_from path n i x h =
     ap (map (ask.Append path)) (next_piece n i (drop (i * 4096) x) h)
-    ∙ ap (λ y. piece_at path i x ∷ map (ask.Append path) (file_pieces (n - (i + 1)) y)) (further i x)
-  where
-    further : (i : ℕ) (x : List ℕ) → drop 4096 (drop (i * 4096) x) ≡ drop ((i + 1) * 4096) x
-    further i x = drop-drop 4096 (i * 4096) x ∙ ap (λ k. drop k x) (omega arith)
+    ∙ ap (λ y. piece_at path i x ∷ map (ask.Append path) (file_pieces (n - (i + 1)) y)) (further_on i x)
+
+-- so many pieces, and those behind them
+several_from : (path : Path) (n i : ℕ) (count : ℕ) (x : List ℕ) → i + count ≤ n → pieces_from path n i x ≡ map (ask.Append path) (file_pieces count (drop (i * 4096) x)) ++ pieces_from path n (i + count) x
+several_from path n i zero x h = ap (λ k. pieces_from path n k x) (omega arith)
+several_from path n i (suc k) x h =
+    next_from path n i x (omega (arith, h))
+    ∙ (ap (λ s. piece_at path i x ∷ s) (several_from path n (i + 1) k x (omega (arith, h)))
+    ∙ (ap (λ y. piece_at path i x ∷ (map (ask.Append path) (file_pieces k y) ++ pieces_from path n ((i + 1) + k) x)) (sym (further_on i x))
+    ∙ ap (λ j. piece_at path i x ∷ (map (ask.Append path) (file_pieces k (drop 4096 (drop (i * 4096) x))) ++ pieces_from path n j x)) (omega arith)))
 
 none_from : (path : Path) (n i : ℕ) (x : List ℕ) → n ≤ i → pieces_from path n i x ≡ []
 none_from path n i x h = ap (λ k. map (ask.Append path) (file_pieces k (drop (i * 4096) x))) (none_left n i h)
@@ -47,21 +56,9 @@ none_from path n i x h = ap (λ k. map (ask.Append path) (file_pieces k (drop (i
 pub all_in_first : (first x : List ℕ) → first ≡ take 4096 x → length first < 4096 → length first ≡ length x
 all_in_first first x is short = let cut = length-take 4096 x in omega (arith, ap length is, cut, short)
 
--- the place of a piece fits
-pub place_fits : (size i n : ℕ) → n ≡ div_ceil size 4096 → i < n → size < 2 ^ 64 → i * 4096 < 2 ^ 64
-place_fits size i n is h fits = let all = div_ceil_times size 4096 (omega arith) in omega (arith, all.1, is, h, fits)
-
--- ---- a piece that is read
-
-module _ {told : Type 0} {f g : FilesView} {old mid : DiskView} {path : Path} (start : ℕ) {part : List ℕ} (set : AreSet told f g old) (file : told → IsFileAt (tree_under f old) path) where
-  pub part_read : {x : Unit {0}} → (told → Answers f old mid (ask.Cat path) (Ok x) (λ _. TellsPart start part)) → told → part ≡ take 4096 (drop start (bytes_in (at (tree_under f old) path)))
-  part_read answers t = part_tells f old set.from_mounted path (file t) start part (answers t).ok.0
-
-  -- then nothing is asked of the target
-  pub part_lost : {e : FsRefusal} (a : ShellAsk) → (told → Answers {X = Unit {0}} f old mid (ask.Cat path) (Err e) (λ _. TellsPart start part)) → Looks {X = Unit {0}} told old mid (Err e) → MakesSteps {X = Unit {0}} told g old mid (a ∷ []) (Err e)
-  part_lost {e} a answers looks =
-      let never = part_refused f old set.from_mounted path in
-      err_as (a ∷ []) (look_lost set (λ t. never_refused f old mid (ask.Cat path) (Err e) _ (never (file t)) (answers t)) looks)
+-- the places of all pieces fit
+pub places_fit : (size n : ℕ) → n ≡ div_ceil size 4096 → size < 2 ^ 64 → n * 4096 ≤ 2 ^ 64
+places_fit size n is fits = let all = div_ceil_times size 4096 (omega arith) in omega (arith, all.1, is, fits)
 
 -- ---- the pieces of two file systems
 
@@ -127,25 +124,37 @@ module _ {told : Type 0} {f g h k : FilesView} {old now : DiskView} {path : Path
   pub piece_end : n ≤ i → MakesSteps {X = Unit {0}} told g old now (file_steps path x) (Ok tt)
   piece_end none = goes_as (λ t. sym (append-nil here.up.made) ∙ (ap (λ s. here.up.made ++ s) (sym (none_from path n i x none)) ∙ here.up.rest t)) here.up.goes
 
-  -- the next one is appended, and then the others are left
-  module _ (some : i < n) where
-    piece_parts : told → (here.up.made ++ piece_at path i y ∷ []) ++ pieces_from path n (i + 1) x ≡ file_steps path x
+  -- the next ones are appended, and then the others are left
+  module _ (count : ℕ) (some : i + count ≤ n) where
+    abbrev these : List ShellAsk
+    these = map (ask.Append path) (file_pieces count (drop (i * 4096) y))
+
+    piece_parts : told → (here.up.made ++ these) ++ pieces_from path n (i + count) x ≡ file_steps path x
     piece_parts t =
-        append_assoc here.up.made (piece_at path i y ∷ []) (pieces_from path n (i + 1) x)
-        ∙ (ap (λ u. here.up.made ++ piece_at path i (bytes_in (at u path)) ∷ pieces_from path n (i + 1) x) (piece_tree t) ∙ (ap (λ s. here.up.made ++ s) (sym (next_from path n i x some)) ∙ here.up.rest t))
+        append_assoc here.up.made these (pieces_from path n (i + count) x)
+        ∙ (ap (λ u. here.up.made ++ (map (ask.Append path) (file_pieces count (drop (i * 4096) (bytes_in (at u path)))) ++ pieces_from path n (i + count) x)) (piece_tree t)
+        ∙ (ap (λ s. here.up.made ++ s) (sym (several_from path n i count x some)) ∙ here.up.rest t))
 
-    piece_goes : {new : DiskView} {r : Done} → MakesSteps told k now new (piece_at path i y ∷ []) r → MakesSteps told g old new (here.up.made ++ piece_at path i y ∷ []) r
-    piece_goes {new} {r} goes = then_goes here.up.goes (subst (λ (w : FilesView). MakesSteps told w now new (piece_at path i y ∷ []) r) here.into_same goes)
+    piece_goes : {new : DiskView} {r : Done} → MakesSteps told k now new these r → MakesSteps told g old new (here.up.made ++ these) r
+    piece_goes {new} {r} goes = then_goes here.up.goes (subst (λ (w : FilesView). MakesSteps told w now new these r) here.into_same goes)
 
-    pub piece_next : {new : DiskView} {h2 k2 : FilesView} → MakesSteps {X = Unit {0}} told k now new (piece_at path i y ∷ []) (Ok tt) → h2 ≡ h → k2 ≡ k → AtPiece told f g h2 k2 old new path n (i + 1)
+    pub piece_next : {new : DiskView} {h2 k2 : FilesView} → MakesSteps {X = Unit {0}} told k now new these (Ok tt) → h2 ≡ h → k2 ≡ k → AtPiece told f g h2 k2 old new path n (i + count)
     piece_next goes from_same into_same = record {
       set = here.set;
       sound = here.sound;
       file = here.file;
-      up = record { made = here.up.made ++ piece_at path i y ∷ []; goes = piece_goes goes; rest = piece_parts; some = omega arith };
+      up = record { made = here.up.made ++ these; goes = piece_goes goes; rest = piece_parts; some = omega (arith, here.up.some) };
       from_same = from_same ∙ here.from_same;
       into_same = into_same ∙ here.into_same;
     }
 
-    pub piece_lost : {new : DiskView} {e : FsRefusal} → MakesSteps {X = Unit {0}} told k now new (piece_at path i y ∷ []) (Err e) → MakesSteps {X = Unit {0}} told g old new (file_steps path x) (Err e)
-    piece_lost goes = goes_as piece_parts (err_as (pieces_from path n (i + 1) x) (piece_goes goes))
+    pub piece_lost : {new : DiskView} {e : FsRefusal} → MakesSteps {X = Unit {0}} told k now new these (Err e) → MakesSteps {X = Unit {0}} told g old new (file_steps path x) (Err e)
+    piece_lost goes = goes_as piece_parts (err_as (pieces_from path n (i + count) x) (piece_goes goes))
+
+    -- they are not read, and nothing is asked of the target
+    pub piece_unread : {new : DiskView} {e : FsRefusal} → (told → e ≢ no.Device → ⊥) → Looks {X = Unit {0}} told now new (Err e) → MakesSteps {X = Unit {0}} told k now new these (Err e)
+    piece_unread only looks = err_as these (look_lost piece_set only looks)
+
+    -- those that were read are appended
+    pub piece_read : {mid new : DiskView} {h2 : FilesView} {items : List (List ℕ)} {r : Done} → AfterLook told h h2 k now mid → (told → items ≡ file_pieces count (drop (i * 4096) y)) → MakesSteps told k mid new (map (ask.Append path) items) r → MakesSteps told k now new these r
+    piece_read look read goes = look_then look (λ t. ap (map (ask.Append path)) (read t)) goes

@@ -11,11 +11,12 @@ ghost use Rattle.fs_copy.specs.Going.{AreSet, IsFileAt, MakesSteps, IsSource, ow
 use crate::pieces::{copy_file, size_of};
 use fs_port::{Blocks, Files};
 use fs_trees::{FsRefusal, Path};
+use fs_walks::Walks;
 use tsd_model::Data;
 
 /// Copies what stands at a path: a file with its bytes, or a directory without what is inside. Answers how many bytes a
 /// file has; None for a directory.
-pub fn copy_entry<K: Blocks, A: Files, B: Files>(
+pub fn copy_entry<K: Blocks, A: Walks, B: Files>(
     disk: &mut K,
     from: &mut A,
     into: &mut B,
@@ -42,7 +43,7 @@ pub fn copy_entry<K: Blocks, A: Files, B: Files>(
 }
 
 /// Copies a file of which this is the first piece. Answers how many bytes it has.
-fn copy_begun<K: Blocks, A: Files, B: Files>(
+fn copy_begun<K: Blocks, A: Walks, B: Files>(
     disk: &mut K,
     from: &mut A,
     into: &mut B,

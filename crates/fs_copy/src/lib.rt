@@ -12,11 +12,12 @@
 //! - `nested`: the first directory of a tree.
 //! - `walk`: the entries, depth first, without memory: where the walk is, is a path and the last name there.
 //! - `ahead`: the names of a directory, of which some are read ahead: they stay while the target changes.
-//! - `entry`, `pieces`: one entry, and the bytes of a file.
+//! - `entry`, `pieces`, `batches`: one entry, the bytes of a file, and several pieces of it at once.
 //! - `paths`: what is asked is a path, also where the disk tells nothing.
 #![tactic(auto)]
 
 mod ahead;
+mod batches;
 mod copied;
 mod copy;
 mod entry;

@@ -1,21 +1,20 @@
-//! The bytes of a file, piece by piece.
+//! The bytes of a file, by its pieces.
 
-ghost use Rattle.std.specs.Prelude.{◌≡◌, ◌≢◌, ◌<◌, ◌*◌, take, drop, length, [], ◌∷◌, IfErr, IfOk, IsTrue};
+ghost use Rattle.std.specs.Prelude.{◌≡◌, ◌≢◌, take, length, IfErr, IfOk, IsTrue};
 ghost use Rattle.fs_trees.specs.Copying.{file_steps, piece_max};
 ghost use Rattle.fs_trees.specs.Names.{is_path};
 ghost use Rattle.fs_trees.specs.Tree.{at, bytes_in};
-ghost use Rattle.fs_trees.specs.declared.ask.ShellAsk.TheVariants as ask;
 ghost use Rattle.fs_trees.specs.declared.refusal.FsRefusal.TheVariants as no;
 ghost use Rattle.fs_port.specs.Runs.{Looks};
 ghost use Rattle.fs_copy.specs.Going.{AreSet, MakesSteps, IsFileAt, IsSource, tree_under};
 
+use crate::batches::{PIECE_BYTES, PIECES_AT_ONCE, append_pieces, read_pieces};
+use arrayvec::ArrayVec;
 use fs_port::{Blocks, Files};
 use fs_trees::{FsRefusal, Path};
+use fs_walks::Walks;
 use tsd_model::Data;
 use tsd_model::lists::DATA_MAX;
-
-/// How many bytes one ask carries.
-const PIECE_BYTES: u64 = 4096;
 
 /// How many bytes a file has of which this is the first piece. Where that isn't full, it is all of them.
 pub fn size_of<K: Blocks, A: Files>(
@@ -42,32 +41,8 @@ pub fn size_of<K: Blocks, A: Files>(
     from.size(disk, path)
 }
 
-/// Appends the piece of a file that begins at a position.
-fn append_piece<K: Blocks, A: Files, B: Files>(
-    disk: &mut K,
-    from: &mut A,
-    into: &mut B,
-    path: &Path,
-    start: u64,
-) -> Result<(), FsRefusal>
-    requires set { AreSet K.told (A.view from.old) (B.view into.old) (K.view disk.old) }
-    requires named { IsTrue (is_path path.now) }
-    requires file { K.told → IsFileAt (tree_under (A.view from.old) (K.view disk.old)) path.now }
-    ensures goes { MakesSteps K.told (B.view into.old) (K.view disk.old) (K.view disk.new) (ask.Append path.now
-        (take piece_max (drop start (bytes_in (at (tree_under (A.view from.old) (K.view disk.old)) path.now)))) ∷ [])
-        result }
-    ensures from_same { A.view from.new ≡ A.view from.old }
-    ensures into_same { B.view into.new ≡ B.view into.old }
-{
-    let mut piece = Data::new();
-    match from.read_part(disk, path, start, &mut piece) {
-        Ok(()) => into.append(disk, path, &piece),
-        Err(why) => Err(why),
-    }
-}
-
 /// Copies a file of so many bytes, of which this is the first piece. That is put also where it has no bytes.
-pub fn copy_file<K: Blocks, A: Files, B: Files>(
+pub fn copy_file<K: Blocks, A: Walks, B: Files>(
     disk: &mut K,
     from: &mut A,
     into: &mut B,
@@ -93,11 +68,17 @@ pub fn copy_file<K: Blocks, A: Files, B: Files>(
     let pieces = size.div_ceil(PIECE_BYTES);
     let mut i: u64 = 1;
     while i < pieces {
-        match append_piece(disk, from, into, path, i * PIECE_BYTES) {
+        let mut read = ArrayVec::new();
+        let count = (pieces - i).min(PIECES_AT_ONCE as u64);
+        match read_pieces(disk, from, path, i, count, &mut read) {
             Ok(()) => {}
             Err(why) => return Err(why),
         }
-        i += 1;
+        match append_pieces(disk, into, path, &read) {
+            Ok(()) => {}
+            Err(why) => return Err(why),
+        }
+        i += count;
     }
     Ok(())
 }

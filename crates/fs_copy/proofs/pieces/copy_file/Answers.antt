@@ -1,5 +1,6 @@
-use Rattle.std.proofs.Common.{◌^◌, ◌<◌, refl, ◌∙◌, arith, rules}
-use Rattle.fs_copy.proofs.PieceLaws.{first_put, piece_end, piece_file, piece_lost, piece_next, piece_put, piece_set, place_fits, put_lost}
+use Rattle.std.proofs.Common.{◌+◌, ◌^◌, ◌<◌, ◌≤◌, refl, ◌∙◌, arith, rules}
+use Rattle.fs_copy.proofs.GoingLaws.{after_look, source_of, target_of}
+use Rattle.fs_copy.proofs.PieceLaws.{first_put, piece_end, piece_file, piece_lost, piece_next, piece_put, piece_read, piece_set, piece_unread, places_fit, put_lost}
 use Rattle.fs_copy.proofs.pieces.copy_file.Goals as goal
 
 pub put-requires : goal.put-requires
@@ -18,31 +19,51 @@ loop-i-init g c =
     let sound = g.met.K.Blocks.sound c.args.disk.now in
     first_put c.requires.set sound c.requires.file c.div_ceil-pieces.ensures c.requires.sized (piece_put c.requires.set sound (g.met.K.Blocks.sound c.put.new.disk) c.requires.first put.answer put.changes) refl put.same
 
-pub overflow_mul-i : goal.overflow_mul-i
-overflow_mul-i g c =
+pub read_pieces-requires : goal.read_pieces-requires
+read_pieces-requires g c =
+    let here = c.loop-i.invariant in
     let small : c.args.size < 2 ^ 64 = search rules in
-    let less = place_fits c.args.size c.loop-i.i c.div_ceil-pieces.result c.div_ceil-pieces.ensures c.loop-i-test.true small in
-    omega (arith, less)
+    let all = places_fit c.args.size c.div_ceil-pieces.result c.div_ceil-pieces.ensures small in
+    let min = c.min-count.ensures in
+    record { set = source_of (piece_set here); named = c.requires.named; file = piece_file here; few = omega (arith, min); fits = omega (arith, min, all, c.loop-i-test.true) }
 
-pub append_piece-requires : goal.append_piece-requires
-append_piece-requires g c =
+pub returns-in-Err-read_pieces : goal.returns-in-Err-read_pieces
+returns-in-Err-read_pieces g c =
     let here = c.loop-i.invariant in
-    record { set = piece_set here; named = c.requires.named; file = piece_file here }
-
-pub returns-in-Err-append_piece : goal.returns-in-Err-append_piece
-returns-in-Err-append_piece g c =
-    let here = c.loop-i.invariant in
-    let lost = c.in-Err-append_piece.ensures in
+    let lost = c.in-Err-read_pieces.ensures in
+    let some : c.loop-i.i + c.min-count.result ≤ c.div_ceil-pieces.result = omega (arith, c.min-count.ensures, c.loop-i-test.true) in
     record {
-      goes = piece_lost here c.loop-i-test.true lost.goes;
-      from_same = lost.from_same ∙ here.from_same;
-      into_same = lost.into_same ∙ here.into_same;
+      goes = piece_lost here c.min-count.result some (piece_unread here c.min-count.result some lost.only lost.looks);
+      from_same = lost.same ∙ here.from_same;
+      into_same = here.into_same;
+    }
+
+pub append_pieces-requires : goal.append_pieces-requires
+append_pieces-requires g c =
+    let look = after_look (piece_set c.loop-i.invariant) (g.met.K.Blocks.sound c.loop-i.disk) c.in-Ok-read_pieces.ensures.same c.in-Ok-read_pieces.ensures.looks in
+    record { set = target_of look.set; named = c.requires.named }
+
+pub returns-in-Err-append_pieces : goal.returns-in-Err-append_pieces
+returns-in-Err-append_pieces g c =
+    let here = c.loop-i.invariant in
+    let read = c.in-Ok-read_pieces.ensures in
+    let lost = c.in-Err-append_pieces.ensures in
+    let look = after_look (piece_set here) (g.met.K.Blocks.sound c.loop-i.disk) read.same read.looks in
+    let some : c.loop-i.i + c.min-count.result ≤ c.div_ceil-pieces.result = omega (arith, c.min-count.ensures, c.loop-i-test.true) in
+    record {
+      goes = piece_lost here c.min-count.result some (piece_read here c.min-count.result some look read.told lost.goes);
+      from_same = read.same ∙ here.from_same;
+      into_same = lost.same ∙ here.into_same;
     }
 
 pub loop-i-preserved : goal.loop-i-preserved
 loop-i-preserved g c =
-    let next = c.in-Ok-append_piece.ensures in
-    piece_next c.loop-i.invariant c.loop-i-test.true next.goes next.from_same next.into_same
+    let here = c.loop-i.invariant in
+    let read = c.in-Ok-read_pieces.ensures in
+    let next = c.in-Ok-append_pieces.ensures in
+    let look = after_look (piece_set here) (g.met.K.Blocks.sound c.loop-i.disk) read.same read.looks in
+    let some : c.loop-i.i + c.min-count.result ≤ c.div_ceil-pieces.result = omega (arith, c.min-count.ensures, c.loop-i-test.true) in
+    piece_next here c.min-count.result some (piece_read here c.min-count.result some look read.told next.goes) read.same next.same
 
 pub returns : goal.returns
 returns g c =
