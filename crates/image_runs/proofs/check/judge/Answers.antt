@@ -2,6 +2,7 @@ use Rattle.std.proofs.Common.{◌∙◌, ap}
 use Rattle.image_runs.proofs.Common.{World, like_at, told_by, world_on}
 use Rattle.image_runs.specs.Check.{told_of}
 use Rattle.image_runs.proofs.Saying.{told_like}
+use Rattle.image_runs.proofs.Looking.{looked}
 use Rattle.image_runs.proofs.check.judge.Goals as goal
 
 pub returns-in-Ok-clause-found : goal.returns-in-Ok-clause-found
