@@ -1,6 +1,6 @@
 -- What the core promises, as a serving loop asks it.
 use Rattle.std.proofs.Common.{◌≡◌, ◌↔◌, ◌<◌, ◌≤◌, ◌+◌, ◌||◌, ◌==◌, ℕ, Bool, List, true, false, cond, refl, sym, ◌∙◌, ap, subst, inl, inr, arith, Option, Some, None}
-use Rattle.image_runs.proofs.Common.{or_left, CountsFault, IfOk, IsTrue, is_none, HasForm, is_refusal, step, Outcome, State, is_granted, verdict, Reply, Rule, PlaceKind, Request, View, IsSound, LeavesOnly, weakened, Image, world_of, world_valid, IsAnswer, debt, owed, LeavesEither, Volume, Works, Tables, Geometry, IsLawful, StandsBeforeOrAfter, AreCounted, Placed, Core, FitsReads, IsCoreAt, state_on, asks_nothing, next_world, write_limit, disk_rules, limit_with, placed_on, writes_before}
+use Rattle.image_runs.proofs.Common.{or_left, CountsFault, IfOk, IsTrue, is_none, HasForm, is_refusal, step, Outcome, State, is_granted, verdict, Reply, Rule, PlaceKind, Request, View, IsSound, LeavesOnly, weakened, Image, world_of, world_valid, IsAnswer, debt, owed, LeavesEither, Volume, Works, Tables, IsLawful, StandsBeforeOrAfter, AreCounted, Placed, Core, FitsReads, IsCoreAt, state_on, asks_nothing, next_world, write_limit, disk_rules, limit_with, placed_on, writes_before}
 use Rattle.std.specs.Prelude.{Result, Ok, Err, OnOk, OnErr}
 use Rattle.image_device.specs.declared.device.Failed.{Failed}
 use Rattle.tsd_core.specs.Carrying.{left_in}

@@ -85,8 +85,8 @@ pub fn load_image<P: Port>(
     /// of them.
     ensures any_moment { P.told → IsFirm (P.view port.old) → LeavesOnly (P.view port.old) (P.view port.new)
         (IsLeftOfLoad placement.now.kind load.now.seed load.now.count (P.view port.old)) }
-    /// promise (with looked): Without memory no request is carried out, and no more was written than an opening writes:
-    /// it is wanting at the opening or at request 0, which opens the session.
+    // Memory is wanting at the opening, or at request 0, which opens the session.
+    /// promise (with looked): Without memory no request is carried out, and no more was written than an opening writes.
     ensures no_memory { P.told → result ≡ Status.NoMemory → IsFirm (P.view port.old)
         → LeavesOnly (P.view port.old) (P.view port.new) (λ x f. StandAlike (P.view port.old).reads x
         × (f ≡ (P.view port.old).sent)) }

@@ -15,7 +15,7 @@ use Rattle.image_world.specs.Faults.{IsGood}
 use Rattle.image_world.specs.Stands.{Stands, world_of}
 use Rattle.image_world.proofs.WorldLaws.{world_valid}
 use Rattle.recovery.specs.Opening.{StandAlike}
-use Rattle.image_runs.specs.Opened.{IsUnopened, IsNotImage}
+use Rattle.image_runs.specs.Opened.{IsUnopened}
 use Rattle.tsd_words.specs.declared.status.Status.{Status}
 use Rattle.tsd_words.specs.declared.status.Status.TheVariants as status
 use Rattle.fs_trees.specs.declared.ask.ShellAsk.{ShellAsk}

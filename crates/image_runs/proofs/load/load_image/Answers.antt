@@ -85,3 +85,9 @@ returns-in-Err-put_all-clause-spared g c told bad = absurd (bad (c.in-Ok.ensures
 
 pub returns-in-Err-clause-looked : goal.returns-in-Err-clause-looked
 returns-in-Err-clause-looked g c told = c.in-Err.ensures.looked told
+
+pub returns-in-Ok-put_all-clause-looked : goal.returns-in-Ok-put_all-clause-looked
+returns-in-Ok-put_all-clause-looked g c told e = absurd (cc)
+
+pub returns-in-Err-put_all-clause-looked : goal.returns-in-Err-put_all-clause-looked
+returns-in-Err-put_all-clause-looked g c told e = absurd (cc)
