@@ -78,10 +78,10 @@ starved_alike kind seed old mid new (Ok x) good same sent opening run = tt
 starved_alike kind seed old mid new (Err why) good same sent opening run = λ e firm. still_alike kind seed old mid new good same sent (opening firm) (run e)
 
 -- where request 0 had no memory, nothing was written since the opening
-pub looked_by_first : {T D : Type 0} (result : Result T Status) (view : D → View) (old : View) (mid new : D) (kind : PlaceKind) (seed : List ℕ) {c d : Core} → OnlyLooks old (view mid)
+pub looked_by_first : {T D : Type 0} (result : Result T Status) (view : D → View) (old : View) (mid new : D) (kind : PlaceKind) (seed : List ℕ) (c d : Core) → OnlyLooks old (view mid)
     → IfErr result (λ why. why ≡ status.NoMemory → IsFirstStarved kind seed view c d mid new) → IfErr result (λ why. why ≡ status.NoMemory → OnlyLooks old (view new))
-looked_by_first (Ok x) view old mid new kind seed looks first = tt
-looked_by_first {D = D} (Err why) view old mid new kind seed looks first = λ e. subst (λ (p : D). OnlyLooks old (view p)) (sym (first e).device) looks
+looked_by_first (Ok x) view old mid new kind seed c d looks first = tt
+looked_by_first {D = D} (Err why) view old mid new kind seed c d looks first = λ e. subst (λ (p : D). OnlyLooks old (view p)) (sym (first e).device) looks
 
 -- ---- statuses
 

@@ -13,3 +13,6 @@ returns-in-Ok-clause-found g c told =
           ∙ told_like c.args.telling (told_by c.in-Ok.volume) (world_on mid) (like_at c.in-Ok.volume mid (c.in-Ok.ensures.at told))
           ∙ ap (λ (w : World). told_of c.args.telling w) (c.in-Ok.ensures.done told),
     )
+
+pub returns-in-Ok-clause-only : goal.returns-in-Ok-clause-only
+returns-in-Ok-clause-only g c told = looked (g.D.Device.view c.args.dev.now) (g.D.Device.view c.open_volume.new.dev) (c.open_volume.ensures.uses told) (c.open_volume.ensures.unwritten told)

@@ -59,7 +59,7 @@ returns-in-Ok-clause-spared g c told bad = absurd (bad (c.in-Ok.ensures.read tol
 pub returns-in-Ok-clause-looked : goal.returns-in-Ok-clause-looked
 returns-in-Ok-clause-looked g c told =
     let old = g.D.Device.view c.args.dev.now in
-    looked_by_first c.run.result g.D.Device.view old c.open_volume.new.dev c.run.new.dev _ _ (looked old (g.D.Device.view c.open_volume.new.dev) (c.open_volume.ensures.uses told) (c.open_volume.ensures.unwritten told))
+    looked_by_first c.run.result g.D.Device.view old c.open_volume.new.dev c.run.new.dev _ _ _ _ (looked old (g.D.Device.view c.open_volume.new.dev) (c.open_volume.ensures.uses told) (c.open_volume.ensures.unwritten told))
     (c.run.ensures.first told)
 
 pub returns-in-Err-clause-looked : goal.returns-in-Err-clause-looked
