@@ -1,5 +1,5 @@
 -- What an opening writes, and a text that is put behind it.
-use Rattle.std.proofs.Common.{◌≡◌, ◌≤◌, ◌∙◌, List, [], ℕ, arith}
+use Rattle.std.proofs.Common.{◌≤◌, ◌∙◌, List, [], ℕ, arith}
 use Rattle.std.specs.Prelude.{Result}
 use Rattle.image_device.specs.Calls.{Uses}
 use Rattle.image_runs.proofs.Common.{IsQuiet, IsSound, PutsAll, View, home, tables_of}

@@ -1,7 +1,7 @@
 -- Why an image wasn't opened, as a status, and the state of a disk that was.
 use Rattle.std.proofs.Common.{◌≡◌, ◌∙◌, ap, sym, subst, refl, arith}
 use Rattle.std.specs.Prelude.{ℕ, List, Result, Err}
-use Rattle.image_runs.proofs.Common.{World, Sessions, no_sessions, fitted, State, at_rest, sweep_flag, Image, says_open, View, IsSound, PutsAll, home, IsGood, world_of, header_on, tables_of, IsForeign, IsOpening, IsUntouched, SparesDamaged, OpenFault, Status, Core, state_on, told_world, IsJudged, IsUnopened, status_of}
+use Rattle.image_runs.proofs.Common.{World, Sessions, no_sessions, fitted, State, at_rest, sweep_flag, Image, says_open, View, IsSound, PutsAll, home, IsGood, world_of, header_on, tables_of, IsForeign, IsOpening, IsUntouched, SparesDamaged, OpenFault, Core, state_on, told_world, IsJudged, IsUnopened, status_of}
 use Rattle.intent_journal.specs.Crash.{IsTheSame}
 use Rattle.recovery.specs.declared.fault.OpenFault.TheVariants as opening
 use Rattle.tsd_words.specs.declared.status.Status.TheVariants as status
