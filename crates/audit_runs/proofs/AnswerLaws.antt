@@ -18,7 +18,7 @@ use Rattle.std.specs.Prelude.{Result, Ok, Err, IfErr}
 use Rattle.image_audit.specs.declared.entry.Entry.{Entry}
 use Rattle.image_audit.specs.Depths.{AreReached}
 use Rattle.image_audit.specs.Laws.{listings_from}
-use Rattle.image_runs.specs.Opened.{IsJudged, IsNotImage, IsUnopened}
+use Rattle.image_runs.specs.Opened.{IsJudged, IsUnopened}
 use Rattle.image_runs.specs.Sending.{ProperFrontWasSent, IsEnding}
 use Rattle.audit_runs.specs.Answering.{HasAnswered, IsUnanswered, IsUnread}
 use Rattle.audit_runs.specs.Audit.{HasAudited, IsAudit, IsAuditOf, listings_text}
@@ -151,18 +151,6 @@ unread_unanswered status.PutFault stops = absurd stops
 unread_unanswered status.Truncated stops = absurd stops
 unread_unanswered (status.RootDenied level) stops = absurd stops
 
-pub unread_image : (why : Status) → IsUnread why → IsNotImage why → ⊥
-unread_image (status.NotImage reason) stops h = stops
-unread_image status.NoMemory stops h = h
-unread_image status.SourceFault stops h = h
-unread_image status.TooLong stops h = h
-unread_image status.DeviceFault stops h = h
-unread_image status.Done stops h = h
-unread_image status.Usage stops h = h
-unread_image status.PutFault stops h = h
-unread_image status.Truncated stops h = h
-unread_image (status.RootDenied level) stops h = h
-
 pub unread_judged : (image : Image) (why : Status) → IsUnread why → IsGood image → IsJudged image why
 unread_judged image status.NoMemory stops good = tt
 unread_judged image status.SourceFault stops good = good
@@ -184,7 +172,3 @@ answered_on (Err why) source P Q more a = record { bytes = a.bytes; came_in = a.
 pub judged_on : {T : Type 0} (r : Result T Status) (image : Image) → IsGood image → IfErr r IsUnread → IfErr r (IsJudged image)
 judged_on (Ok x) image good stops = tt
 judged_on (Err why) image good stops = unread_judged image why stops good
-
-pub unread_spared : {T : Type 0} (P : Type 0) (r : Result T Status) → IfErr r IsUnread → IfErr r (λ why. IsNotImage why → P)
-unread_spared P (Ok x) stops = tt
-unread_spared P (Err why) stops = λ h. absurd (unread_image why stops h)

@@ -4,4 +4,3 @@ pub mod TextLaws
 pub mod PuttingLaws
 pub mod AnswerLaws
 pub mod AuditLaws
-pub mod LookLaws

@@ -8,4 +8,3 @@ pub mod Taking
 pub mod Answering
 pub mod Putting
 pub mod Laws
-pub mod Looking

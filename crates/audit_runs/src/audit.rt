@@ -4,13 +4,13 @@ ghost use Rattle.std.specs.Prelude.{◌≡◌, ◌≢◌, IfOk, IfErr};
 ghost use Rattle.image_device.specs.Counts.{CountsFaultOf, Rose};
 ghost use Rattle.image_device.specs.Runs.{IsFirm, LeavesOnly};
 ghost use Rattle.image_world.specs.Behind.{LeavesBehind};
-ghost use Rattle.recovery.specs.Opening.{IsForeign, IsSpared, IsUntouched, StandAlike};
+ghost use Rattle.recovery.specs.Opening.{IsForeign, IsUntouched, LeavesData, SparesDamaged, StandAlike};
 ghost use Rattle.volume_laws.specs.Writes.{Works};
-ghost use Rattle.image_runs.specs.Opened.{IsJudged, IsNotImage, IsUnopened};
+ghost use Rattle.image_runs.specs.Looking.{OnlyLooks};
+ghost use Rattle.image_runs.specs.Opened.{IsJudged, IsUnopened};
 ghost use Rattle.image_runs.specs.Sending.{IsEnding};
 ghost use Rattle.audit_runs.specs.Audit.{HasAudited, IsAuditing};
 ghost use Rattle.audit_runs.specs.Found.{IsFoundIn};
-ghost use Rattle.audit_runs.specs.Looking.{OnlyLooks};
 
 use crate::listings::put_listings;
 use image_audit::{Reached, primary_roots};
@@ -30,19 +30,20 @@ pub fn audit_image<P: Port>(alloc: Global, port: &mut P) -> Status
     /// after a put that failed, and else nothing.
     ensures said { P.told → HasAudited result (P.view port.old).reads (P.view port.old).sent (P.view port.new).sent }
     /// promise (with spared, behind): Where the image fails one of the first three tests, nothing is written, and it
-    /// reads as before; where it fails another, nothing is lost that a repair could use; what lies after the image is
-    /// as it was.
+    /// reads as before; where it fails another, nothing is lost that a repair could use, whatever is answered; what
+    /// lies after the image is as it was.
     ensures untouched { P.told → IsForeign (P.view port.old).reads
         → IsUntouched (P.view port.old) (P.view port.new) }
-    ensures spared { P.told → IsNotImage result → IsSpared (P.view port.old) (P.view port.new) }
+    ensures spared { P.told → SparesDamaged (P.view port.old) (P.view port.new) }
     // However it ends, a crash at any moment leaves what lies behind the image as it was.
     ensures behind { P.told → IsFirm (P.view port.old) → LeavesBehind (P.view port.old) (P.view port.new) }
     /// promise: Each image left stands for the same world as the one at the start, or for none as that one.
     ensures any_moment { P.told → IsFirm (P.view port.old) → LeavesOnly (P.view port.old) (P.view port.new)
         (λ x f. StandAlike (P.view port.old).reads x × IsAuditing (P.view port.old).reads (P.view port.old).sent f) }
-    /// promise: Where nothing is left to be done on the image nothing is written, and else no more than an opening
-    /// writes, however it ends.
+    /// promise (with kept): Where nothing is left to be done on the image nothing is written, and else no more than an
+    /// opening writes, however it ends; the data of all blocks is as it was in each image left, of free ones too.
     ensures only { P.told → OnlyLooks (P.view port.old) (P.view port.new) }
+    ensures kept { P.told → IsFirm (P.view port.old) → LeavesData (P.view port.old) (P.view port.new) }
     // A count of faults rose only where the status is that fault's.
     ensures device_fault { result ≡ Status.DeviceFault → Rose (P.view port.old).faults (P.view port.new).faults }
     ensures put_fault { result ≡ Status.PutFault → Rose (P.view port.old).put_faults (P.view port.new).put_faults }
@@ -65,15 +66,17 @@ fn find<D: Device>(alloc: Global, dev: &mut D) -> Result<Reached, Status>
     ensures stops { IfErr result IsUnopened }
     ensures sent { D.told → (D.view dev.new).sent ≡ (D.view dev.old).sent }
     // Where the image fails one of the tests that need no write, nothing is written, and the disk reads as before;
-    // where it fails another, nothing is lost that a repair could use.
+    // where it fails another, nothing is lost that a repair could use, whatever is answered.
     ensures untouched { D.told → IsForeign (D.view dev.old).reads → IsUntouched (D.view dev.old) (D.view dev.new) }
-    ensures spared { D.told → IfErr result (λ why. IsNotImage why → IsSpared (D.view dev.old) (D.view dev.new)) }
+    ensures spared { D.told → SparesDamaged (D.view dev.old) (D.view dev.new) }
     // However it ends, a crash at any moment leaves what lies behind the image as it was.
     ensures behind { D.told → IsFirm (D.view dev.old) → LeavesBehind (D.view dev.old) (D.view dev.new) }
     ensures any_moment { D.told → IsFirm (D.view dev.old) → LeavesOnly (D.view dev.old) (D.view dev.new)
         (λ x f. StandAlike (D.view dev.old).reads x × (f ≡ (D.view dev.old).sent)) }
-    // Where nothing is left to be done on the image nothing is written, and else no more than an opening writes.
+    // Where nothing is left to be done on the image nothing is written, and else no more than an opening writes; the
+    // data of all blocks stays.
     ensures only { D.told → OnlyLooks (D.view dev.old) (D.view dev.new) }
+    ensures kept { D.told → IsFirm (D.view dev.old) → LeavesData (D.view dev.old) (D.view dev.new) }
     ensures works { Works (D.view dev.old) (D.view dev.new) }
     ensures faults { CountsFaultOf Status.DeviceFault result (D.view dev.old).faults (D.view dev.new).faults }
 {

@@ -4,14 +4,14 @@ ghost use Rattle.std.specs.Prelude.{◌≡◌, ◌≢◌, ℕ, List, Option, len
 ghost use Rattle.image_device.specs.Counts.{CountsFaultOf, Rose};
 ghost use Rattle.image_device.specs.Runs.{IsFirm, LeavesOnly};
 ghost use Rattle.image_world.specs.Behind.{LeavesBehind};
-ghost use Rattle.recovery.specs.Opening.{IsForeign, IsSpared, IsUntouched, StandAlike};
+ghost use Rattle.recovery.specs.Opening.{IsForeign, IsUntouched, LeavesData, SparesDamaged, StandAlike};
 ghost use Rattle.script_text.specs.Pieces.{all_lines};
 ghost use Rattle.serving.specs.Ran.{EndsOnce, moments, taking};
 ghost use Rattle.volume_laws.specs.Volume.{IsVolumeReady, told_by};
 ghost use Rattle.volume_laws.specs.Writes.{Works};
-ghost use Rattle.image_runs.specs.Opened.{IsJudged, IsNotImage};
+ghost use Rattle.image_runs.specs.Looking.{OnlyLooks};
+ghost use Rattle.image_runs.specs.Opened.{IsJudged};
 ghost use Rattle.audit_runs.specs.Answering.{HasAnswered, IsUnanswered, IsUnread};
-ghost use Rattle.audit_runs.specs.Looking.{OnlyLooks};
 ghost use Rattle.audit_runs.specs.Taking.{IsReadAs};
 ghost use Rattle.audit_runs.specs.Verify.{IsVerdictOver, IsAnswerOf, VerifyRan};
 
@@ -37,17 +37,18 @@ pub fn verify_image<S: Source, P: Port>(alloc: Global, source: &mut S, port: &mu
     ensures ran { VerifyRan result (taking S.told S.taken S.left_bytes S.ended source.old source.new)
         (moments P.told P.view port.old port.new) }
     /// promise (with spared, behind): Where the image fails one of the first three tests, nothing is written, and it
-    /// reads as before; where it fails another, nothing is lost that a repair could use; what lies after the image is
-    /// as it was.
+    /// reads as before; where it fails another, nothing is lost that a repair could use, whatever is answered; what
+    /// lies after the image is as it was.
     ensures untouched { P.told → IsForeign (P.view port.old).reads
         → IsUntouched (P.view port.old) (P.view port.new) }
-    ensures spared { P.told → IsNotImage result → IsSpared (P.view port.old) (P.view port.new) }
+    ensures spared { P.told → SparesDamaged (P.view port.old) (P.view port.new) }
     // However it ends, a crash at any moment leaves what lies behind the image as it was.
     ensures behind { P.told → IsFirm (P.view port.old) → LeavesBehind (P.view port.old) (P.view port.new) }
     ensures once { EndsOnce (S.ends source.old) (S.ends source.new) }
-    /// promise: Where nothing is left to be done on the image nothing is written, and else no more than an opening
-    /// writes, however it ends.
+    /// promise (with kept): Where nothing is left to be done on the image nothing is written, and else no more than an
+    /// opening writes, however it ends; the data of all blocks is as it was in each image left, of free ones too.
     ensures only { P.told → OnlyLooks (P.view port.old) (P.view port.new) }
+    ensures kept { P.told → IsFirm (P.view port.old) → LeavesData (P.view port.old) (P.view port.new) }
     // A count of faults rose only where the status is that fault's.
     ensures source_fault { result ≡ Status.SourceFault → Rose (S.faults source.old) (S.faults source.new) }
     ensures device_fault { result ≡ Status.DeviceFault → Rose (P.view port.old).faults (P.view port.new).faults }
@@ -79,15 +80,17 @@ fn answer<S: Source, D: Device>(
     ensures stops { IfErr result IsUnanswered }
     ensures sent { D.told → (D.view dev.new).sent ≡ (D.view dev.old).sent }
     // Where the image fails one of the tests that need no write, nothing is written, and the disk reads as before;
-    // where it fails another, nothing is lost that a repair could use.
+    // where it fails another, nothing is lost that a repair could use, whatever is answered.
     ensures untouched { D.told → IsForeign (D.view dev.old).reads → IsUntouched (D.view dev.old) (D.view dev.new) }
-    ensures spared { D.told → IfErr result (λ why. IsNotImage why → IsSpared (D.view dev.old) (D.view dev.new)) }
+    ensures spared { D.told → SparesDamaged (D.view dev.old) (D.view dev.new) }
     // However it ends, a crash at any moment leaves what lies behind the image as it was.
     ensures behind { D.told → IsFirm (D.view dev.old) → LeavesBehind (D.view dev.old) (D.view dev.new) }
     ensures any_moment { D.told → IsFirm (D.view dev.old) → LeavesOnly (D.view dev.old) (D.view dev.new)
         (λ x f. StandAlike (D.view dev.old).reads x × (f ≡ (D.view dev.old).sent)) }
-    // Where nothing is left to be done on the image nothing is written, and else no more than an opening writes.
+    // Where nothing is left to be done on the image nothing is written, and else no more than an opening writes; the
+    // data of all blocks stays.
     ensures only { D.told → OnlyLooks (D.view dev.old) (D.view dev.new) }
+    ensures kept { D.told → IsFirm (D.view dev.old) → LeavesData (D.view dev.old) (D.view dev.new) }
     ensures works { Works (D.view dev.old) (D.view dev.new) }
     ensures once { EndsOnce (S.ends source.old) (S.ends source.new) }
     ensures source_faults { CountsFaultOf Status.SourceFault result (S.faults source.old) (S.faults source.new) }

@@ -4,7 +4,7 @@ use Rattle.tsd_model.specs.declared.requests.PlaceKind.{PlaceKind}
 use Rattle.tsd_model.specs.declared.requests.Request.{Request}
 use Rattle.image_device.specs.Runs.{IsFirm}
 use Rattle.image_world.specs.Behind.{LeavesBehind}
-use Rattle.recovery.specs.Opening.{IsForeign, IsSpared, IsUntouched}
+use Rattle.recovery.specs.Opening.{IsForeign, IsUntouched, SparesDamaged}
 use Rattle.tsd_words.specs.declared.status.Status.{Status}
 use Rattle.tsd_words.specs.declared.status.Status.TheVariants as status
 use Rattle.serving.specs.FrameSpelling.{frame_spelling, frame_voice}
@@ -13,7 +13,7 @@ use Rattle.serving.specs.Ran.{Ends, Moments, Ran, Taking}
 use Rattle.serving.specs.Service.{Service}
 use Rattle.serving.specs.Voice.{spoken}
 use Rattle.image_runs.specs.Server.{disk_rules, disk_work}
-use Rattle.image_runs.specs.Opened.{IsJudged, IsNotImage}
+use Rattle.image_runs.specs.Opened.{IsJudged}
 use Rattle.image_groups.specs.Served.{ImageRanInGroups}
 
 -- There was no room for a frame, and nothing was called.
@@ -30,7 +30,7 @@ pub record OpenedAndServed (r : Status) (kind : PlaceKind) (source : Taking) (po
   pub judged : port.tells → IsJudged port.old.reads r
   pub ran : ImageRanInGroups r frame_voice frame_spelling kind (2 ^ 40) source port
   pub foreign : port.tells → IsForeign port.old.reads → IsUntouched port.old port.new
-  pub damaged : port.tells → IsNotImage r → IsSpared port.old port.new
+  pub damaged : port.tells → SparesDamaged port.old port.new
   pub behind : port.tells → IsFirm port.old → ∥ LeavesBehind port.old port.new ∥₁
 
 abbrev pub ServedFrames : Status → PlaceKind → Taking → Moments → Type 0

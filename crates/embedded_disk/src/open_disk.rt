@@ -7,12 +7,12 @@ ghost use Rattle.image_device.specs.Counts.{CountsFault, CountsFaultOf, Rose};
 ghost use Rattle.image_device.specs.Runs.{IsFirm, LeavesOnly, LeavesPart};
 ghost use Rattle.image_world.specs.Behind.{LeavesBehind, behind};
 ghost use Rattle.image_world.specs.Stands.{world_of};
-ghost use Rattle.recovery.specs.Opening.{IsForeign, IsSpared, IsUntouched, StandAlike};
+ghost use Rattle.recovery.specs.Opening.{IsForeign, IsUntouched, SparesDamaged, StandAlike};
 ghost use Rattle.serving.specs.Ran.{EndsOnce, moments, taking};
 ghost use Rattle.tsd_core.specs.Core.{IsCoreAt, IsCoreReady, state_on};
 ghost use Rattle.volume_laws.specs.Quiet.{IsQuiet};
 ghost use Rattle.volume_laws.specs.Writes.{due};
-ghost use Rattle.image_runs.specs.Opened.{IsNotImage, IsOpened, IsUnopened};
+ghost use Rattle.image_runs.specs.Opened.{IsOpened, IsUnopened};
 ghost use Rattle.image_runs.specs.Server.{placed_on};
 ghost use Rattle.embedded_disk.specs.Calls.{AnsweredFrames, Applied, shown};
 
@@ -57,11 +57,10 @@ impl OpenDisk {
         ensures any_moment { D.told → IsFirm (D.view dev.old) → LeavesOnly (D.view dev.old) (D.view dev.new)
             (λ x f. StandAlike (D.view dev.old).reads x × (f ≡ (D.view dev.old).sent)) }
         /// promise (with spared): Where the image fails one of the first three tests, nothing is written; where it
-        /// fails another, nothing is lost that a repair could use.
+        /// fails another, nothing is lost that a repair could use, whatever is answered.
         ensures untouched { D.told → IsForeign (D.view dev.old).reads
             → IsUntouched (D.view dev.old) (D.view dev.new) }
-        ensures spared { D.told → IfErr result (λ why. IsNotImage why
-            → IsSpared (D.view dev.old) (D.view dev.new)) }
+        ensures spared { D.told → SparesDamaged (D.view dev.old) (D.view dev.new) }
         /// promise: A crash at any moment leaves what lies after the end of the image as it was.
         ensures behind { D.told → IsFirm (D.view dev.old) → LeavesBehind (D.view dev.old) (D.view dev.new) }
         ensures faults { CountsFaultOf Status.DeviceFault result (D.view dev.old).faults (D.view dev.new).faults }

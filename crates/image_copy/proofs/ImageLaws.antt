@@ -9,7 +9,6 @@ use Rattle.tsd_model.specs.declared.requests.Level.{Level}
 use Rattle.tsd_model.specs.declared.requests.Level.TheVariants as level
 use Rattle.disk_laws.specs.Bytes.{AreLike}
 use Rattle.disk_laws.proofs.FreshLaws.{no_sessions_fit}
-use Rattle.image_device.specs.Calls.{Uses}
 use Rattle.image_device.specs.Counts.{CountsFaultOf, Rose}
 use Rattle.image_device.specs.View.{IsSound, View}
 use Rattle.image_device.specs.Runs.{IsFirm, LeavesOnly}
@@ -22,19 +21,20 @@ use Rattle.image_world.specs.Stands.{Stands, world_of}
 use Rattle.image_world.proofs.WorldLaws.{world_valid}
 use Rattle.volume_laws.specs.Quiet.{IsQuiet}
 use Rattle.volume_laws.specs.Volume.{IsVolumeAt, Volume, told_by}
-use Rattle.recovery.specs.Opening.{IsForeign, IsSpared, IsUntouched, StandAlike, opening_writes}
+use Rattle.recovery.specs.Opening.{IsForeign, IsUntouched, SparesDamaged, StandAlike}
 use Rattle.tsd_words.specs.declared.status.Status.{Status}
 use Rattle.tsd_words.specs.declared.status.Status.TheVariants as status
 use Rattle.tsd_core.specs.Core.{Core, IsCoreAt, IsCoreReady, told_world}
 use Rattle.tsd_core.proofs.AtLaws.{at_core, like_at}
 use Rattle.fs_port.specs.Files.{FilesView}
 use Rattle.core_blocks.proofs.BehindLaws.{behind_after}
-use Rattle.image_runs.specs.Opened.{IsJudged, IsNotImage, IsUnopened}
+use Rattle.image_runs.specs.Looking.{OnlyLooks}
+use Rattle.image_runs.specs.Opened.{IsJudged, IsUnopened}
 use Rattle.image_runs.specs.Served.{IsAtEase}
 use Rattle.image_runs.proofs.Opened.{not_foreign}
 use Rattle.image_shell.specs.Served.{IsRootDenied, level_at}
 use Rattle.image_shell.proofs.FromLaws.{level_like}
-use Rattle.image_copy.specs.Copied.{AreAdmitted, HasEnded, IsCopyJudged, IsKeptOut, IsNotBegun, IsSideDenied, OnlyLooks, level_under, source, target}
+use Rattle.image_copy.specs.Copied.{AreAdmitted, HasEnded, IsCopyJudged, IsKeptOut, IsNotBegun, IsSideDenied, level_under, source, target}
 use Rattle.image_copy.specs.Ends.{EndsAs}
 use Rattle.image_copy.specs.Steps.{CarriesOut, CopiesFrom, CopiesOn, IsDenial, IsLeftBy, IsLeftFrom, IsSharing, IsStartOf, IsStop, IsUnended}
 use Rattle.image_copy.specs.declared.ending.CopyEnd.{CopyEnd}
@@ -164,9 +164,6 @@ module _ (told : Type 0) (words : CopyFs) (vol : Volume) (v : View) (sound : tol
 
 -- ---- over an image that was opened
 
-pub opening_looks : (old mid : View) → Uses (opening_writes old.reads) old mid → (IsQuiet old.reads → mid.writes ≤ old.writes) → OnlyLooks old mid
-opening_looks old mid uses unwritten = record { quiet = λ quiet. omega (arith, uses.writes, unwritten quiet); most = uses.most }
-
 stop_judged : (words : CopyFs) (image : Image) (start : World) (why : Status) → start ≡ world_of image → IsGood image → IsStop start words why → IsCopyJudged words image why
 stop_judged words image start (status.RootDenied attained) is good stop = (good, subst (λ (w : World). IsSideDenied w words attained) is stop)
 stop_judged words image start status.DeviceFault is good stop = tt
@@ -178,18 +175,6 @@ stop_judged words image start status.SourceFault is good stop = absurd stop
 stop_judged words image start status.PutFault is good stop = absurd stop
 stop_judged words image start status.TooLong is good stop = absurd stop
 stop_judged words image start status.Truncated is good stop = absurd stop
-
-stop_image : (words : CopyFs) (start : World) (why : Status) → IsStop start words why → IsNotImage why → ⊥
-stop_image words start (status.NotImage why) stop not = stop
-stop_image words start (status.RootDenied attained) stop not = not
-stop_image words start status.DeviceFault stop not = not
-stop_image words start status.NoMemory stop not = not
-stop_image words start status.Done stop not = not
-stop_image words start status.Usage stop not = not
-stop_image words start status.SourceFault stop not = not
-stop_image words start status.PutFault stop not = not
-stop_image words start status.TooLong stop not = not
-stop_image words start status.Truncated stop not = not
 
 alike_of : (old x : Image) → IsGood old → Stands x (world_of old) → StandAlike old x
 alike_of old x good stands w = (λ s. record { good = stands.good; world = s.world ∙ stands.world }, λ s. record { good = good; world = s.world ∙ sym stands.world })
@@ -212,10 +197,6 @@ module _ (told : Type 0) (words : CopyFs) (old mid new : View) (good : told → 
   judged_so : told → (r : Result CopyEnd Status) → IfErr r (IsStop (world_of mid.reads) words) → IfErr r (IsCopyJudged words old.reads)
   judged_so t (Ok e) stop = tt
   judged_so t (Err why) stop = stop_judged words old.reads (world_of mid.reads) why (same t) (good t) stop
-
-  spared_so : told → (r : Result CopyEnd Status) → IfErr r (IsStop (world_of mid.reads) words) → IfErr r (λ why. IsNotImage why → IsSpared old new)
-  spared_so t (Ok e) stop = tt
-  spared_so t (Err why) stop = λ not. absurd (stop_image words (world_of mid.reads) why stop not)
 
   not_begun_all : told → (r : Result CopyEnd Status) → IfErr r (λ why. IsNotBegun why → LeavesOnly mid new (λ x s. Stands x (world_of mid.reads) × (s ≡ mid.sent))) → IfErr r (λ why. IsNotBegun why → IsFirm old → LeavesOnly old new (λ x s. StandAlike old.reads x × (s ≡ old.sent)))
   not_begun_all t (Ok e) run = tt
@@ -245,7 +226,7 @@ module _ (told : Type 0) (words : CopyFs) (old mid new : View) (good : told → 
     not_begun = λ t. not_begun_all t r (copies.not_begun t);
     looked = λ t. looked_so t r copies.looked;
     untouched = λ t foreign. absurd (not_foreign old.reads (good t) foreign);
-    spared = λ t. spared_so t r (copies.denied t);
+    spared = λ t bad. absurd (bad (good t));
     put_faults = copies.put_faults ∙ put_faults;
     faults = faults_all r copies.faults;
   }
@@ -277,7 +258,7 @@ unopened_judged words image status.TooLong h judged = absurd h
 unopened_judged words image status.Truncated h judged = absurd h
 
 pub not_carried_out : (told : Type 0) (words : CopyFs) (old new : View) (why : Status) → IsUnopened why → (told → IsJudged old.reads why) → (told → new.sent ≡ old.sent) → (told → IsFirm old → LeavesOnly old new (λ x s. StandAlike old.reads x × (s ≡ old.sent)))
-    → (told → IsForeign old.reads → IsUntouched old new) → (told → IsNotImage why → IsSpared old new) → new.put_faults ≡ old.put_faults
+    → (told → IsForeign old.reads → IsUntouched old new) → (told → SparesDamaged old new) → new.put_faults ≡ old.put_faults
     → ((why ≡ status.DeviceFault → Rose old.faults new.faults) × (why ≢ status.DeviceFault → new.faults ≡ old.faults)) → (told → IsFirm old → LeavesBehind old new) → (told → OnlyLooks old new) → CarriesOut told words old new (Err why)
 not_carried_out told words old new why stops judged sent any untouched spared put_faults faults aside looks = record {
   has_words = tt;

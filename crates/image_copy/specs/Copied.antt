@@ -1,5 +1,5 @@
 -- What one copy over an image did, from its start to its end.
-use Rattle.std.specs.Prelude.{◌≡◌, ◌⊎◌, ◌+◌, ◌≤◌, ℕ, false, List, ◌++◌, ⊤}
+use Rattle.std.specs.Prelude.{◌≡◌, ◌⊎◌, ℕ, false, List, ◌++◌, ⊤}
 use Rattle.tsd_model.specs.World.{World}
 use Rattle.tsd_model.specs.declared.requests.Level.{Level}
 use Rattle.tsd_model.specs.declared.requests.Level.TheVariants as level
@@ -7,8 +7,7 @@ use Rattle.image_device.specs.View.{View, IsPart}
 use Rattle.image_layout.specs.Image.{Image}
 use Rattle.image_world.specs.Faults.{IsGood}
 use Rattle.image_world.specs.Stands.{Stands, world_of}
-use Rattle.recovery.specs.Opening.{StandAlike, opening_writes}
-use Rattle.volume_laws.specs.Quiet.{IsQuiet}
+use Rattle.recovery.specs.Opening.{StandAlike}
 use Rattle.tsd_words.specs.declared.status.Status.{Status}
 use Rattle.tsd_words.specs.declared.status.Status.TheVariants as status
 use Rattle.fs_port.specs.Files.{FilesView}
@@ -88,11 +87,6 @@ abbrev pub IsKeptOut : Status → Type 0
 IsKeptOut (status.NotImage why) = ⊤
 IsKeptOut (status.RootDenied attained) = ⊤
 IsKeptOut r = ⊥
-
--- Where nothing is left to be done on the image nothing is written, and else no more than an opening writes.
-pub record OnlyLooks (old new : View) : Type 0 where
-  pub quiet : IsQuiet old.reads → new.writes ≡ old.writes
-  pub most : new.writes ≤ old.writes + opening_writes old.reads
 
 -- ---- the whole
 

@@ -16,8 +16,8 @@ use Rattle.image_layout.specs.Image.{Image}
 use Rattle.image_world.specs.Behind.{LeavesBehind, size_of_image}
 use Rattle.image_world.specs.Stands.{Stands, world_of}
 use Rattle.image_world.specs.Faults.{IsGood}
-use Rattle.recovery.specs.Opening.{IsForeign, IsSpared, IsUntouched, StandAlike}
-use Rattle.image_runs.specs.Opened.{IsNotImage}
+use Rattle.recovery.specs.Opening.{IsForeign, IsUntouched, SparesDamaged, StandAlike}
+use Rattle.image_runs.specs.Looking.{OnlyLooks}
 use Rattle.image_runs.specs.Served.{IsAtEase}
 use Rattle.tsd_words.specs.declared.status.Status.{Status}
 use Rattle.tsd_words.specs.declared.status.Status.TheVariants as status
@@ -35,7 +35,7 @@ use Rattle.core_blocks.specs.Behind.{KeepsBehind}
 use Rattle.image_shell.specs.FromCore.{IsAtStart}
 use Rattle.image_shell.specs.Served.{level_at}
 use Rattle.image_copy.specs.Copied.{AreAdmitted, HasEnded, IsCopyJudged, IsKeptOut, IsNotBegun, IsSideDenied}
-use Rattle.image_copy.specs.Copied.{OnlyLooks, source}
+use Rattle.image_copy.specs.Copied.{source}
 use Rattle.image_copy.specs.Copied.{source_session, target, target_session}
 use Rattle.image_copy.specs.Ends.{EndsAs, IsFirstShared, IsUnderWay}
 use Rattle.image_copy.specs.Lines.{HasWords}
@@ -225,6 +225,6 @@ pub record CarriesOut (told : Type 0) (words : CopyFs) (v w : View) (result : Re
       → LeavesOnly v w (λ x s. StandAlike v.reads x × (s ≡ v.sent)))
   pub looked : told → IfErr result (λ why. IsKeptOut why → OnlyLooks v w)
   pub untouched : told → IsForeign v.reads → IsUntouched v w
-  pub spared : told → IfErr result (λ why. IsNotImage why → IsSpared v w)
+  pub spared : told → SparesDamaged v w
   pub put_faults : w.put_faults ≡ v.put_faults
   pub faults : CountsFaultOf status.DeviceFault result v.faults w.faults

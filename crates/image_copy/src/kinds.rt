@@ -4,11 +4,11 @@ ghost use Rattle.std.specs.Prelude.{◌≡◌, ◌≢◌};
 ghost use Rattle.image_device.specs.Counts.{Rose};
 ghost use Rattle.image_device.specs.Runs.{IsFirm, LeavesOnly};
 ghost use Rattle.image_world.specs.Behind.{LeavesBehind};
-ghost use Rattle.image_runs.specs.Opened.{IsNotImage};
-ghost use Rattle.recovery.specs.Opening.{IsForeign, IsSpared, IsUntouched, StandAlike};
+ghost use Rattle.image_runs.specs.Looking.{OnlyLooks};
+ghost use Rattle.recovery.specs.Opening.{IsForeign, IsUntouched, SparesDamaged, StandAlike};
 ghost use Rattle.fs_trees.specs.declared.ask.ShellKind.TheVariants as kind;
 ghost use Rattle.image_copy.specs.Copied.{HasCopied, IsCopyEnding, IsCopyJudged, IsKeptOut, IsLeftOfCopy, IsNotBegun};
-ghost use Rattle.image_copy.specs.Copied.{OnlyLooks, source};
+ghost use Rattle.image_copy.specs.Copied.{source};
 
 use crate::image::copy_over_image;
 use crate::sessions::{SOURCE_SESSION, TARGET_SESSION};
@@ -63,13 +63,13 @@ pub fn copy_image<P: Port>(
     /// image, and else no more than an opening writes.
     ensures looked { P.told → IsKeptOut result → OnlyLooks (P.view port.old) (P.view port.new) }
     // Where the image fails one of the tests that need no write, nothing is written, and the disk reads as before;
-    // where it fails another, nothing is lost that a repair could use.
+    // where it fails another, nothing is lost that a repair could use, whatever is answered.
     /// promise (with spared, behind): Where the image fails one of the first three tests, nothing is written, and it
-    /// reads as before; where it fails another, nothing is lost that a repair could use; what lies after the image is
-    /// as it was.
+    /// reads as before; where it fails another, nothing is lost that a repair could use, whatever is answered; what
+    /// lies after the image is as it was.
     ensures untouched { P.told → IsForeign (P.view port.old).reads
         → IsUntouched (P.view port.old) (P.view port.new) }
-    ensures spared { P.told → IsNotImage result → IsSpared (P.view port.old) (P.view port.new) }
+    ensures spared { P.told → SparesDamaged (P.view port.old) (P.view port.new) }
     // However it ended, a crash at any moment leaves what lies behind the image as it was.
     ensures behind { P.told → IsFirm (P.view port.old) → LeavesBehind (P.view port.old) (P.view port.new) }
     // A count of faults rose only where the status is that fault's.
@@ -126,10 +126,10 @@ fn copy_from<A: Walks, P: Port>(
     // Where no image was opened, or a capability doesn't attain write, no more is written than an opening writes.
     ensures looked { P.told → IsKeptOut result → OnlyLooks (P.view port.old) (P.view port.new) }
     // Where the image fails one of the tests that need no write, nothing is written, and the disk reads as before;
-    // where it fails another, nothing is lost that a repair could use.
+    // where it fails another, nothing is lost that a repair could use, whatever is answered.
     ensures untouched { P.told → IsForeign (P.view port.old).reads
         → IsUntouched (P.view port.old) (P.view port.new) }
-    ensures spared { P.told → IsNotImage result → IsSpared (P.view port.old) (P.view port.new) }
+    ensures spared { P.told → SparesDamaged (P.view port.old) (P.view port.new) }
     // However it ended, a crash at any moment leaves what lies behind the image as it was.
     ensures behind { P.told → IsFirm (P.view port.old) → LeavesBehind (P.view port.old) (P.view port.new) }
     // A count of faults rose only where the status is that fault's.

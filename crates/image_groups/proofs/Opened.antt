@@ -21,7 +21,7 @@ use Rattle.serving.specs.ModelRules.{Placed}
 use Rattle.serving.specs.Ran.{Taking}
 use Rattle.serving.specs.Runs.{IsBroken, Served}
 use Rattle.serving.specs.Voice.{Voice}
-use Rattle.image_runs.specs.Opened.{IsJudged, IsNotImage, IsUnopened}
+use Rattle.image_runs.specs.Opened.{IsJudged, IsUnopened}
 use Rattle.image_runs.specs.Served.{disk_service, start_of, IsAtEase}
 use Rattle.image_runs.proofs.Behind.{behind_then}
 use Rattle.gathering_runs.specs.Promise.{IsLeftByRun, IsOfPrefix}
@@ -143,15 +143,3 @@ judged_groups image status.NoMemory p limit bytes ended qs h good = tt
 judged_groups image (status.NotImage reason) p limit bytes ended qs h good = absurd h
 judged_groups image status.Usage p limit bytes ended qs h good = absurd h
 judged_groups image (status.RootDenied level) p limit bytes ended qs h good = absurd h
-
-pub asked_groups : (r : Status) (p : Spelling Request) (limit : ℕ) (bytes : List ℕ) (ended : Type 0) (qs : List Request) → AskedInGroups r p limit bytes ended qs → IsNotImage r → ⊥
-asked_groups (status.NotImage reason) p limit bytes ended qs asked h = asked
-asked_groups status.Done p limit bytes ended qs asked h = h
-asked_groups status.SourceFault p limit bytes ended qs asked h = h
-asked_groups status.PutFault p limit bytes ended qs asked h = h
-asked_groups status.TooLong p limit bytes ended qs asked h = h
-asked_groups status.Truncated p limit bytes ended qs asked h = h
-asked_groups status.DeviceFault p limit bytes ended qs asked h = h
-asked_groups status.NoMemory p limit bytes ended qs asked h = h
-asked_groups status.Usage p limit bytes ended qs asked h = h
-asked_groups (status.RootDenied level) p limit bytes ended qs asked h = h

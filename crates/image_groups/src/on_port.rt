@@ -4,10 +4,10 @@ ghost use Rattle.std.specs.Prelude.{◌≡◌, ◌≢◌, ◌≤◌, []};
 ghost use Rattle.image_device.specs.Counts.{Rose};
 ghost use Rattle.image_device.specs.Runs.{IsFirm};
 ghost use Rattle.image_world.specs.Behind.{LeavesBehind};
-ghost use Rattle.recovery.specs.Opening.{IsForeign, IsSpared, IsUntouched};
+ghost use Rattle.recovery.specs.Opening.{IsForeign, IsUntouched, SparesDamaged};
 ghost use Rattle.serving.specs.Prompt.{IsOfPort};
 ghost use Rattle.serving.specs.Ran.{EndsOnce, moments, taking};
-ghost use Rattle.image_runs.specs.Opened.{IsJudged, IsNotImage};
+ghost use Rattle.image_runs.specs.Opened.{IsJudged};
 ghost use Rattle.image_groups.specs.Served.{ImageRanByRounds, ImageRanInGroups};
 
 use crate::run::serve_image_in_groups;
@@ -43,10 +43,10 @@ pub fn serve_port_in_groups<S: Source, P: Port, R: Protocol<Request = Request> +
     ensures rounds { P.told → ImageRanByRounds result R.voice R.spelling placement.now.kind (IsOfPort P.view) limit
         (taking S.told S.taken S.left_bytes S.ended source.old source.new) (P.view port.old) (P.view port.new) }
     // Where the image fails one of the tests that need no write, nothing is written, and the disk reads as before;
-    // where it fails another, nothing is lost that a repair could use.
+    // where it fails another, nothing is lost that a repair could use, whatever is answered.
     ensures untouched { P.told → IsForeign (P.view port.old).reads
         → IsUntouched (P.view port.old) (P.view port.new) }
-    ensures spared { P.told → IsNotImage result → IsSpared (P.view port.old) (P.view port.new) }
+    ensures spared { P.told → SparesDamaged (P.view port.old) (P.view port.new) }
     // However it ended, a crash at any moment leaves what lies behind the image as it was.
     /// promise: A crash at any moment leaves what lies after the end of the image as it was; of the records that say so
     /// there is one, and none is picked.
@@ -87,8 +87,7 @@ fn serve_loan<'a, S: Source, P: Port, R: Protocol<Request = Request> + Replies, 
         (P.view result.0.port.now) }
     ensures untouched { P.told → IsForeign (P.view loan.entry.port.now).reads
         → IsUntouched (P.view loan.entry.port.now) (P.view result.0.port.now) }
-    ensures spared { P.told → IsNotImage result.1
-        → IsSpared (P.view loan.entry.port.now) (P.view result.0.port.now) }
+    ensures spared { P.told → SparesDamaged (P.view loan.entry.port.now) (P.view result.0.port.now) }
     ensures behind { P.told → IsFirm (P.view loan.entry.port.now)
         → ∥ LeavesBehind (P.view loan.entry.port.now) (P.view result.0.port.now) ∥₁ }
     ensures once { EndsOnce (S.ends source.old) (S.ends source.new) }

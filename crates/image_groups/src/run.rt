@@ -4,10 +4,10 @@ ghost use Rattle.std.specs.Prelude.{◌≡◌, ◌≢◌, ◌≤◌, []};
 ghost use Rattle.image_device.specs.Counts.{Rose};
 ghost use Rattle.image_device.specs.Runs.{IsFirm};
 ghost use Rattle.image_world.specs.Behind.{LeavesBehind};
-ghost use Rattle.recovery.specs.Opening.{IsForeign, IsSpared, IsUntouched};
+ghost use Rattle.recovery.specs.Opening.{IsForeign, IsUntouched, SparesDamaged};
 ghost use Rattle.serving.specs.Prompt.{IsOfPort};
 ghost use Rattle.serving.specs.Ran.{EndsOnce, moments, taking};
-ghost use Rattle.image_runs.specs.Opened.{IsJudged, IsNotImage};
+ghost use Rattle.image_runs.specs.Opened.{IsJudged};
 ghost use Rattle.image_groups.specs.Served.{ImageRanByRounds, ImageRanInGroups};
 
 use crate::server::GroupServer;
@@ -50,11 +50,11 @@ pub fn serve_image_in_groups<S: Source, P: Port, R: Protocol<Request = Request> 
     ensures rounds { P.told → ImageRanByRounds result.1 R.voice R.spelling placement.now.kind (IsOfPort P.view) limit
         (taking S.told S.taken S.left_bytes S.ended source.old source.new) (P.view port) (P.view result.0) }
     // Where the image fails one of the tests that need no write, nothing is written, and the disk reads as before;
-    // where it fails another, nothing is lost that a repair could use.
+    // where it fails another, nothing is lost that a repair could use, whatever is answered.
     /// promise (with spared): Where the image fails one of the first three tests, nothing is written; where it fails
-    /// another, nothing is lost that a repair could use.
+    /// another, nothing is lost that a repair could use, whatever is answered.
     ensures untouched { P.told → IsForeign (P.view port).reads → IsUntouched (P.view port) (P.view result.0) }
-    ensures spared { P.told → IsNotImage result.1 → IsSpared (P.view port) (P.view result.0) }
+    ensures spared { P.told → SparesDamaged (P.view port) (P.view result.0) }
     /// promise: A crash at any moment leaves what lies after the end of the image as it was; of the records that say so
     /// there is one, and none is picked.
     ensures behind { P.told → IsFirm (P.view port) → ∥ LeavesBehind (P.view port) (P.view result.0) ∥₁ }

@@ -12,7 +12,7 @@ use Rattle.image_runs.proofs.Saying.{put_behind}
 
 -- ---- the size of an image
 
-size_of_world : (x : Image) → (world_of x).geometry ≡ size_of_image x
+pub size_of_world : (x : Image) → (world_of x).geometry ≡ size_of_image x
 size_of_world x = sym (told_like x).geometry ∙ geometry_left (tables_of (home x)) _
 
 -- images of one world are of one size

@@ -8,11 +8,11 @@ pub use Rattle.image_device.specs.Runs.{IsConfined, IsFirm, LeavesOnly, LeavesPa
 pub use Rattle.image_device.specs.View.{IsLeftInPut, IsPart, IsSound, View}
 pub use Rattle.image_layout.specs.Areas.{sweep_flag, total}
 pub use Rattle.image_layout.specs.Image.{Image, says_open}
-pub use Rattle.image_runs.specs.Applying.{HasApplied, IsRequestNext, IsSummary, LeavesRun, more_granted, more_refused}
+pub use Rattle.image_runs.specs.Applying.{HasApplied, IsFirstStarved, IsRequestNext, IsSummary, LeavesRun, more_granted, more_refused}
 pub use Rattle.image_runs.specs.Behind.{AreSameBehind, LeavesSameBehind, LeavesSectorsBehind, sectors_behind}
 pub use Rattle.image_runs.specs.Fresh.{FreshEnds, FreshRan, IsPromptFresh, format_writes, fresh_start, single_world}
 pub use Rattle.image_runs.specs.Load.{HasLoaded, IsLeftOfLoad, IsLoadDone, IsLoadedBy, granted_count, is_refused, load_line, loaded, loaded_replies, refused_count, requests_of}
-pub use Rattle.image_runs.specs.Opened.{IsJudged, IsNotImage, IsUnopened, status_of}
+pub use Rattle.image_runs.specs.Opened.{IsJudged, IsUnopened, status_of}
 pub use Rattle.image_runs.specs.Sending.{IsStopped, ProperFrontWasSent}
 pub use Rattle.image_runs.specs.Served.{ImageRan, IsAtEase, IsOwed, IsPromptRun, RunEnds, disk_service, start_of}
 pub use Rattle.image_runs.specs.Server.{disk_rules, disk_work, limit_with, placed_on, writes_before}
@@ -28,7 +28,7 @@ pub use Rattle.intent_journal.specs.Home.{home}
 pub use Rattle.load_gen.specs.Load.{Generator, load_after, next_request}
 pub use Rattle.load_gen.specs.Requests.{request_of_kind, request_of_words, seed_request, shown_at, stream_word, window, words_place}
 pub use Rattle.recovery.specs.Formatting.{IsFormatting}
-pub use Rattle.recovery.specs.Opening.{IsForeign, IsImageFault, IsOpening, IsSpared, IsUntouched, StandAlike}
+pub use Rattle.recovery.specs.Opening.{IsForeign, IsOpening, IsUntouched, SparesDamaged, StandAlike}
 pub use Rattle.recovery.specs.declared.fault.OpenFault.{OpenFault}
 pub use Rattle.serving.proofs.Aside.{aside_then}
 pub use Rattle.serving.specs.Costs.{IsPaidFor, costs, first_cost}

@@ -1,6 +1,6 @@
 -- What a request did that is counted, by whether its reply was one.
-use Rattle.std.proofs.Common.{◌≡◌, ◌≢◌, ◌+◌, ℕ, Result, Ok, Err, OnOk, IfErr, subst}
-use Rattle.image_runs.proofs.Common.{IsAnswer, State, Reply, PlaceKind, Request, Status, IsRequestNext, more_granted, more_refused}
+use Rattle.std.proofs.Common.{◌≡◌, ◌≢◌, ◌+◌, ◌||◌, true, ℕ, Result, Ok, Err, OnOk, IfErr, ap, subst}
+use Rattle.image_runs.proofs.Common.{IsAnswer, asks_nothing, is_refusal, or_left, State, Reply, PlaceKind, Request, Status, IsRequestNext, more_granted, more_refused}
 use Rattle.tsd_model.specs.declared.replies.Reply.TheVariants as replied
 use Rattle.tsd_words.specs.declared.status.Status.TheVariants as status
 
@@ -20,3 +20,11 @@ pub not_counted : (kind : PlaceKind) (s : State) (q : Request) (t : State) (repl
     → IfErr r (λ why. (why ≡ status.NoMemory) × (reply ≡ replied.NoMemory)) → IfErr r (λ why. why ≡ status.NoMemory → IsAnswer kind s q replied.NoMemory t)
 not_counted kind s q t reply (Ok x) given none = tt
 not_counted kind s q t reply (Err e) given none = λ is. subst (λ (a : Reply). IsAnswer kind s q a t) none.1 given
+
+-- and then nothing was done
+pub nothing_done : (reply : Reply) (q : Request) (r : Result (Unit {0}) Status) (X Y : Type 0) → IfErr r (λ why. (why ≡ status.NoMemory) × (reply ≡ replied.NoMemory))
+    → (is_refusal reply ≡ true → X) → ((is_refusal reply || asks_nothing q) ≡ true → Y) → IfErr r (λ why. why ≡ status.NoMemory → X × Y)
+nothing_done reply q (Ok x) X Y none same asks = tt
+nothing_done reply q (Err e) X Y none same asks = λ is.
+    let refused : is_refusal reply ≡ true = ap is_refusal none.1 in
+    (same refused, asks (or_left (is_refusal reply) (asks_nothing q) refused))

@@ -7,6 +7,7 @@ pub mod Opened
 pub mod Started
 mod FreshRuns
 mod Saying
+pub mod Looking
 mod Formatted
 mod Upgraded
 mod Requests

@@ -1,6 +1,6 @@
 -- What a crash leaves of a load, request by request.
 use Rattle.std.proofs.Common.{◌≡◌, inl, inr, ℕ, ◌+◌, ◌≤◌, true, List, refl, sym, ◌∙◌, ap, subst, arith}
-use Rattle.image_runs.proofs.Common.{eqb-true, World, State, is_begin, PlaceKind, Request, View, IsSound, IsFirm, started, joined, weakened, firm_image, Image, IsGood, Stands, world_of, seed_request, IsAnswer, next_world, LeavesEither, LeavesWorld, world_on, loaded, LeavesRun}
+use Rattle.image_runs.proofs.Common.{eqb-true, World, State, is_begin, PlaceKind, Request, View, IsSound, IsFirm, started, joined, weakened, firm_image, Image, IsGood, Stands, world_of, seed_request, IsAnswer, next_world, LeavesEither, LeavesWorld, world_on, loaded, LeavesRun, Core, IsFirstStarved, at_rest, state_on}
 use Rattle.tsd_model.specs.declared.replies.Reply.TheVariants as replied
 use Rattle.image_runs.proofs.Requests.{loaded_more, starved_begins, begin_world, seed_begins}
 
@@ -54,3 +54,19 @@ run_starved kind seed n old mid new s t q here at asked sent run more given =
     weakened mid new _ (λ x f. Stands x (world_on mid) × (f ≡ mid.sent)) more
     (λ x f left. (elim left.0 [ inl was ↦ was | inr now ↦ subst (λ (v : World). Stands x v) same now ], left.1)) in
     subst (λ (k : ℕ). LeavesRun kind seed k old new) first (run_kept kind seed n old mid new s here at sent run kept)
+
+-- a request that had no memory is the first one, and nothing was done before it
+pub first_starved : {D : Type 0} (kind : PlaceKind) (seed : List ℕ) (view : D → View) (n : ℕ) (c0 c1 c2 : Core) (d0 d1 d2 : D) (q : Request) → state_on c1 (view d1).reads ≡ loaded kind seed (world_of (view d0).reads) n
+    → q ≡ seed_request seed (world_of (view d0).reads).geometry n → (n ≡ 0 → (c1 ≡ c0) × (d1 ≡ d0)) → IsAnswer kind (state_on c1 (view d1).reads) q replied.NoMemory (state_on c2 (view d2).reads)
+    → (c2 ≡ c1) × (d2 ≡ d1) → IsFirstStarved kind seed view c0 c2 d0 d2
+first_starved kind seed view n c0 c1 c2 d0 d1 d2 q at asked before given same =
+    let w = world_of (view d0).reads in
+    let begins : is_begin q ≡ true = starved_begins kind (state_on c1 (view d1).reads) q given.want (sym given.reply) in
+    let none : n ≡ 0 = eqb-true n 0 (seed_begins seed w.geometry n (subst (λ (p : Request). is_begin p ≡ true) asked begins)) in
+    let first = before none in
+    record {
+      given = subst (λ (p : Request). IsAnswer kind (at_rest w) p replied.NoMemory (state_on c2 (view d2).reads)) (asked ∙ ap (λ (k : ℕ). seed_request seed w.geometry k) none)
+          (subst (λ (s : State). IsAnswer kind s q replied.NoMemory (state_on c2 (view d2).reads)) (at ∙ ap (λ (k : ℕ). loaded kind seed w k) none) given);
+      core = same.0 ∙ first.0;
+      device = same.1 ∙ first.1;
+    }

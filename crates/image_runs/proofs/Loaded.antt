@@ -1,7 +1,8 @@
 -- A load over an image, from its opening to its line.
 use Rattle.std.proofs.Common.{◌≡◌, ◌⊎◌, inl, inr, ℕ, ◌≤◌, List, length, refl, sym, ◌∙◌, ap, subst, arith}
 use Rattle.std.specs.Prelude.{Result, Ok, Err, OnOk, IfErr}
-use Rattle.image_runs.proofs.Common.{World, free_count, State, PlaceKind, free_count_like, View, IsPart, IsLeftInPut, IsFirm, LeavesOnly, joined, weakened, Image, IsGood, Stands, world_of, StandAlike, Status, Core, IsCoreAt, state_on, told_world, IsQuiet, at_volume, like_at, line_of, load_words, IsJudged, IsUnopened, IsStopped, HasLoaded, IsLeftOfLoad, IsLoadDone, IsLoadedBy, granted_count, load_line, loaded, loaded_replies, refused_count, HasApplied, IsSummary, LeavesRun}
+use Rattle.image_runs.proofs.Common.{World, free_count, State, PlaceKind, free_count_like, View, IsPart, IsLeftInPut, IsFirm, LeavesOnly, joined, weakened, Image, IsGood, Stands, world_of, StandAlike, Status, Core, IsCoreAt, state_on, told_world, IsQuiet, at_volume, like_at, line_of, load_words, IsJudged, IsUnopened, IsStopped, HasLoaded, IsLeftOfLoad, IsLoadDone, IsLoadedBy, granted_count, load_line, loaded, loaded_replies, refused_count, HasApplied, IsFirstStarved, IsSummary, LeavesRun}
+use Rattle.image_runs.specs.Looking.{OnlyLooks}
 use Rattle.tsd_words.specs.declared.status.Status.TheVariants as status
 use Rattle.tsd_words.specs.declared.lines.Summary.{Summary}
 use Rattle.image_runs.proofs.Saying.{put_over, still_firm}
@@ -75,6 +76,12 @@ pub starved_alike : {T : Type 0} → (kind : PlaceKind) (seed : List ℕ) (old m
     → IfErr result (λ why. why ≡ status.NoMemory → IsFirm old → LeavesOnly old new (λ x f. StandAlike old.reads x × (f ≡ old.sent)))
 starved_alike kind seed old mid new (Ok x) good same sent opening run = tt
 starved_alike kind seed old mid new (Err why) good same sent opening run = λ e firm. still_alike kind seed old mid new good same sent (opening firm) (run e)
+
+-- where request 0 had no memory, nothing was written since the opening
+pub looked_by_first : {T D : Type 0} (result : Result T Status) (view : D → View) (old : View) (mid new : D) (kind : PlaceKind) (seed : List ℕ) (c d : Core) → OnlyLooks old (view mid)
+    → IfErr result (λ why. why ≡ status.NoMemory → IsFirstStarved kind seed view c d mid new) → IfErr result (λ why. why ≡ status.NoMemory → OnlyLooks old (view new))
+looked_by_first (Ok x) view old mid new kind seed c d looks first = tt
+looked_by_first {D = D} (Err why) view old mid new kind seed c d looks first = λ e. subst (λ (p : D). OnlyLooks old (view p)) (sym (first e).device) looks
 
 -- ---- statuses
 

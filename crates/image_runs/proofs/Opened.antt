@@ -1,7 +1,7 @@
 -- Why an image wasn't opened, as a status, and the state of a disk that was.
 use Rattle.std.proofs.Common.{◌≡◌, ◌∙◌, ap, sym, subst, refl, arith}
-use Rattle.std.specs.Prelude.{ℕ, List, Result, Ok, Err, IfErr}
-use Rattle.image_runs.proofs.Common.{World, Sessions, no_sessions, fitted, State, at_rest, sweep_flag, Image, says_open, View, IsSound, PutsAll, home, IsGood, world_of, header_on, tables_of, IsForeign, IsImageFault, IsOpening, IsSpared, IsUntouched, OpenFault, Status, Core, state_on, told_world, IsJudged, IsNotImage, IsUnopened, status_of, IsStopped}
+use Rattle.std.specs.Prelude.{ℕ, List, Result, Err}
+use Rattle.image_runs.proofs.Common.{World, Sessions, no_sessions, fitted, State, at_rest, sweep_flag, Image, says_open, View, IsSound, PutsAll, home, IsGood, world_of, header_on, tables_of, IsForeign, IsOpening, IsUntouched, SparesDamaged, OpenFault, Core, state_on, told_world, IsJudged, IsUnopened, status_of}
 use Rattle.intent_journal.specs.Crash.{IsTheSame}
 use Rattle.recovery.specs.declared.fault.OpenFault.TheVariants as opening
 use Rattle.tsd_words.specs.declared.status.Status.TheVariants as status
@@ -52,34 +52,14 @@ untouched_put told text old mid new result tells puts before = record { writes =
 
 -- ---- an image that stands for no world
 
-pub image_fault_of : (why : OpenFault) → IsNotImage (status_of why) → IsImageFault why
-image_fault_of (opening.Image reason) h = tt
-image_fault_of opening.Device h = h
-image_fault_of opening.NoMemory h = h
-
--- what stops a run that has begun isn't its image
-pub not_stopped : (why : Status) → IsStopped why → IsNotImage why → ⊥
-not_stopped (status.NotImage reason) stops h = stops
-not_stopped status.Done stops h = h
-not_stopped status.Usage stops h = h
-not_stopped status.DeviceFault stops h = h
-not_stopped status.SourceFault stops h = h
-not_stopped status.PutFault stops h = h
-not_stopped status.TooLong stops h = h
-not_stopped status.NoMemory stops h = h
-not_stopped status.Truncated stops h = h
-not_stopped (status.RootDenied level) stops h = h
-
-pub spared_on : {T : Type 0} (P : Type 0) (result : Result T Status) → IfErr result IsStopped → IfErr result (λ why. IsNotImage why → P)
-spared_on P (Ok x) stops = tt
-spared_on P (Err why) stops = λ h. absurd (not_stopped why stops h)
-
 -- a text that is put spares what was spared
-pub spared_put : {T E : Type 0} (told : Type 0) (text : List ℕ) (old mid new : View) (result : Result T E) → told → IsSound mid → PutsAll told text mid new result → IsSpared old mid → IsSpared old new
-spared_put told text old mid new result tells sound puts before = record {
-  reads = subst (IsTheSame old.reads) (sym (puts.reads tells)) before.reads;
-  writes = omega (arith, before.writes, puts.puts.writes);
-  left = λ firm.
-      put_behind old mid new text (λ x f. IsTheSame old.reads x) (λ x f. IsTheSame old.reads x) sound (before.left firm) (puts.any_moment tells) (λ x f left. left)
-      (λ x f left part. left);
-}
+pub spared_put : {T E : Type 0} (told : Type 0) (text : List ℕ) (old mid new : View) (result : Result T E) → told → IsSound mid → PutsAll told text mid new result → SparesDamaged old mid → SparesDamaged old new
+spared_put told text old mid new result tells sound puts before bad =
+    let was = before bad in
+    record {
+      reads = subst (IsTheSame old.reads) (sym (puts.reads tells)) was.reads;
+      writes = omega (arith, was.writes, puts.puts.writes);
+      left = λ firm.
+          put_behind old mid new text (λ x f. IsTheSame old.reads x) (λ x f. IsTheSame old.reads x) sound (was.left firm) (puts.any_moment tells) (λ x f left. left)
+          (λ x f left part. left);
+    }

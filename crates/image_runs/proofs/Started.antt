@@ -1,7 +1,7 @@
 -- A disk that was opened, and a run from there as one from the start.
 use Rattle.std.proofs.Common.{◌≡◌, inl, inr, ℕ, ◌≤◌, Bool, true, false, List, [], refl, sym, ◌∙◌, ap, subst, append-nil, arith}
 use Rattle.std.specs.Prelude.{All}
-use Rattle.image_runs.proofs.Common.{World, State, at_rest, PlaceKind, Request, View, IsFirm, LeavesOnly, joined, weakened, leaves_both, Image, home, Stands, world_of, tables_of, StandAlike, IsQuiet, IsGood, Status, IsPaidFor, HasDebt, Spelling, Placed, Mark, Promptly, ByStatus, AskedBy, IsAcknowledged, IsCounted, Voice, Core, state_on, debt, disk_work, placed_on, IsUnopened, IsJudged, IsNotImage, disk_service, start_of, IsAtEase, IsOwed, RunEnds}
+use Rattle.image_runs.proofs.Common.{World, State, at_rest, PlaceKind, Request, View, IsFirm, LeavesOnly, joined, weakened, leaves_both, Image, home, Stands, world_of, tables_of, StandAlike, IsQuiet, IsGood, Status, IsPaidFor, HasDebt, Spelling, Placed, Mark, Promptly, ByStatus, AskedBy, IsAcknowledged, IsCounted, Voice, Core, state_on, debt, disk_work, placed_on, IsUnopened, IsJudged, disk_service, start_of, IsAtEase, IsOwed, RunEnds}
 use Rattle.tsd_words.specs.declared.status.Status.TheVariants as status
 use Rattle.serving.specs.Ran.{Ends as Served}
 use Rattle.serving.specs.Seen.{IsLeftInRun}
@@ -157,19 +157,6 @@ judged_by image (status.NotImage reason) p limit bytes ended qs h good = absurd 
 judged_by image status.NoMemory p limit bytes ended qs h good = absurd h
 judged_by image status.Usage p limit bytes ended qs h good = absurd h
 judged_by image (status.RootDenied level) p limit bytes ended qs h good = absurd h
-
--- a run that was asked had an image
-pub asked_image : (r : Status) (p : Spelling Request) (limit : ℕ) (bytes : List ℕ) (ended : Type 0) (qs : List Request) → AskedBy r p limit bytes ended qs → IsNotImage r → ⊥
-asked_image (status.NotImage reason) p limit bytes ended qs asked h = asked
-asked_image status.Done p limit bytes ended qs asked h = h
-asked_image status.SourceFault p limit bytes ended qs asked h = h
-asked_image status.PutFault p limit bytes ended qs asked h = h
-asked_image status.TooLong p limit bytes ended qs asked h = h
-asked_image status.Truncated p limit bytes ended qs asked h = h
-asked_image status.DeviceFault p limit bytes ended qs asked h = h
-asked_image status.NoMemory p limit bytes ended qs asked h = h
-asked_image status.Usage p limit bytes ended qs asked h = h
-asked_image (status.RootDenied level) p limit bytes ended qs asked h = h
 
 -- of a status with which nothing was opened
 pub not_of_source : (r : Status) → IsUnopened r → r ≡ status.SourceFault → ⊥

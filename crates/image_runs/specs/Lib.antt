@@ -2,6 +2,7 @@ pub mod Server
 pub mod StandsLaws
 pub mod Laws
 pub mod Opened
+pub mod Looking
 pub mod Served
 pub mod Fresh
 pub mod Sending

@@ -26,11 +26,6 @@ abbrev pub IsOpened : {T : Type 0} → Image → Result T Status → Type 0
 IsOpened image (Ok x) = IsGood image
 IsOpened image (Err why) = IsJudged image why
 
--- the image stands for no world
-abbrev pub IsNotImage : Status → Type 0
-IsNotImage (status.NotImage why) = ⊤
-IsNotImage r = ⊥
-
 -- an image may not have been opened
 abbrev pub IsUnopened : Status → Type 0
 IsUnopened (status.NotImage why) = ⊤

@@ -19,14 +19,19 @@ use Rattle.tsd_core.specs.Work.{made_in, cost_in}
 abbrev pub disk_rules : DiskRules
 disk_rules = model_rules Stands
 
--- how often is written at most before the reply to a request that is granted, where so much is left to be done: new
--- blocks and a new pointer may have to wait for that
+-- How often is written at most before the reply to a request that is granted, where so much is left to be done. What
+-- reads, counts, or opens or closes a session writes nothing. A write, new capabilities and a deletion write one batch,
+-- and first up to 121 sectors where the journal has no room for it: a body for each home, which are up to 8, 1 and 2, a
+-- descriptor and a gate. New blocks and a new pointer may have to wait for what is left to be done. A sweep has no
+-- bound here.
 abbrev pub limit_with : ℕ → Request → ℕ
-limit_with owed (ask.Delete s a shown b) = 130
+limit_with owed (ask.Write s b shown bytes) = 131
+limit_with owed (ask.SetCap s b shown caps) = 124
+limit_with owed (ask.Delete s a shown b) = 125
 limit_with owed (ask.Alloc s a shown h count) = 600 + 12 * owed
 limit_with owed (ask.Contig s a shown h count) = 600 + 12 * owed
 limit_with owed (ask.Create s a shown b) = 600 + 12 * owed
-limit_with owed q = 600
+limit_with owed q = 0
 
 -- nothing is written where it is refused
 abbrev pub writes_before : State → ℕ → Request → ℕ

@@ -4,10 +4,10 @@ ghost use Rattle.std.specs.Prelude.{◌≡◌, ◌≢◌, IfOk, IfErr, OnOk};
 ghost use Rattle.image_device.specs.Counts.{CountsFaultOf, Rose};
 ghost use Rattle.image_device.specs.Runs.{IsFirm, LeavesOnly};
 ghost use Rattle.image_world.specs.Behind.{LeavesBehind};
-ghost use Rattle.recovery.specs.Opening.{IsForeign, IsSpared, IsUntouched, StandAlike};
+ghost use Rattle.recovery.specs.Opening.{IsForeign, IsUntouched, LeavesData, SparesDamaged, StandAlike};
 ghost use Rattle.volume_laws.specs.Volume.{IsVolumeReady, told_by};
 ghost use Rattle.volume_laws.specs.Writes.{Works};
-ghost use Rattle.image_runs.specs.Opened.{IsNotImage};
+ghost use Rattle.image_runs.specs.Looking.{OnlyLooks};
 ghost use Rattle.image_runs.specs.Sending.{IsEnding, IsStopped};
 ghost use Rattle.image_runs.specs.Check.{HasChecked, IsFinding, IsCheckFound, IsSaying, told_of};
 
@@ -40,14 +40,18 @@ pub fn check_image<P: Port>(alloc: Global, port: &mut P, telling: Telling) -> St
     /// the first test that it fails; Done comes with the one, NotImage with the other. Or the lines of `info`.
     ensures said { P.told → HasChecked telling result (P.view port.old).reads (P.view port.old).sent (P.view port.new).sent }
     /// promise (with spared): Where the image fails one of the first three tests, nothing is written, and it reads as
-    /// before; where it fails another, nothing is lost that a repair could use.
+    /// before; where it fails another, nothing is lost that a repair could use, whatever is answered.
     ensures untouched { P.told → IsForeign (P.view port.old).reads
         → IsUntouched (P.view port.old) (P.view port.new) }
-    ensures spared { P.told → IsNotImage result → IsSpared (P.view port.old) (P.view port.new) }
+    ensures spared { P.told → SparesDamaged (P.view port.old) (P.view port.new) }
     /// promise: Each image left stands for the same world, or for none where the image stood for none; nothing was sent
     /// by then, or a front of those lines.
     ensures any_moment { P.told → IsFirm (P.view port.old) → LeavesOnly (P.view port.old) (P.view port.new)
         (λ x f. StandAlike (P.view port.old).reads x × IsSaying telling (P.view port.old).reads (P.view port.old).sent f) }
+    /// promise (with kept): Where nothing is left to be done on the image nothing is written, and else no more than
+    /// an opening writes, however it ends; the data of all blocks is as it was in each image left, of free ones too.
+    ensures only { P.told → OnlyLooks (P.view port.old) (P.view port.new) }
+    ensures kept { P.told → IsFirm (P.view port.old) → LeavesData (P.view port.old) (P.view port.new) }
     /// promise: What lies after the image is as it was in each image left.
     ensures behind { P.told → IsFirm (P.view port.old) → LeavesBehind (P.view port.old) (P.view port.new) }
     /// promise (with put_fault, no_device_fault, no_put_fault): A count of faults rose exactly where the status is that
@@ -79,11 +83,15 @@ fn judge<D: Device>(
     ensures found { D.told → IfOk result (λ s. IsCheckFound telling (D.view dev.old).reads s line.new) }
     ensures sent { D.told → (D.view dev.new).sent ≡ (D.view dev.old).sent }
     // Where the image fails one of the tests that need no write, nothing is written, and the disk reads as before;
-    // where it fails another, nothing is lost that a repair could use.
+    // where it fails another, nothing is lost that a repair could use, whatever is answered.
     ensures untouched { D.told → IsForeign (D.view dev.old).reads → IsUntouched (D.view dev.old) (D.view dev.new) }
-    ensures spared { D.told → IfOk result (λ found. IsNotImage found → IsSpared (D.view dev.old) (D.view dev.new)) }
+    ensures spared { D.told → SparesDamaged (D.view dev.old) (D.view dev.new) }
     ensures any_moment { D.told → IsFirm (D.view dev.old) → LeavesOnly (D.view dev.old) (D.view dev.new)
         (λ x f. StandAlike (D.view dev.old).reads x × (f ≡ (D.view dev.old).sent)) }
+    // Where nothing is left to be done on the image nothing is written, and else no more than an opening writes; the
+    // data of all blocks stays.
+    ensures only { D.told → OnlyLooks (D.view dev.old) (D.view dev.new) }
+    ensures kept { D.told → IsFirm (D.view dev.old) → LeavesData (D.view dev.old) (D.view dev.new) }
     // A crash at any moment leaves what lies behind the image as it was.
     ensures behind { D.told → IsFirm (D.view dev.old) → LeavesBehind (D.view dev.old) (D.view dev.new) }
     ensures works { Works (D.view dev.old) (D.view dev.new) }

@@ -4,10 +4,10 @@ ghost use Rattle.std.specs.Prelude.{◌≡◌, ◌≢◌, ◌≤◌, []};
 ghost use Rattle.image_device.specs.Counts.{Rose};
 ghost use Rattle.image_device.specs.Runs.{IsFirm};
 ghost use Rattle.image_world.specs.Behind.{LeavesBehind};
-ghost use Rattle.recovery.specs.Opening.{IsForeign, IsSpared, IsUntouched};
+ghost use Rattle.recovery.specs.Opening.{IsForeign, IsUntouched, SparesDamaged};
 ghost use Rattle.serving.specs.Prompt.{IsOfPort};
 ghost use Rattle.serving.specs.Ran.{EndsOnce, moments, taking};
-ghost use Rattle.image_runs.specs.Opened.{IsJudged, IsNotImage};
+ghost use Rattle.image_runs.specs.Opened.{IsJudged};
 ghost use Rattle.image_runs.specs.Served.{ImageRan, IsPromptRun};
 
 use crate::opening::open_core;
@@ -48,10 +48,10 @@ pub fn serve_image<S: Source, P: Port, R: Protocol<Request = Request> + Replies>
     ensures prompt { P.told → IsPromptRun result R.voice placement.now.kind (IsOfPort P.view) (P.view port.old)
         (P.view port.new) }
     /// promise (with spared): Where the image fails one of the first three tests, nothing is written, and it reads as
-    /// before; where it fails another, nothing is lost that a repair could use.
+    /// before; where it fails another, nothing is lost that a repair could use, whatever is answered.
     ensures untouched { P.told → IsForeign (P.view port.old).reads
         → IsUntouched (P.view port.old) (P.view port.new) }
-    ensures spared { P.told → IsNotImage result → IsSpared (P.view port.old) (P.view port.new) }
+    ensures spared { P.told → SparesDamaged (P.view port.old) (P.view port.new) }
     /// promise: What lies after the image is as it was in each image that a crash leaves, however the run ended.
     ensures behind { P.told → IsFirm (P.view port.old) → LeavesBehind (P.view port.old) (P.view port.new) }
     ensures once { EndsOnce (S.ends source.old) (S.ends source.new) }

@@ -8,18 +8,19 @@ ghost use Rattle.image_world.specs.Behind.{LeavesBehind, behind};
 ghost use Rattle.image_world.specs.Stands.{world_of};
 ghost use Rattle.tsd_model.specs.Run.{at_rest};
 ghost use Rattle.load_gen.specs.Load.{load_after};
-ghost use Rattle.recovery.specs.Opening.{IsForeign, IsSpared, IsUntouched, StandAlike};
+ghost use Rattle.recovery.specs.Opening.{IsForeign, IsUntouched, SparesDamaged, StandAlike};
 ghost use Rattle.tsd_model.specs.Run.{IsAnswer};
 ghost use Rattle.volume_laws.specs.Moments.{LeavesEither};
 ghost use Rattle.volume_laws.specs.Writes.{Works};
 ghost use Rattle.tsd_core.specs.Applying.{next_world};
 ghost use Rattle.tsd_core.specs.Core.{IsCoreAt, IsCoreReady, state_on, told_world};
 ghost use Rattle.tsd_model.specs.declared.replies.Reply.TheVariants as replied;
+ghost use Rattle.image_runs.specs.Looking.{OnlyLooks};
 ghost use Rattle.image_runs.specs.Sending.{IsEnding, IsStopped};
 ghost use Rattle.image_runs.specs.Load.{HasLoaded, IsLeftOfLoad, IsLoadDone, IsLoadedBy};
-ghost use Rattle.image_runs.specs.Applying.{HasApplied, IsRequestNext, IsSummary, LeavesRun, more_granted};
-ghost use Rattle.image_runs.specs.Applying.{more_refused};
-ghost use Rattle.image_runs.specs.Opened.{IsJudged, IsNotImage, IsUnopened};
+ghost use Rattle.image_runs.specs.Applying.{HasApplied, IsFirstStarved, IsRequestNext, IsSummary, LeavesRun};
+ghost use Rattle.image_runs.specs.Applying.{more_granted, more_refused};
+ghost use Rattle.image_runs.specs.Opened.{IsJudged, IsUnopened};
 
 use crate::opening::open_volume;
 use image_device::{Device, Failed, Port, WorkDone, put_all};
@@ -76,18 +77,20 @@ pub fn load_image<P: Port>(
     ensures loaded { P.told → HasLoaded result placement.now.kind load.now.seed load.now.count (P.view port.old)
         (P.view port.new) }
     // Where the image fails one of the tests that need no write, nothing is written, and the disk reads as before;
-    // where it fails another, nothing is lost that a repair could use.
+    // where it fails another, nothing is lost that a repair could use, whatever is answered.
     ensures untouched { P.told → IsForeign (P.view port.old).reads
         → IsUntouched (P.view port.old) (P.view port.new) }
-    ensures spared { P.told → IsNotImage result → IsSpared (P.view port.old) (P.view port.new) }
+    ensures spared { P.told → SparesDamaged (P.view port.old) (P.view port.new) }
     /// promise: Each image left stands for the world after some of these requests; wherever a byte was sent, after all
     /// of them.
     ensures any_moment { P.told → IsFirm (P.view port.old) → LeavesOnly (P.view port.old) (P.view port.new)
         (IsLeftOfLoad placement.now.kind load.now.seed load.now.count (P.view port.old)) }
-    /// promise: Without memory no request is carried out.
+    // Memory is wanting at the opening, or at request 0, which opens the session.
+    /// promise (with looked): Without memory no request is carried out, and no more was written than an opening writes.
     ensures no_memory { P.told → result ≡ Status.NoMemory → IsFirm (P.view port.old)
         → LeavesOnly (P.view port.old) (P.view port.new) (λ x f. StandAlike (P.view port.old).reads x
         × (f ≡ (P.view port.old).sent)) }
+    ensures looked { P.told → result ≡ Status.NoMemory → OnlyLooks (P.view port.old) (P.view port.new) }
     // A crash at any moment leaves what lies behind the image as it was.
     ensures behind { P.told → IsFirm (P.view port.old) → LeavesBehind (P.view port.old) (P.view port.new) }
     // A count of faults rose only where the status is that fault's.
@@ -122,15 +125,17 @@ fn carry_out<D: Device>(
     ensures stops { IfErr result IsUnopened }
     ensures sent { D.told → (D.view dev.new).sent ≡ (D.view dev.old).sent }
     // Where the image fails one of the tests that need no write, nothing is written, and the disk reads as before;
-    // where it fails another, nothing is lost that a repair could use.
+    // where it fails another, nothing is lost that a repair could use, whatever is answered.
     ensures untouched { D.told → IsForeign (D.view dev.old).reads → IsUntouched (D.view dev.old) (D.view dev.new) }
-    ensures spared { D.told → IfErr result (λ why. IsNotImage why → IsSpared (D.view dev.old) (D.view dev.new)) }
+    ensures spared { D.told → SparesDamaged (D.view dev.old) (D.view dev.new) }
     ensures any_moment { D.told → IsFirm (D.view dev.old) → LeavesOnly (D.view dev.old) (D.view dev.new)
         (λ x f. (StandAlike (D.view dev.old).reads x ⊎ ((n : ℕ) × (n ≤ load.now.count)
         × IsLoadedBy placement.now.kind load.now.seed (D.view dev.old).reads n x)) × (f ≡ (D.view dev.old).sent)) }
     ensures no_memory { D.told → IfErr result (λ why. why ≡ Status.NoMemory → IsFirm (D.view dev.old)
         → LeavesOnly (D.view dev.old) (D.view dev.new) (λ x f. StandAlike (D.view dev.old).reads x
         × (f ≡ (D.view dev.old).sent))) }
+    ensures looked { D.told → IfErr result (λ why. why ≡ Status.NoMemory
+        → OnlyLooks (D.view dev.old) (D.view dev.new)) }
     // A crash at any moment leaves what lies behind the image as it was.
     ensures behind { D.told → IsFirm (D.view dev.old) → LeavesBehind (D.view dev.old) (D.view dev.new) }
     ensures works { Works (D.view dev.old) (D.view dev.new) }
@@ -170,6 +175,10 @@ fn run<D: Device>(
         (D.view dev.new) }
     ensures no_memory { D.told → IfErr result (λ why. why ≡ Status.NoMemory
         → LeavesRun placement.now.kind load.now.seed 0 (D.view dev.old) (D.view dev.new)) }
+    // Where memory was wanting, request 0 was answered so, and nothing was done: the core and the device are as they
+    // were.
+    ensures first { D.told → IfErr result (λ why. why ≡ Status.NoMemory → IsFirstStarved placement.now.kind
+        load.now.seed D.view core.old core.new dev.old dev.new) }
     ensures behind { D.told → LeavesPart (behind core.old.volume.tables.geometry) (D.view dev.old) (D.view dev.new) }
     ensures works { Works (D.view dev.old) (D.view dev.new) }
     ensures faults { CountsFaultOf Status.DeviceFault result (D.view dev.old).faults (D.view dev.new).faults }
@@ -212,6 +221,10 @@ fn apply_all<D: Device>(
         (D.view dev.new) }
     ensures no_memory { D.told → IfErr result (λ why. why ≡ Status.NoMemory
         → LeavesRun placement.now.kind load.now.seed 0 (D.view dev.old) (D.view dev.new)) }
+    // Where memory was wanting, request 0 was answered so, and nothing was done: the core and the device are as they
+    // were.
+    ensures first { D.told → IfErr result (λ why. why ≡ Status.NoMemory → IsFirstStarved placement.now.kind
+        load.now.seed D.view core.old core.new dev.old dev.new) }
     ensures behind { D.told → LeavesPart (behind core.old.volume.tables.geometry) (D.view dev.old) (D.view dev.new) }
     ensures works { Works (D.view dev.old) (D.view dev.new) }
     ensures faults { CountsFaultOf Status.DeviceFault result (D.view dev.old).faults (D.view dev.new).faults }
@@ -253,6 +266,7 @@ fn apply_next<D: Device>(
     ensures starved { D.told → IfErr result (λ why. why ≡ Status.NoMemory
         → IsAnswer placement.now.kind (state_on core.old (D.view dev.old).reads) request.now replied.NoMemory
         (state_on core.new (D.view dev.new).reads)) }
+    ensures nothing { IfErr result (λ why. why ≡ Status.NoMemory → (core.new ≡ core.old) × (dev.new ≡ dev.old)) }
     ensures sent { D.told → (D.view dev.new).sent ≡ (D.view dev.old).sent }
     ensures any_moment { D.told → LeavesEither (D.view dev.old) (D.view dev.new) (next_world placement.now.kind
         (state_on core.old (D.view dev.old).reads) request.now) }

@@ -9,14 +9,14 @@ ghost use Rattle.image_world.specs.Tables.{tables_of};
 ghost use Rattle.intent_journal.specs.Home.{home};
 ghost use Rattle.tsd_model.specs.Run.{at_rest};
 ghost use Rattle.tsd_model.specs.Sessions.{no_sessions};
-ghost use Rattle.recovery.specs.Opening.{IsForeign, IsSpared, IsUntouched, StandAlike, opening_writes};
+ghost use Rattle.recovery.specs.Opening.{IsForeign, IsUntouched, LeavesData, SparesDamaged, StandAlike, opening_writes};
 ghost use Rattle.tsd_core.specs.Core.{IsCoreAt, IsCoreReady, state_on};
 ghost use Rattle.volume_laws.specs.Volume.{IsVolumeAt, IsVolumeReady, world_on};
 ghost use Rattle.image_world.specs.Behind.{LeavesBehind};
 ghost use Rattle.image_world.specs.Debt.{debt};
 ghost use Rattle.volume_laws.specs.Quiet.{IsQuiet};
 ghost use Rattle.volume_laws.specs.Writes.{due, Works};
-ghost use Rattle.image_runs.specs.Opened.{IsNotImage, IsOpened, IsUnopened, status_of};
+ghost use Rattle.image_runs.specs.Opened.{IsOpened, IsUnopened, status_of};
 
 use image_device::Device;
 use recovery::{OpenFault, open_image};
@@ -43,9 +43,9 @@ pub fn open_volume<D: Device>(alloc: Global, dev: &mut D) -> Result<Volume, Stat
         ≡ false → LeavesOnly (D.view dev.old) (D.view dev.new) (λ x f. debt x ≤ debt (D.view dev.old).reads) }
     ensures settled { D.told → OnOk result (debt (D.view dev.new).reads ≡ 0) }
     // Where the image fails one of the tests that need no write, nothing is written, and the disk reads as before;
-    // where it fails another, nothing is lost that a repair could use.
+    // where it fails another, nothing is lost that a repair could use, whatever is answered.
     ensures untouched { D.told → IsForeign (D.view dev.old).reads → IsUntouched (D.view dev.old) (D.view dev.new) }
-    ensures spared { D.told → IfErr result (λ why. IsNotImage why → IsSpared (D.view dev.old) (D.view dev.new)) }
+    ensures spared { D.told → SparesDamaged (D.view dev.old) (D.view dev.new) }
     /// promise (with unwritten, paid): What is written goes by what is replayed, and by what is left to be swept and
     /// reclaimed; where nothing was left to be done, nothing is written, and nothing is owed.
     ensures uses { D.told → Uses (opening_writes (D.view dev.old).reads) (D.view dev.old) (D.view dev.new) }
@@ -53,7 +53,8 @@ pub fn open_volume<D: Device>(alloc: Global, dev: &mut D) -> Result<Volume, Stat
         ≤ (D.view dev.old).writes }
     ensures paid { D.told → IsQuiet (D.view dev.old).reads → IfOk result (λ v. (D.view dev.new).writes + due v
         ≤ (D.view dev.old).writes) }
-    // A crash at any moment leaves what lies behind the image as it was.
+    // The data of all blocks, of free ones too, and what lies behind the image stay, in each image that a crash leaves.
+    ensures data_kept { D.told → IsFirm (D.view dev.old) → LeavesData (D.view dev.old) (D.view dev.new) }
     ensures behind { D.told → IsFirm (D.view dev.old) → LeavesBehind (D.view dev.old) (D.view dev.new) }
     ensures works { Works (D.view dev.old) (D.view dev.new) }
     ensures faults { CountsFaultOf Status.DeviceFault result (D.view dev.old).faults (D.view dev.new).faults }
@@ -84,9 +85,9 @@ pub fn open_core<D: Device>(alloc: Global, dev: &mut D) -> Result<Core, Status>
         ≡ false → LeavesOnly (D.view dev.old) (D.view dev.new) (λ x f. debt x ≤ debt (D.view dev.old).reads) }
     ensures settled { D.told → OnOk result (debt (D.view dev.new).reads ≡ 0) }
     // Where the image fails one of the tests that need no write, nothing is written, and the disk reads as before;
-    // where it fails another, nothing is lost that a repair could use.
+    // where it fails another, nothing is lost that a repair could use, whatever is answered.
     ensures untouched { D.told → IsForeign (D.view dev.old).reads → IsUntouched (D.view dev.old) (D.view dev.new) }
-    ensures spared { D.told → IfErr result (λ why. IsNotImage why → IsSpared (D.view dev.old) (D.view dev.new)) }
+    ensures spared { D.told → SparesDamaged (D.view dev.old) (D.view dev.new) }
     // It writes by what is replayed, and by what is left to be swept and reclaimed. Where nothing was left to be done,
     // nothing is written, and nothing is owed.
     ensures uses { D.told → Uses (opening_writes (D.view dev.old).reads) (D.view dev.old) (D.view dev.new) }
@@ -94,7 +95,8 @@ pub fn open_core<D: Device>(alloc: Global, dev: &mut D) -> Result<Core, Status>
         ≤ (D.view dev.old).writes }
     ensures paid { D.told → IsQuiet (D.view dev.old).reads
         → IfOk result (λ c. (D.view dev.new).writes + due c.volume ≤ (D.view dev.old).writes) }
-    // A crash at any moment leaves what lies behind the image as it was.
+    // The data of all blocks, of free ones too, and what lies behind the image stay, in each image that a crash leaves.
+    ensures data_kept { D.told → IsFirm (D.view dev.old) → LeavesData (D.view dev.old) (D.view dev.new) }
     ensures behind { D.told → IsFirm (D.view dev.old) → LeavesBehind (D.view dev.old) (D.view dev.new) }
     ensures works { Works (D.view dev.old) (D.view dev.new) }
     ensures faults { CountsFaultOf Status.DeviceFault result (D.view dev.old).faults (D.view dev.new).faults }

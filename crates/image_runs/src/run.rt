@@ -41,9 +41,10 @@ pub fn serve_core<S: Source, P: Port, R: Protocol<Request = Request> + Replies>(
         (placed_on placement.now.kind core.new (P.view port.new).reads) limit
         (taking S.told S.taken S.left_bytes S.ended source.old source.new) (due core.old.volume)
         (moments P.told P.view port.old port.new) }
-    /// promise: No write comes before the reply of a request that is refused; at most 130 before that of a `Delete`,
-    /// 600 before that of another but a sweep, and 12 for each block and pair that waits at an allocation or a
-    /// `Create`; and at most 400 after a reply.
+    /// promise: No write comes before the reply of a request that is refused, nor before that of a `Begin`, `End`,
+    /// `Read`, `List` or `GetFree`; at most 131 before that of a `Write`, 124 before that of a `SetCap`, 125 before
+    /// that of a `Delete`, and 600 before that of an allocation or a `Create`, with 12 for each block and pair that
+    /// waits; and at most 400 after a reply.
     ensures prompt { P.told → Promptly result (spoken disk_rules R.voice) disk_work (IsOfPort P.view)
         (placed_on placement.now.kind core.old (P.view port.old).reads) (mark (P.view port.old))
         (mark (P.view port.new)) }

@@ -10,10 +10,10 @@ ghost use Rattle.tsd_model.specs.Records.{upgraded};
 ghost use Rattle.volume_laws.specs.Moments.{LeavesEither};
 ghost use Rattle.volume_laws.specs.Volume.{IsVolumeAt, IsVolumeReady, world_on};
 ghost use Rattle.volume_laws.specs.Writes.{Works};
-ghost use Rattle.recovery.specs.Opening.{IsForeign, IsSpared, IsUntouched, StandAlike};
+ghost use Rattle.recovery.specs.Opening.{IsForeign, IsUntouched, SparesDamaged, StandAlike};
 ghost use Rattle.image_runs.specs.Sending.{IsEnding};
 ghost use Rattle.image_runs.specs.Upgrade.{HasUpgraded, IsLeftOfUpgrade, IsUpgradeOf, IsUpgraded};
-ghost use Rattle.image_runs.specs.Opened.{IsJudged, IsNotImage, IsUnopened};
+ghost use Rattle.image_runs.specs.Opened.{IsJudged, IsUnopened};
 
 use crate::opening::open_volume;
 use image_device::{Device, Port, put_all};
@@ -32,10 +32,10 @@ pub fn upgrade_image<P: Port>(alloc: Global, port: &mut P) -> Status
     /// journal are closed, and what it held of these reads as zeros.
     ensures upgraded { P.told → HasUpgraded result (P.view port.old) (P.view port.new) }
     // Where the image fails one of the tests that need no write, nothing is written, and the disk reads as before;
-    // where it fails another, nothing is lost that a repair could use.
+    // where it fails another, nothing is lost that a repair could use, whatever is answered.
     ensures untouched { P.told → IsForeign (P.view port.old).reads
         → IsUntouched (P.view port.old) (P.view port.new) }
-    ensures spared { P.told → IsNotImage result → IsSpared (P.view port.old) (P.view port.new) }
+    ensures spared { P.told → SparesDamaged (P.view port.old) (P.view port.new) }
     /// promise: Each image left stands for the world before, or for none where there was none, or for the upgraded one;
     /// wherever a byte was sent, for the latter.
     ensures any_moment { P.told → IsFirm (P.view port.old) → LeavesOnly (P.view port.old) (P.view port.new)
@@ -68,9 +68,9 @@ fn upgrade<D: Device>(alloc: Global, dev: &mut D) -> Result<(), Status>
     ensures stops { IfErr result IsUnopened }
     ensures sent { D.told → (D.view dev.new).sent ≡ (D.view dev.old).sent }
     // Where the image fails one of the tests that need no write, nothing is written, and the disk reads as before;
-    // where it fails another, nothing is lost that a repair could use.
+    // where it fails another, nothing is lost that a repair could use, whatever is answered.
     ensures untouched { D.told → IsForeign (D.view dev.old).reads → IsUntouched (D.view dev.old) (D.view dev.new) }
-    ensures spared { D.told → IfErr result (λ why. IsNotImage why → IsSpared (D.view dev.old) (D.view dev.new)) }
+    ensures spared { D.told → SparesDamaged (D.view dev.old) (D.view dev.new) }
     ensures any_moment { D.told → IsFirm (D.view dev.old) → LeavesOnly (D.view dev.old) (D.view dev.new)
         (λ x f. (StandAlike (D.view dev.old).reads x ⊎ IsUpgradeOf (D.view dev.old).reads x)
         × (f ≡ (D.view dev.old).sent)) }

@@ -15,7 +15,7 @@ use Rattle.image_world.specs.Faults.{IsGood}
 use Rattle.image_world.specs.Stands.{Stands, world_of}
 use Rattle.image_world.proofs.WorldLaws.{world_valid}
 use Rattle.recovery.specs.Opening.{StandAlike}
-use Rattle.image_runs.specs.Opened.{IsUnopened, IsNotImage}
+use Rattle.image_runs.specs.Opened.{IsUnopened}
 use Rattle.tsd_words.specs.declared.status.Status.{Status}
 use Rattle.tsd_words.specs.declared.status.Status.TheVariants as status
 use Rattle.fs_trees.specs.declared.ask.ShellAsk.{ShellAsk}
@@ -51,19 +51,6 @@ judged_start image root cap start status.SourceFault is good may = (good, ap (λ
 judged_start image root cap start status.PutFault is good may = (good, ap (λ (w : World). level_at w root cap) (sym is) ∙ may)
 judged_start image root cap start status.TooLong is good may = (good, ap (λ (w : World). level_at w root cap) (sym is) ∙ may)
 judged_start image root cap start status.Truncated is good may = (good, ap (λ (w : World). level_at w root cap) (sym is) ∙ may)
-
--- who was let in, or wasn't, had an image
-pub admitted_image : (root : ℕ) (cap : Cap) (start : World) (r : Status) → IsAdmitted root cap start r → IsNotImage r → ⊥
-admitted_image root cap start (status.NotImage why) may h = may
-admitted_image root cap start status.Done may h = h
-admitted_image root cap start status.Usage may h = h
-admitted_image root cap start status.DeviceFault may h = h
-admitted_image root cap start status.SourceFault may h = h
-admitted_image root cap start status.PutFault may h = h
-admitted_image root cap start status.TooLong may h = h
-admitted_image root cap start status.NoMemory may h = h
-admitted_image root cap start status.Truncated may h = h
-admitted_image root cap start (status.RootDenied attained) may h = h
 
 -- ---- one that wasn't
 

@@ -9,8 +9,7 @@ ghost use Rattle.image_world.specs.Stands.{world_of};
 ghost use Rattle.shell_server.specs.Shell.{unmounted};
 ghost use Rattle.serving.specs.Prompt.{IsOfPort, mark};
 ghost use Rattle.serving.specs.Ran.{EndsOnce, moments, taking};
-ghost use Rattle.image_runs.specs.Opened.{IsNotImage};
-ghost use Rattle.recovery.specs.Opening.{IsForeign, IsSpared, IsUntouched};
+ghost use Rattle.recovery.specs.Opening.{IsForeign, IsUntouched, SparesDamaged};
 ghost use Rattle.image_shell.specs.Served.{IsNotServed, IsOpeningAlone, IsPromptShell, IsShellJudged, OpensNoMore};
 ghost use Rattle.image_shell.specs.Served.{ShellRan};
 
@@ -72,10 +71,10 @@ pub fn serve_inode_image<S: Source, P: Port>(
     /// where nothing was left to be done.
     ensures opened { P.told → IsOpeningAlone result → OpensNoMore (P.view port.old) (P.view port.new) }
     // Where the image fails one of the tests that need no write, nothing is written, and the disk reads as before;
-    // where it fails another, nothing is lost that a repair could use.
+    // where it fails another, nothing is lost that a repair could use, whatever is answered.
     ensures untouched { P.told → IsForeign (P.view port.old).reads
         → IsUntouched (P.view port.old) (P.view port.new) }
-    ensures spared { P.told → IsNotImage result → IsSpared (P.view port.old) (P.view port.new) }
+    ensures spared { P.told → SparesDamaged (P.view port.old) (P.view port.new) }
     // However it ended, a crash at any moment leaves what lies behind the image as it was.
     ensures behind { P.told → IsFirm (P.view port.old) → LeavesBehind (P.view port.old) (P.view port.new) }
     ensures once { EndsOnce (S.ends source.old) (S.ends source.new) }
@@ -117,10 +116,10 @@ pub fn serve_chain_image<S: Source, P: Port>(
         (IsOfPort P.view) (world_of (P.view port.old).reads) (P.view port.old).sent (mark (P.view port.new)) }
     ensures opened { P.told → IsOpeningAlone result → OpensNoMore (P.view port.old) (P.view port.new) }
     // Where the image fails one of the tests that need no write, nothing is written, and the disk reads as before;
-    // where it fails another, nothing is lost that a repair could use.
+    // where it fails another, nothing is lost that a repair could use, whatever is answered.
     ensures untouched { P.told → IsForeign (P.view port.old).reads
         → IsUntouched (P.view port.old) (P.view port.new) }
-    ensures spared { P.told → IsNotImage result → IsSpared (P.view port.old) (P.view port.new) }
+    ensures spared { P.told → SparesDamaged (P.view port.old) (P.view port.new) }
     // However it ended, a crash at any moment leaves what lies behind the image as it was.
     ensures behind { P.told → IsFirm (P.view port.old) → LeavesBehind (P.view port.old) (P.view port.new) }
     ensures once { EndsOnce (S.ends source.old) (S.ends source.new) }

@@ -10,8 +10,8 @@ pub fn runs_change_by_access()
     /// that stayed live differ, or the pointers out of it or to it, or a primary block's record, some request of the
     /// run changed it. It was granted at its turn, of a session with write access wherever the request needs a level,
     /// by a capability that it showed at a primary block or along a pointer from a block at which it had a grant of
-    /// write. So it is of a `Delete` or a `Sweep` where a block wasn't live at some moment of the run, also where it was
-    /// given out again since.
+    /// write. So it is of a `Delete` or a `Sweep` where a block wasn't live at some moment of the run, also where it
+    /// was given out again since.
     /// promise: Take blocks that are reached from the primary ones, to which pointers lead from one another alone, and
     /// at the primary ones of which no capability that a request of the run shows is right for anything. They are as
     /// they were: bytes, records, and pointers both ways; and all replies are the same whatever they contain.

@@ -4,7 +4,7 @@ pub use Rattle.block_alloc.specs.Fresh.{fresh_live}
 pub use Rattle.cap_store.specs.Fresh.{fresh_records}
 pub use Rattle.cap_store.specs.Store.{AreRecords}
 pub use Rattle.image_device.proofs.Confined.{confined_joined, confined_start, confined_sync, confined_wider, confined_write}
-pub use Rattle.image_device.proofs.Moments.{after_read, after_sync, firm_image, joined, started, uses_and, uses_within, weakened}
+pub use Rattle.image_device.proofs.Moments.{after_read, after_sync, ends_in, firm_image, joined, started, uses_and, uses_within, weakened}
 pub use Rattle.image_device.proofs.Outcomes.{on_ok}
 pub use Rattle.image_device.specs.Calls.{Rests, Settles, Touches, Uses}
 pub use Rattle.image_device.specs.Image.{zeros}
@@ -27,8 +27,8 @@ pub use Rattle.intent_journal.specs.Home.{AgreeBut, home, is_journal}
 pub use Rattle.intent_journal.specs.Records.{has_valid_records, is_gate_open, open_records}
 pub use Rattle.intent_journal.specs.Ring.{IsRingAt, checkpoint_writes, distinct_homes, open_gates, replay_writes}
 pub use Rattle.recovery.specs.Areas.{HasAreas, fresh_bytes, fresh_end, is_fresh}
-pub use Rattle.recovery.specs.Faults.{of_replay, of_volume}
-pub use Rattle.recovery.specs.Opening.{HasHead, IsImageFault, IsOpening, IsSpared, LeavesData, StandAlike, opening_writes}
+pub use Rattle.recovery.specs.Faults.{of_volume}
+pub use Rattle.recovery.specs.Opening.{HasHead, IsOpening, IsSpared, LeavesData, StandAlike, opening_writes}
 pub use Rattle.recovery.specs.declared.fault.OpenFault.{OpenFault}
 pub use Rattle.std.proofs.lemmas.Bool.{both_ways, cases_Bool, cases_eq, cases_lt}
 pub use Rattle.std.proofs.lemmas.Bool.Decides.{nat_tests}

@@ -1,27 +1,10 @@
 -- What is left of an image that fails a test.
-use Rattle.std.proofs.Common.{◌≡◌, ℕ, true, List, [], refl, sym, ◌∙◌, ap, subst, arith, Ok, Err}
-use Rattle.recovery.proofs.Common.{Result, IfErr, IsErrAnd, Rests, Settles, Uses, IsFirm, LeavesOnly, View, IsLeftNow, IsSound, started, after_sync, after_read, joined, firm_image, Image, IsTheSame, home, is_journal, AgreeBut, has_valid_records, IsRingAt, replay_writes, home_of_empty, at_valid, Volume, OpenFault, of_replay, IsImageFault, IsSpared, LeavesData, Geometry, weakened, header_sector, Tables, tables_of, header_of, IsVolumeAt}
-use Rattle.intent_journal.specs.declared.ring.ReplayFault.{ReplayFault}
-use Rattle.intent_journal.specs.declared.ring.ReplayFault.TheVariants as replay
-use Rattle.recovery.specs.declared.fault.OpenFault.TheVariants as fault
+use Rattle.std.proofs.Common.{◌≡◌, ℕ, true, List, [], refl, sym, ◌∙◌, ap, subst, arith}
+use Rattle.recovery.proofs.Common.{Result, Rests, Settles, Uses, IsFirm, LeavesOnly, View, IsLeftNow, IsSound, started, after_sync, after_read, ends_in, joined, firm_image, Image, IsTheSame, home, is_journal, AgreeBut, has_valid_records, IsRingAt, replay_writes, home_of_empty, at_valid, Volume, IsSpared, LeavesData, Geometry, weakened, header_sector, Tables, tables_of, header_of, IsVolumeAt}
 use Rattle.image_world.proofs.WrittenLaws.{above_journal}
 use Rattle.volume_laws.specs.Data.{HasSameData, KeepsData}
 use Rattle.image_device.specs.declared.device.Failed.{Failed}
 use Rattle.recovery.proofs.OpenRuns.{IsStill, synced, read_still}
-
--- ---- by the answer
-
-pub by_image : (r : Result Volume OpenFault) (P : Type 0) → P → IfErr r (λ why. IsImageFault why → P)
-by_image (Ok v) P p = tt
-by_image (Err why) P p = λ is. p
-
-pub by_other : (r : Result Volume OpenFault) (e : OpenFault) (P : Type 0) → IsErrAnd r (λ made. made ≡ e) → (IsImageFault e → ⊥) → IfErr r (λ why. IsImageFault why → P)
-by_other (Ok v) e P is other = tt
-by_other (Err why) e P is other = λ image. absurd (other (subst IsImageFault is image))
-
-pub by_replay : (r : Result Volume OpenFault) (why : ReplayFault) (P : Type 0) → IsErrAnd r (λ made. made ≡ of_replay why) → (why ≡ replay.BadDescriptor → P) → IfErr r (λ made. IsImageFault made → P)
-by_replay r replay.BadDescriptor P is bad = by_image r P (bad refl)
-by_replay r replay.Device P is bad = by_other r fault.Device P is (λ h. h)
 
 -- ---- before the replay
 
@@ -50,14 +33,21 @@ spared_head v0 v1 v2 sound firm settles rests uses = record {
   left = λ at_start. read_same v0 v1 v2 (synced v0 v1 firm settles) rests (synced_same v0 v1 sound at_start settles);
 }
 
-pub spared_bad : (v0 v1 v2 v3 : View) → IsSound v0 → IsFirm v1 → Settles v0 v1 → Rests v1 v2 → Rests v2 v3 → Uses 0 v0 v3 → IsSpared v0 v3
-spared_bad v0 v1 v2 v3 sound firm settles head bad uses =
-    let still = read_still v0 v1 v2 (synced v0 v1 firm settles) head in
-    record {
-      reads = same_self v0.reads v3.reads (bad.reads ∙ still.reads);
-      writes = omega (arith, uses.most);
-      left = λ at_start. read_same v0 v2 v3 still bad (read_same v0 v1 v2 (synced v0 v1 firm settles) head (synced_same v0 v1 sound at_start settles));
-    }
+-- nothing was called
+pub spared_start : (v : View) → IsSound v → IsSpared v v
+spared_start v sound = record {
+  reads = same_self v.reads v.reads refl;
+  writes = omega arith;
+  left = λ at_start. started v (Same v) sound (still_same v v (record { firm = at_start; reads = refl; sent = refl }));
+}
+
+-- a sync, also one that failed
+pub spared_sync : (v0 v1 : View) → IsSound v0 → Settles v0 v1 → Uses 0 v0 v1 → IsSpared v0 v1
+spared_sync v0 v1 sound settles uses = record {
+  reads = same_self v0.reads v1.reads settles.reads;
+  writes = omega (arith, uses.most);
+  left = λ at_start. synced_same v0 v1 sound at_start settles;
+}
 
 -- ---- after it
 
@@ -111,6 +101,18 @@ replay_same v0 v1 v2 v3 sound firm now settles rests leaves =
     let still = read_still v0 v1 v2 (synced v0 v1 now settles) rests in
     joined v0 v2 v3 (Same v0) (λ x f. IsTheSame v2.reads x × (f ≡ v2.sent)) (head_same v0 v1 v2 sound firm now settles rests) leaves
     (λ x f left. subst (λ (r : Image). IsTheSame r x) still.reads left.0)
+
+-- a replay that failed: what is read in the end is left then too
+pub spared_replay : (v0 v1 v2 v3 : View) → IsSound v0 → IsSound v3 → IsFirm v1 → Settles v0 v1 → Rests v1 v2 → LeavesOnly v2 v3 (λ x f. IsTheSame v2.reads x × (f ≡ v2.sent))
+    → Uses 0 v0 v2 → Uses (replay_writes v2.reads) v2 v3 → IsSpared v0 v3
+spared_replay v0 v1 v2 v3 sound sound3 firm settles head leaves few most =
+    let still = read_still v0 v1 v2 (synced v0 v1 firm settles) head in
+    let limit : replay_writes v2.reads ≡ replay_writes v0.reads = ap replay_writes still.reads in
+    record {
+      reads = subst (λ (r : Image). IsTheSame r v3.reads) still.reads (ends_in v2 v3 (λ x f. IsTheSame v2.reads x × (f ≡ v2.sent)) sound3 leaves).0;
+      writes = omega (arith, few.most, most.most, limit);
+      left = λ at_start. replay_same v0 v1 v2 v3 sound at_start firm settles head leaves;
+    }
 
 pub data_replay : (v0 v1 v2 v3 : View) → IsSound v0 → IsFirm v0 → IsFirm v1 → Settles v0 v1 → Rests v1 v2 → LeavesOnly v2 v3 (λ x f. IsTheSame v2.reads x × (f ≡ v2.sent)) → LeavesData v0 v3
 data_replay v0 v1 v2 v3 sound firm now settles rests leaves = as_data v0 v3 (replay_same v0 v1 v2 v3 sound firm now settles rests leaves)

@@ -34,18 +34,16 @@ pub record IsUntouched (old new : View) : Type 0 where
   pub writes : new.writes ≡ old.writes
   pub reads : new.reads ≡ old.reads
 
--- a test failed
-abbrev pub IsImageFault : OpenFault → Type 0
-IsImageFault (fault.Image why) = ⊤
-IsImageFault fault.Device = ⊥
-IsImageFault fault.NoMemory = ⊥
-
 -- All that a repair could use is still there: what each sector outside the journal is to hold is as it was, in the end
 -- and in each image that a crash leaves. No more was written than the replay writes.
 pub record IsSpared (old new : View) : Type 0 where
   pub reads : IsTheSame old.reads new.reads
   pub writes : new.writes ≤ old.writes + replay_writes old.reads
   pub left : IsFirm old → LeavesOnly old new (λ x f. IsTheSame old.reads x)
+
+-- So it is of an image that stands for no world, whatever is answered.
+abbrev pub SparesDamaged : View → View → Type 0
+SparesDamaged old new = ¬ IsGood old.reads → IsSpared old new
 
 -- From the data on, each sector is to hold what it was to hold, behind the image too.
 abbrev pub LeavesData : View → View → Type 0

@@ -14,8 +14,8 @@ ghost use Rattle.image_world.specs.Debt.{owed};
 ghost use Rattle.volume_laws.specs.Quiet.{IsQuiet};
 ghost use Rattle.volume_laws.specs.Volume.{IsVolumeAt, IsVolumeReady, world_on};
 ghost use Rattle.volume_laws.specs.Writes.{due, Works};
-ghost use Rattle.recovery.specs.Opening.{IsForeign, IsImageFault, IsOpening, IsSpared, IsUntouched};
-ghost use Rattle.recovery.specs.Opening.{LeavesData, opening_writes, StandAlike};
+ghost use Rattle.recovery.specs.Opening.{IsForeign, IsOpening, IsUntouched, LeavesData, opening_writes};
+ghost use Rattle.recovery.specs.Opening.{SparesDamaged, StandAlike};
 
 use crate::fault::OpenFault;
 use crate::head::read_head;
@@ -52,11 +52,11 @@ pub fn open_image<D: Device>(alloc: Global, dev: &mut D) -> Result<Volume, OpenF
     /// is written, and the disk reads as before.
     ensures untouched { D.told → IsForeign (D.view dev.old).reads → IsUntouched (D.view dev.old) (D.view dev.new) }
 
-    // Where any test fails, nothing is lost that a repair could use.
-    /// promise: Where the answer is that a test failed, nothing is lost that a repair could use: in the end and in each
-    /// image that a crash leaves, each sector outside the journal is to hold what it was to hold, and no more is
-    /// written than the replay writes.
-    ensures spared { D.told → IfErr result (λ why. IsImageFault why → IsSpared (D.view dev.old) (D.view dev.new)) }
+    // Where any test fails, nothing is lost that a repair could use, whatever is answered.
+    /// promise: Where the image stands for no world, whatever is answered, want of memory and a fault of the device
+    /// too, nothing is lost that a repair could use: in the end and in each image that a crash leaves, each sector
+    /// outside the journal is to hold what it was to hold, and no more is written than the replay writes.
+    ensures spared { D.told → SparesDamaged (D.view dev.old) (D.view dev.new) }
 
     // The data of all blocks, of free ones too, and what lies behind the image stay, in each image that a crash leaves.
     /// promise: Where nothing was loose at the start, the data of all blocks, of free ones too, and all that lies after

@@ -5,7 +5,7 @@ use Rattle.tsd_model.specs.declared.requests.Request.{Request}
 use Rattle.image_device.specs.Runs.{IsFirm, LeavesOnly}
 use Rattle.image_layout.specs.declared.fault.ImageFault.{ImageFault}
 use Rattle.image_world.specs.Behind.{LeavesBehind}
-use Rattle.recovery.specs.Opening.{IsForeign, IsSpared, IsUntouched, StandAlike}
+use Rattle.recovery.specs.Opening.{IsForeign, IsUntouched, LeavesData, SparesDamaged, StandAlike}
 use Rattle.tsd_words.specs.declared.commands.CopyFs.{CopyFs}
 use Rattle.tsd_words.specs.declared.commands.Format.{Format}
 use Rattle.tsd_words.specs.declared.commands.Fresh.{Fresh}
@@ -22,7 +22,7 @@ use Rattle.serving.specs.Ran.{Moments, Taking}
 use Rattle.serving.specs.Voice.{Voice}
 use Rattle.audit_runs.specs.Audit.{HasAudited, IsAuditing}
 use Rattle.audit_runs.specs.Verify.{VerifyRan}
-use Rattle.image_copy.specs.Copied.{HasCopied, IsCopyEnding, IsCopyJudged, IsLeftOfCopy, IsNotBegun}
+use Rattle.image_copy.specs.Copied.{HasCopied, IsCopyEnding, IsCopyJudged, IsKeptOut, IsLeftOfCopy, IsNotBegun}
 use Rattle.image_runs.specs.Behind.{LeavesSameBehind, LeavesSectorsBehind}
 use Rattle.image_runs.specs.Check.{HasChecked, IsSaying}
 use Rattle.image_runs.specs.declared.check.Telling.{Telling}
@@ -32,19 +32,27 @@ use Rattle.image_runs.specs.Load.{HasLoaded, IsLeftOfLoad}
 use Rattle.image_runs.specs.Sending.{IsEnding}
 use Rattle.image_runs.specs.Upgrade.{HasUpgraded, IsLeftOfUpgrade}
 use Rattle.image_runs.specs.Fresh.{FreshRan, single_world}
-use Rattle.image_runs.specs.Opened.{IsJudged, IsNotImage}
+use Rattle.image_runs.specs.Looking.{OnlyLooks}
+use Rattle.image_runs.specs.Opened.{IsJudged}
 use Rattle.image_runs.specs.Served.{ImageRan}
 use Rattle.image_shell.specs.Served.{IsOpeningAlone, IsShellJudged, OpensNoMore, ShellRan}
 use Rattle.tsd_serve.specs.Grouped.{OpenedInGroups}
 
 -- What a command that opens an image leaves alone. Of one that stands for no world: where it fails one of the first
 -- three tests, of the format gate, the journal and the header, nothing was written, and the disk reads as before. Where
--- it fails another, all that a repair could use is still there, in the end and after a crash at any moment. And of each
--- image what lies behind it.
-pub record SparesImage (r : Status) (port : Moments) : Type 0 where
+-- it fails another, all that a repair could use is still there, whatever the status is, in the end and after a crash at
+-- any moment. And of each image what lies behind it.
+pub record SparesImage (port : Moments) : Type 0 where
   pub foreign : port.tells → IsForeign port.old.reads → IsUntouched port.old port.new
-  pub damaged : port.tells → IsNotImage r → IsSpared port.old port.new
+  pub damaged : port.tells → SparesDamaged port.old port.new
   pub behind : port.tells → IsFirm port.old → LeavesBehind port.old port.new
+
+-- What a command does that only looks at an image: where nothing is left to be done on it nothing is written, and else
+-- no more than an opening writes; and the data of all blocks, of free ones too, is as it was, after a crash at any
+-- moment.
+pub record LooksAtImage (port : Moments) : Type 0 where
+  pub only : port.tells → OnlyLooks port.old port.new
+  pub kept : port.tells → IsFirm port.old → LeavesData port.old port.new
 
 -- A disk was made and served, at most 2^40 bytes of input. What lies behind it is as it was.
 pub record Made (fresh : Fresh) (r : Status) (source : Taking) (port : Moments) : Type 0 where
@@ -56,7 +64,7 @@ pub record Opened (r : Status) (v : Voice) (p : Spelling Request) (kind : PlaceK
     (port : Moments) : Type 0 where
   pub judged : port.tells → IsJudged port.old.reads r
   pub ran : ImageRan r v p kind (2 ^ 40) source port
-  pub spared : SparesImage r port
+  pub spared : SparesImage port
 
 -- There was no memory for a cutter of frames, and nothing was called.
 pub record HasNoCutter (r : Status) (source : Taking) (port : Moments) : Type 0 where
@@ -70,12 +78,13 @@ pub record Mounted (r : Status) (shell : Shell) (source : Taking) (port : Moment
   pub judged : port.tells → IsShellJudged shell.root shell.cap port.old.reads r
   pub ran : ShellRan r shell.layout shell.root shell.cap (2 ^ 40) source port
   pub opened : port.tells → IsOpeningAlone r → OpensNoMore port.old port.new
-  pub spared : SparesImage r port
+  pub spared : SparesImage port
 
 -- A certificate was read and its answer told, or a front of it.
 pub record VerifiedBy (r : Status) (source : Taking) (port : Moments) : Type 0 where
   pub ran : VerifyRan r source port
-  pub spared : SparesImage r port
+  pub looks : LooksAtImage port
+  pub spared : SparesImage port
 
 -- ---- commands that take no input
 
@@ -86,7 +95,8 @@ pub record Checked (t : Telling) (r : Status) (port : Moments) : Type 0 where
   pub said : port.tells → HasChecked t r port.old.reads port.old.sent port.new.sent
   pub any_moment : port.tells → IsFirm port.old
       → LeavesOnly port.old port.new (λ x f. StandAlike port.old.reads x × IsSaying t port.old.reads port.old.sent f)
-  pub spared : SparesImage r port
+  pub looks : LooksAtImage port
+  pub spared : SparesImage port
 
 -- a disk was made, which opens no image and takes no memory
 pub record Formatted (words : Format) (r : Status) (port : Moments) : Type 0 where
@@ -102,7 +112,7 @@ pub record Upgraded (r : Status) (port : Moments) : Type 0 where
   pub ending : IsEnding r
   pub upgraded : port.tells → HasUpgraded r port.old port.new
   pub any_moment : port.tells → IsFirm port.old → LeavesOnly port.old port.new (IsLeftOfUpgrade port.old)
-  pub spared : SparesImage r port
+  pub spared : SparesImage port
   pub no_memory : port.tells → r ≡ status.NoMemory → IsFirm port.old
       → LeavesOnly port.old port.new (λ x f. StandAlike port.old.reads x × (f ≡ port.old.sent))
 
@@ -112,21 +122,24 @@ pub record Audited (r : Status) (port : Moments) : Type 0 where
   pub said : port.tells → HasAudited r port.old.reads port.old.sent port.new.sent
   pub any_moment : port.tells → IsFirm port.old
       → LeavesOnly port.old port.new (λ x f. StandAlike port.old.reads x × IsAuditing port.old.reads port.old.sent f)
-  pub spared : SparesImage r port
+  pub looks : LooksAtImage port
+  pub spared : SparesImage port
 
--- The requests of a seed were carried out. Without memory none was.
+-- The requests of a seed were carried out. Without memory none was, and no more was written than an opening writes.
 pub record Loaded (load : Load) (r : Status) (port : Moments) : Type 0 where
   pub ending : IsEnding r
   pub loaded : port.tells → HasLoaded r load.kind load.seed load.count port.old port.new
   pub any_moment : port.tells → IsFirm port.old
       → LeavesOnly port.old port.new (IsLeftOfLoad load.kind load.seed load.count port.old)
-  pub spared : SparesImage r port
+  pub spared : SparesImage port
   pub no_memory : port.tells → r ≡ status.NoMemory → IsFirm port.old
       → LeavesOnly port.old port.new (λ x f. StandAlike port.old.reads x × (f ≡ port.old.sent))
+  pub looked : port.tells → r ≡ status.NoMemory → OnlyLooks port.old port.new
 
 -- A tree was copied from one root to another: how the copy ended, and what of its line was sent. A crash leaves the
 -- source's tree, and under the target's root what was there before or the tree after some of the steps. Where no copy
--- was begun, all is as it was.
+-- was begun, all is as it was; where no image was opened, or a capability doesn't attain write, no more was written
+-- than an opening writes.
 pub record TreeCopied (words : CopyFs) (r : Status) (port : Moments) : Type 0 where
   pub ending : IsCopyEnding r
   pub judged : port.tells → IsCopyJudged words port.old.reads r
@@ -134,7 +147,8 @@ pub record TreeCopied (words : CopyFs) (r : Status) (port : Moments) : Type 0 wh
   pub any_moment : port.tells → IsFirm port.old → LeavesOnly port.old port.new (IsLeftOfCopy words port.old)
   pub not_begun : port.tells → IsNotBegun r → IsFirm port.old
       → LeavesOnly port.old port.new (λ x f. StandAlike port.old.reads x × (f ≡ port.old.sent))
-  pub spared : SparesImage r port
+  pub looked : port.tells → IsKeptOut r → OnlyLooks port.old port.new
+  pub spared : SparesImage port
 
 -- What the command that the words spell did, with this status, to its source and to its port. A command that takes no
 -- input leaves the source as it was. Where they spell none, it was Usage.

@@ -2,10 +2,10 @@ use Rattle.std.proofs.Common.{◌++◌, ◌∙◌, ap, List, ℕ}
 use Rattle.image_audit.specs.Laws.{listings_from}
 use Rattle.image_world.specs.Behind.{behind, size_of_image}
 use Rattle.image_runs.proofs.Behind.{behind_said}
-use Rattle.image_runs.proofs.Opened.{spared_put, untouched_put}
+use Rattle.image_runs.proofs.Looking.{kept_put, looked_put}
+use Rattle.image_runs.proofs.Opened.{untouched_put}
 use Rattle.audit_runs.specs.Audit.{IsAuditOf, listings_text}
 use Rattle.audit_runs.proofs.AnswerLaws.{audit_of, cut_from, silent_moments, told_moments, unaudited, unopened_ends}
-use Rattle.audit_runs.proofs.LookLaws.{looked_put}
 use Rattle.audit_runs.proofs.audit.audit_image.Goals as goal
 
 pub returns-in-Ok-put_listings-clause-said : goal.returns-in-Ok-put_listings-clause-said
@@ -70,3 +70,19 @@ returns-in-Ok-put_listings-clause-only g c told =
 pub returns-in-Ok-clause-only : goal.returns-in-Ok-clause-only
 returns-in-Ok-clause-only g c told =
     looked_put g.P.Device.told _ (g.P.Device.view c.args.port.now) (g.P.Device.view c.find.new.dev) (g.P.Device.view c.put_listings.new.port) c.put_listings.result c.put_listings.ensures (c.find.ensures.only told)
+
+pub returns-in-Ok-put_listings-clause-kept : goal.returns-in-Ok-put_listings-clause-kept
+returns-in-Ok-put_listings-clause-kept g c told firm =
+    kept_put g.P.Device.told _ (g.P.Device.view c.args.port.now) (g.P.Device.view c.find.new.dev) (g.P.Device.view c.put_listings.new.port) c.put_listings.result told
+    (g.met.P.Device.sound c.find.new.dev told) c.put_listings.ensures (c.find.ensures.kept told firm)
+
+pub returns-in-Ok-put_listings-clause-spared : goal.returns-in-Ok-put_listings-clause-spared
+returns-in-Ok-put_listings-clause-spared g c told bad = absurd (bad (c.in-Ok.ensures.found told).good)
+
+pub returns-in-Ok-clause-kept : goal.returns-in-Ok-clause-kept
+returns-in-Ok-clause-kept g c told firm =
+    kept_put g.P.Device.told _ (g.P.Device.view c.args.port.now) (g.P.Device.view c.find.new.dev) (g.P.Device.view c.put_listings.new.port) c.put_listings.result told
+    (g.met.P.Device.sound c.find.new.dev told) c.put_listings.ensures (c.find.ensures.kept told firm)
+
+pub returns-in-Ok-clause-spared : goal.returns-in-Ok-clause-spared
+returns-in-Ok-clause-spared g c told bad = absurd (bad (c.in-Ok.ensures.found told).good)

@@ -4,7 +4,7 @@ use Rattle.tsd_core.proofs.AtLaws.{like_at}
 use Rattle.volume_laws.specs.Volume.{told_by, world_on}
 use Rattle.image_audit.specs.Depths.{AreReached}
 use Rattle.audit_runs.proofs.AnswerLaws.{found_on}
-use Rattle.audit_runs.proofs.LookLaws.{looked}
+use Rattle.image_runs.proofs.Looking.{looked}
 use Rattle.audit_runs.proofs.audit.find.Goals as goal
 
 pub returns-in-Ok-new-clause-found : goal.returns-in-Ok-new-clause-found

@@ -3,8 +3,8 @@ use Rattle.script_text.specs.Pieces.{all_lines}
 use Rattle.tsd_core.proofs.AtLaws.{like_at}
 use Rattle.volume_laws.specs.Volume.{told_by, world_on}
 use Rattle.audit_runs.specs.Verify.{IsVerdictOver, IsAnswerOf}
-use Rattle.audit_runs.proofs.AnswerLaws.{answer_on, answered_on, judged_on, unopened_unanswered, unread_spared}
-use Rattle.audit_runs.proofs.LookLaws.{looked}
+use Rattle.audit_runs.proofs.AnswerLaws.{answer_on, answered_on, judged_on, unopened_unanswered}
+use Rattle.image_runs.proofs.Looking.{looked}
 use Rattle.audit_runs.proofs.verify.answer.Goals as goal
 
 pub returns-in-Ok-clause-answered : goal.returns-in-Ok-clause-answered
@@ -19,9 +19,6 @@ returns-in-Ok-clause-answered g c =
 
 pub returns-in-Ok-clause-judged : goal.returns-in-Ok-clause-judged
 returns-in-Ok-clause-judged g c told = judged_on c.read_and_verify.result (g.D.Device.view c.args.dev.now).reads (c.in-Ok.ensures.read told) c.read_and_verify.ensures.stops
-
-pub returns-in-Ok-clause-spared : goal.returns-in-Ok-clause-spared
-returns-in-Ok-clause-spared g c told = unread_spared _ c.read_and_verify.result c.read_and_verify.ensures.stops
 
 pub returns-in-Err-clause-stops : goal.returns-in-Err-clause-stops
 returns-in-Err-clause-stops g c = unopened_unanswered c.in-Err.why c.in-Err.ensures.stops

@@ -4,10 +4,10 @@ use Rattle.image_device.specs.Runs.{LeavesOnly}
 use Rattle.image_runs.specs.Sending.{ProperFrontWasSent}
 use Rattle.image_world.specs.Behind.{behind, size_of_image}
 use Rattle.image_runs.proofs.Behind.{behind_said}
-use Rattle.image_runs.proofs.Opened.{spared_put, untouched_put}
+use Rattle.image_runs.proofs.Looking.{kept_put, looked_put}
+use Rattle.image_runs.proofs.Opened.{untouched_put}
 use Rattle.audit_runs.specs.Verify.{IsAnswerOf}
 use Rattle.audit_runs.proofs.AnswerLaws.{cut_from, silent_moments, told_moments, unanswered_ends, unverified}
-use Rattle.audit_runs.proofs.LookLaws.{looked_put}
 use Rattle.audit_runs.proofs.verify.verify_image.Goals as goal
 
 pub returns-in-Ok-put_all-clause-ran : goal.returns-in-Ok-put_all-clause-ran
@@ -81,3 +81,19 @@ returns-in-Ok-put_all-clause-only g c told =
 pub returns-in-Err-put_all-clause-only : goal.returns-in-Err-put_all-clause-only
 returns-in-Err-put_all-clause-only g c told =
     looked_put g.P.Device.told _ (g.P.Device.view c.args.port.now) (g.P.Device.view c.answer.new.dev) (g.P.Device.view c.put_all.new.port) c.put_all.result c.put_all.ensures (c.answer.ensures.only told)
+
+pub returns-in-Ok-put_all-clause-kept : goal.returns-in-Ok-put_all-clause-kept
+returns-in-Ok-put_all-clause-kept g c told firm =
+    kept_put g.P.Device.told _ (g.P.Device.view c.args.port.now) (g.P.Device.view c.answer.new.dev) (g.P.Device.view c.put_all.new.port) c.put_all.result told
+    (g.met.P.Device.sound c.answer.new.dev told) c.put_all.ensures (c.answer.ensures.kept told firm)
+
+pub returns-in-Ok-put_all-clause-spared : goal.returns-in-Ok-put_all-clause-spared
+returns-in-Ok-put_all-clause-spared g c told bad = absurd (bad (c.in-Ok.ensures.answered.taken.2 told).good)
+
+pub returns-in-Err-put_all-clause-kept : goal.returns-in-Err-put_all-clause-kept
+returns-in-Err-put_all-clause-kept g c told firm =
+    kept_put g.P.Device.told _ (g.P.Device.view c.args.port.now) (g.P.Device.view c.answer.new.dev) (g.P.Device.view c.put_all.new.port) c.put_all.result told
+    (g.met.P.Device.sound c.answer.new.dev told) c.put_all.ensures (c.answer.ensures.kept told firm)
+
+pub returns-in-Err-put_all-clause-spared : goal.returns-in-Err-put_all-clause-spared
+returns-in-Err-put_all-clause-spared g c told bad = absurd (bad (c.in-Ok.ensures.answered.taken.2 told).good)

@@ -4,7 +4,7 @@ use Rattle.image_device.specs.Runs.{LeavesOnly}
 use Rattle.image_device.proofs.Parts.{part_put, part_then}
 use Rattle.image_world.specs.Behind.{behind, size_of_image}
 use Rattle.image_runs.specs.Sending.{ProperFrontWasSent}
-use Rattle.image_runs.proofs.Opened.{untouched_put}
+use Rattle.image_runs.proofs.Opened.{spared_put, untouched_put}
 use Rattle.image_copy.proofs.PutLaws.{ended_still, put_moments, silent_moments, unended_copied, unended_ends}
 use Rattle.image_copy.proofs.image.copy_over_image.Goals as goal
 
@@ -80,3 +80,16 @@ returns-in-Err-put_all-clause-behind g c told firm =
 
 pub returns-in-Err-clause-behind : goal.returns-in-Err-clause-behind
 returns-in-Err-clause-behind g c = c.in-Err.ensures.behind
+
+pub returns-in-Ok-put_all-clause-spared : goal.returns-in-Ok-put_all-clause-spared
+returns-in-Ok-put_all-clause-spared g c told =
+    spared_put g.P.Device.told _ (g.P.Device.view c.args.port.now) (g.P.Device.view c.carry_out.new.dev) (g.P.Device.view c.put_all.new.port) c.put_all.result told
+    (g.met.P.Device.sound c.carry_out.new.dev told) c.put_all.ensures (c.in-Ok.ensures.spared told)
+
+pub returns-in-Err-put_all-clause-spared : goal.returns-in-Err-put_all-clause-spared
+returns-in-Err-put_all-clause-spared g c told =
+    spared_put g.P.Device.told _ (g.P.Device.view c.args.port.now) (g.P.Device.view c.carry_out.new.dev) (g.P.Device.view c.put_all.new.port) c.put_all.result told
+    (g.met.P.Device.sound c.carry_out.new.dev told) c.put_all.ensures (c.in-Ok.ensures.spared told)
+
+pub returns-in-Err-clause-spared : goal.returns-in-Err-clause-spared
+returns-in-Err-clause-spared g c = c.in-Err.ensures.spared

@@ -1,3 +1,4 @@
+use Rattle.recovery.proofs.SparedLaws.{spared_start}
 use Rattle.image_copy.proofs.PutLaws.{idle_behind, idle_left, idle_moments}
 use Rattle.image_copy.proofs.kinds.copy_from.Goals as goal
 
@@ -18,3 +19,9 @@ returns-in-Err-clause-behind g c told firm = idle_behind (g.P.Device.view c.args
 
 pub returns-in-Err-new-clause-behind : goal.returns-in-Err-new-clause-behind
 returns-in-Err-new-clause-behind g c told firm = idle_behind (g.P.Device.view c.args.port.now) (g.met.P.Device.sound c.args.port.now told) firm
+
+pub returns-in-Err-clause-spared : goal.returns-in-Err-clause-spared
+returns-in-Err-clause-spared g c told bad = spared_start (g.P.Device.view c.args.port.now) (g.met.P.Device.sound c.args.port.now told)
+
+pub returns-in-Err-new-clause-spared : goal.returns-in-Err-new-clause-spared
+returns-in-Err-new-clause-spared g c told bad = spared_start (g.P.Device.view c.args.port.now) (g.met.P.Device.sound c.args.port.now told)

@@ -54,9 +54,7 @@ pub returns-in-Ok-clause-untouched : goal.returns-in-Ok-clause-untouched
 returns-in-Ok-clause-untouched g c told foreign = absurd (not_foreign _ (c.in-Ok.ensures.read told) foreign)
 
 pub returns-in-Ok-clause-spared : goal.returns-in-Ok-clause-spared
-returns-in-Ok-clause-spared g c told h =
-    let ran = c.serve_in_groups.ensures.ran in
-    absurd (asked_groups c.serve_in_groups.result.1 g.R.Protocol.spelling c.args.limit ran.bytes _ ran.asked ran.these h)
+returns-in-Ok-clause-spared g c told bad = absurd (bad (c.in-Ok.ensures.read told))
 
 pub returns-in-Err-clause-read : goal.returns-in-Err-clause-read
 returns-in-Err-clause-read g c = c.in-Err.ensures.read
@@ -92,7 +90,7 @@ pub returns-in-Err-clause-untouched : goal.returns-in-Err-clause-untouched
 returns-in-Err-clause-untouched g c = c.open_core.ensures.untouched
 
 pub returns-in-Err-clause-spared : goal.returns-in-Err-clause-spared
-returns-in-Err-clause-spared g c told h = c.in-Err.ensures.spared told h
+returns-in-Err-clause-spared g c = c.open_core.ensures.spared
 
 pub returns-in-Ok-clause-behind : goal.returns-in-Ok-clause-behind
 returns-in-Ok-clause-behind g c told firm =

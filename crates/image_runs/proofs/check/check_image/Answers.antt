@@ -1,7 +1,8 @@
 use Rattle.std.proofs.Common.{ℕ, List, ◌++◌, ◌∙◌, ap, subst, inl}
 use Rattle.image_runs.proofs.Common.{IsLeftInPut, LeavesOnly, weakened, ProperFrontWasSent, behind, size_of_image}
 use Rattle.image_runs.proofs.Behind.{behind_said}
-use Rattle.image_runs.proofs.Opened.{not_stopped, spared_put, untouched_put}
+use Rattle.image_runs.proofs.Opened.{spared_put, untouched_put}
+use Rattle.image_runs.proofs.Looking.{kept_put, looked_put}
 use Rattle.image_runs.proofs.Saying.{saying_moments, checked_whole, unchecked, cut_from}
 use Rattle.image_runs.proofs.check.check_image.Goals as goal
 
@@ -58,12 +59,32 @@ returns-in-Err-put_all-clause-untouched g c told foreign =
     untouched_put g.P.Device.told _ (g.P.Device.view c.args.port.now) (g.P.Device.view c.judge.new.dev) (g.P.Device.view c.put_all.new.port) c.put_all.result told c.put_all.ensures (c.judge.ensures.untouched told foreign)
 
 pub returns-in-Ok-put_all-clause-spared : goal.returns-in-Ok-put_all-clause-spared
-returns-in-Ok-put_all-clause-spared g c told h =
+returns-in-Ok-put_all-clause-spared g c told =
     spared_put g.P.Device.told _ (g.P.Device.view c.args.port.now) (g.P.Device.view c.judge.new.dev) (g.P.Device.view c.put_all.new.port) c.put_all.result told
-    (g.met.P.Device.sound c.judge.new.dev told) c.put_all.ensures (c.in-Ok.ensures.spared told h)
+    (g.met.P.Device.sound c.judge.new.dev told) c.put_all.ensures (c.judge.ensures.spared told)
 
-pub returns-in-Err-clause-spared : goal.returns-in-Err-clause-spared
-returns-in-Err-clause-spared g c told h = absurd (not_stopped c.in-Err.why c.in-Err.ensures.failing h)
+pub returns-in-Err-put_all-clause-spared : goal.returns-in-Err-put_all-clause-spared
+returns-in-Err-put_all-clause-spared g c told =
+    spared_put g.P.Device.told _ (g.P.Device.view c.args.port.now) (g.P.Device.view c.judge.new.dev) (g.P.Device.view c.put_all.new.port) c.put_all.result told
+    (g.met.P.Device.sound c.judge.new.dev told) c.put_all.ensures (c.judge.ensures.spared told)
+
+pub returns-in-Ok-put_all-clause-only : goal.returns-in-Ok-put_all-clause-only
+returns-in-Ok-put_all-clause-only g c told =
+    looked_put g.P.Device.told _ (g.P.Device.view c.args.port.now) (g.P.Device.view c.judge.new.dev) (g.P.Device.view c.put_all.new.port) c.put_all.result c.put_all.ensures (c.judge.ensures.only told)
+
+pub returns-in-Err-put_all-clause-only : goal.returns-in-Err-put_all-clause-only
+returns-in-Err-put_all-clause-only g c told =
+    looked_put g.P.Device.told _ (g.P.Device.view c.args.port.now) (g.P.Device.view c.judge.new.dev) (g.P.Device.view c.put_all.new.port) c.put_all.result c.put_all.ensures (c.judge.ensures.only told)
+
+pub returns-in-Ok-put_all-clause-kept : goal.returns-in-Ok-put_all-clause-kept
+returns-in-Ok-put_all-clause-kept g c told firm =
+    kept_put g.P.Device.told _ (g.P.Device.view c.args.port.now) (g.P.Device.view c.judge.new.dev) (g.P.Device.view c.put_all.new.port) c.put_all.result told
+    (g.met.P.Device.sound c.judge.new.dev told) c.put_all.ensures (c.judge.ensures.kept told firm)
+
+pub returns-in-Err-put_all-clause-kept : goal.returns-in-Err-put_all-clause-kept
+returns-in-Err-put_all-clause-kept g c told firm =
+    kept_put g.P.Device.told _ (g.P.Device.view c.args.port.now) (g.P.Device.view c.judge.new.dev) (g.P.Device.view c.put_all.new.port) c.put_all.result told
+    (g.met.P.Device.sound c.judge.new.dev told) c.put_all.ensures (c.judge.ensures.kept told firm)
 
 pub returns-in-Ok-put_all-clause-behind : goal.returns-in-Ok-put_all-clause-behind
 returns-in-Ok-put_all-clause-behind g c told firm =

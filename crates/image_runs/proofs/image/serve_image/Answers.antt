@@ -3,7 +3,7 @@ use Rattle.std.specs.Prelude.{Err}
 use Rattle.image_runs.proofs.Common.{Rose, Status, disk_rules, disk_work, placed_on, Placed, IsOfPort, Promptly, mark, spoken, spoken_counted, start_of}
 use Rattle.image_runs.proofs.Behind.{behind_then, size_of_core}
 use Rattle.image_runs.proofs.Opened.{not_foreign}
-use Rattle.image_runs.proofs.Started.{asked_image, placed_at, ends_opened, ends_unopened, judged_by, not_of_source, not_of_put, prompt_nothing}
+use Rattle.image_runs.proofs.Started.{placed_at, ends_opened, ends_unopened, judged_by, not_of_source, not_of_put, prompt_nothing}
 use Rattle.image_runs.proofs.image.serve_image.Goals as goal
 
 pub serve_core-requires-clause-few : goal.serve_core-requires-clause-few
@@ -129,12 +129,10 @@ pub returns-in-Err-clause-untouched : goal.returns-in-Err-clause-untouched
 returns-in-Err-clause-untouched g c = c.open_core.ensures.untouched
 
 pub returns-in-Ok-clause-spared : goal.returns-in-Ok-clause-spared
-returns-in-Ok-clause-spared g c told h =
-    let ran = c.serve_core.ensures.ran in
-    absurd (asked_image c.serve_core.result g.R.Protocol.spelling c.args.limit ran.bytes _ ran.asked ran.these h)
+returns-in-Ok-clause-spared g c told bad = absurd (bad (c.in-Ok.ensures.read told))
 
 pub returns-in-Err-clause-spared : goal.returns-in-Err-clause-spared
-returns-in-Err-clause-spared g c told h = c.in-Err.ensures.spared told h
+returns-in-Err-clause-spared g c = c.open_core.ensures.spared
 
 pub returns-in-Ok-clause-prompt : goal.returns-in-Ok-clause-prompt
 returns-in-Ok-clause-prompt g c told =

@@ -2,7 +2,7 @@ use Rattle.std.proofs.Common.{◌≡◌, ℕ, ◌+◌, refl, ◌∙◌, ap, subs
 use Rattle.std.proofs.lemmas.Result.{err_from_is_err_and}
 use Rattle.image_runs.proofs.Common.{Geometry, world_of, Generator, next_request, seed_request, at_volume, like_at, state_on, told_world, Rose, part_stays, behind, aside_then}
 use Rattle.image_runs.proofs.Requests.{applied_more}
-use Rattle.image_runs.proofs.LoadRuns.{run_started, run_more, run_within, run_starved}
+use Rattle.image_runs.proofs.LoadRuns.{first_starved, run_started, run_more, run_within, run_starved}
 use Rattle.image_runs.proofs.load.apply_all.Goals as goal
 
 pub loop-number-init : goal.loop-number-init
@@ -12,6 +12,7 @@ loop-number-init g c =
       ready = c.requires.ready;
       at = c.requires.at;
       applied = λ told. record { state = c.requires.start told; granted_are = refl; refused_are = refl };
+      first = λ none. (refl, refl);
       one = refl;
       draws = c.requires.draws;
       sent = λ told. refl;
@@ -40,6 +41,7 @@ loop-number-preserved g c =
           let size = (like_at c.args.core.now.volume start (at_volume c.args.core.now start (c.requires.at told))).geometry in
           applied_more kind seed w n (state_on c.loop-number.core mid.reads) (state_on c.apply_next.new.core new.reads) c.next_request.result c.loop-number.tally.granted c.loop-number.tally.refused
           c.apply_next.new.tally.granted c.apply_next.new.tally.refused (l.applied told) (drawn ∙ ap (λ (s : Geometry). seed_request seed s n) size) (c.in_ok-apply_next.ensures.next told);
+      first = λ none. absurd (omega (arith, none));
       one = c.in_ok-apply_next.ensures.one ∙ ap (λ (k : ℕ). k + 1) l.one;
       draws = c.next_request.ensures.drawn ∙ ap (λ (d : Generator). record d { drawn = d.drawn + 1 }) l.draws;
       sent = λ told. c.apply_next.ensures.sent told ∙ l.sent told;
@@ -87,6 +89,20 @@ returns-in_err-apply_next-clause-no_memory g c told =
     let is = err_from_is_err_and c.from_residual.result c.from_residual.ensures.1 in
     rw (is.1, is.2) (λ e. run_starved kind seed n start mid new (state_on c.loop-number.core mid.reads) (state_on c.apply_next.new.core new.reads) c.next_request.result refl (l.applied told).state
     (drawn ∙ ap (λ (s : Geometry). seed_request seed s n) size) (l.sent told) (l.moments told) (c.apply_next.ensures.any_moment told) (c.in_err-apply_next.ensures.starved told e))
+
+pub returns-in_err-apply_next-clause-first : goal.returns-in_err-apply_next-clause-first
+returns-in_err-apply_next-clause-first g c told =
+    let start = g.D.Device.view c.args.dev.now in
+    let mid = g.D.Device.view c.loop-number.dev in
+    let kind = c.args.placement.now.kind in
+    let seed = c.args.load.now.seed in
+    let n = c.loop-number.number in
+    let l = c.loop-number.invariant in
+    let drawn : c.next_request.result ≡ seed_request seed (told_world c.args.core.now).geometry n = c.next_request.ensures.request ∙ ap (λ (d : Generator). next_request d) l.draws in
+    let size = (like_at c.args.core.now.volume start (at_volume c.args.core.now start (c.requires.at told))).geometry in
+    let is = err_from_is_err_and c.from_residual.result c.from_residual.ensures.1 in
+    rw (is.1, is.2) (λ e. first_starved kind seed g.D.Device.view n c.args.core.now c.loop-number.core c.apply_next.new.core c.args.dev.now c.loop-number.dev c.apply_next.new.dev c.next_request.result
+    (l.applied told).state (drawn ∙ ap (λ (s : Geometry). seed_request seed s n) size) l.first (c.in_err-apply_next.ensures.starved told e) (c.in_err-apply_next.ensures.nothing e))
 
 pub returns-in_err-apply_next-clause-faults : goal.returns-in_err-apply_next-clause-faults
 returns-in_err-apply_next-clause-faults g c =

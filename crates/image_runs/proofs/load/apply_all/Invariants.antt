@@ -10,6 +10,7 @@ invariant-loop-number g l =
       ready : IsCoreReady l.core;
       at : g.D.Device.told → IsCoreAt l.core now;
       applied : g.D.Device.told → HasApplied l.placement.kind l.load.seed (world_of start.reads) l.number (state_on l.core now.reads) l.tally.granted l.tally.refused;
+      first : l.number ≡ 0 → (l.core ≡ l.initial.core) × (l.dev ≡ l.initial.dev);
       one : l.tally.granted + l.tally.refused ≡ l.number;
       draws : l.draws ≡ load_after l.load.seed (told_world l.initial.core).geometry l.number;
       sent : g.D.Device.told → now.sent ≡ start.sent;

@@ -3,8 +3,9 @@ use Rattle.image_runs.proofs.Common.{IfOk, World, CountsFaultOf, weakened, Volum
 use Rattle.std.specs.Prelude.{ℕ}
 use Rattle.tsd_words.specs.declared.status.Status.TheVariants as status
 use Rattle.image_runs.proofs.Behind.{behind_then, size_of_volume}
-use Rattle.image_runs.proofs.Opened.{not_foreign, spared_on}
-use Rattle.image_runs.proofs.Loaded.{loaded_on, load_moments, starved_alike, judged_on, unopened_on}
+use Rattle.image_runs.proofs.Opened.{not_foreign}
+use Rattle.image_runs.proofs.Looking.{looked}
+use Rattle.image_runs.proofs.Loaded.{loaded_on, load_moments, looked_by_first, starved_alike, judged_on, unopened_on}
 use Rattle.image_runs.proofs.load.carry_out.Goals as goal
 
 pub returns-in-Ok-clause-loaded : goal.returns-in-Ok-clause-loaded
@@ -53,7 +54,17 @@ pub returns-in-Ok-clause-untouched : goal.returns-in-Ok-clause-untouched
 returns-in-Ok-clause-untouched g c told foreign = absurd (not_foreign _ (c.in-Ok.ensures.read told) foreign)
 
 pub returns-in-Ok-clause-spared : goal.returns-in-Ok-clause-spared
-returns-in-Ok-clause-spared g c told = spared_on _ c.run.result c.run.ensures.stops
+returns-in-Ok-clause-spared g c told bad = absurd (bad (c.in-Ok.ensures.read told))
+
+pub returns-in-Ok-clause-looked : goal.returns-in-Ok-clause-looked
+returns-in-Ok-clause-looked g c told =
+    let old = g.D.Device.view c.args.dev.now in
+    looked_by_first c.run.result g.D.Device.view old c.open_volume.new.dev c.run.new.dev _ _ _ _ (looked old (g.D.Device.view c.open_volume.new.dev) (c.open_volume.ensures.uses told) (c.open_volume.ensures.unwritten told))
+    (c.run.ensures.first told)
+
+pub returns-in-Err-clause-looked : goal.returns-in-Err-clause-looked
+returns-in-Err-clause-looked g c told memory =
+    looked (g.D.Device.view c.args.dev.now) (g.D.Device.view c.open_volume.new.dev) (c.open_volume.ensures.uses told) (c.open_volume.ensures.unwritten told)
 
 pub returns-in-Err-clause-no_memory : goal.returns-in-Err-clause-no_memory
 returns-in-Err-clause-no_memory g c told memory = c.open_volume.ensures.any_moment told

@@ -76,3 +76,18 @@ pub returns-in-Err-put_all-clause-behind : goal.returns-in-Err-put_all-clause-be
 returns-in-Err-put_all-clause-behind g c told firm =
     let old = g.P.Device.view c.args.port.now in
     behind_said (behind (size_of_image old.reads)) _ old (g.P.Device.view c.carry_out.new.dev) (g.P.Device.view c.put_all.new.port) (g.met.P.Device.sound c.carry_out.new.dev told) (c.carry_out.ensures.behind told firm) (c.put_all.ensures.any_moment told)
+
+pub returns-in-Ok-put_all-clause-spared : goal.returns-in-Ok-put_all-clause-spared
+returns-in-Ok-put_all-clause-spared g c told bad = absurd (bad (c.in-Ok.ensures.loaded told).load.good)
+
+pub returns-in-Err-put_all-clause-spared : goal.returns-in-Err-put_all-clause-spared
+returns-in-Err-put_all-clause-spared g c told bad = absurd (bad (c.in-Ok.ensures.loaded told).load.good)
+
+pub returns-in-Err-clause-looked : goal.returns-in-Err-clause-looked
+returns-in-Err-clause-looked g c told = c.in-Err.ensures.looked told
+
+pub returns-in-Ok-put_all-clause-looked : goal.returns-in-Ok-put_all-clause-looked
+returns-in-Ok-put_all-clause-looked g c told e = absurd (cc)
+
+pub returns-in-Err-put_all-clause-looked : goal.returns-in-Err-put_all-clause-looked
+returns-in-Err-put_all-clause-looked g c told e = absurd (cc)

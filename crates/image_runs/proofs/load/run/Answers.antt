@@ -41,3 +41,6 @@ returns-in-Err-clause-behind g c told =
     let mid = g.D.Device.view c.apply_all.new.dev in
     aside_then (behind c.args.core.now.volume.tables.geometry) (behind c.apply_all.new.core.volume.tables.geometry) (g.D.Device.view c.args.dev.now) mid (g.D.Device.view c.close.new.dev)
     (g.met.D.Device.sound c.apply_all.new.dev told) (ap behind c.apply_all.ensures.size) (c.apply_all.ensures.behind told) (c.close.ensures.behind told)
+
+pub returns-in-Err-clause-first : goal.returns-in-Err-clause-first
+returns-in-Err-clause-first g c told e = absurd (cc)

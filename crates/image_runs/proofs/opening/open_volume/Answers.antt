@@ -1,9 +1,9 @@
 use Rattle.std.proofs.Common.{◌≡◌, sym, ◌∙◌, ap, subst, arith}
 use Rattle.std.specs.Prelude.{Err}
-use Rattle.image_runs.proofs.Common.{OpenFault, Status, home, owed, IsJudged, IsNotImage, IsUnopened, size_of_image}
+use Rattle.image_runs.proofs.Common.{OpenFault, Status, home, owed, IsJudged, IsUnopened, size_of_image}
 use Rattle.tsd_words.specs.declared.status.Status.TheVariants as status
 use Rattle.image_runs.proofs.Behind.{behind_kept}
-use Rattle.image_runs.proofs.Opened.{image_fault_of, flag_of, judged_of, unopened_of, device_of, device_only}
+use Rattle.image_runs.proofs.Opened.{flag_of, judged_of, unopened_of, device_of, device_only}
 use Rattle.image_runs.proofs.opening.open_volume.Goals as goal
 
 pub returns-in-Err-clause-read : goal.returns-in-Err-clause-read
@@ -37,10 +37,6 @@ returns-in-Err-clause-any_debt g c told firm still = c.open_image.ensures.any_ow
 
 pub returns-in-Err-clause-unwritten : goal.returns-in-Err-clause-unwritten
 returns-in-Err-clause-unwritten g c told quiet = omega (arith, (c.open_image.ensures.unwritten told quiet).most)
-
-pub returns-in-Err-clause-spared : goal.returns-in-Err-clause-spared
-returns-in-Err-clause-spared g c told h =
-    c.in-Err.ensures.spared told (image_fault_of c.in-Err.why (subst (λ (r : Status). IsNotImage r) c.status_of.ensures h))
 
 pub returns-in-Ok-clause-behind : goal.returns-in-Ok-clause-behind
 returns-in-Ok-clause-behind g c told firm =

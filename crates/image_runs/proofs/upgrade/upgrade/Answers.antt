@@ -1,5 +1,5 @@
 use Rattle.std.proofs.Common.{inl}
-use Rattle.image_runs.proofs.Common.{IsJudged, IsNotImage, IsUnopened, IsSpared, weakened}
+use Rattle.image_runs.proofs.Common.{IsJudged, IsUnopened, weakened}
 use Rattle.image_runs.proofs.Behind.{behind_then, size_of_volume}
 use Rattle.image_runs.proofs.Opened.{not_foreign}
 use Rattle.image_runs.proofs.Upgraded.{by_device, counted_since, not_for_memory, upgrade_moments, upgraded_there}
@@ -40,8 +40,7 @@ pub returns-in-Ok-clause-untouched : goal.returns-in-Ok-clause-untouched
 returns-in-Ok-clause-untouched g c told foreign = absurd (not_foreign _ (c.in-Ok.ensures.read told) foreign)
 
 pub returns-in-Ok-clause-spared : goal.returns-in-Ok-clause-spared
-returns-in-Ok-clause-spared g c told =
-    by_device (λ why. IsNotImage why → IsSpared (g.D.Device.view c.args.dev.now) (g.D.Device.view c.upgrade_at.new.dev)) c.upgrade_at.result c.upgrade_at.ensures.failed (λ h. absurd h)
+returns-in-Ok-clause-spared g c told bad = absurd (bad (c.in-Ok.ensures.read told))
 
 pub returns-in-Ok-clause-behind : goal.returns-in-Ok-clause-behind
 returns-in-Ok-clause-behind g c told firm =

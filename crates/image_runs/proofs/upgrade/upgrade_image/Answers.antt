@@ -66,3 +66,9 @@ pub returns-in-Err-put_all-clause-behind : goal.returns-in-Err-put_all-clause-be
 returns-in-Err-put_all-clause-behind g c told firm =
     let old = g.P.Device.view c.args.port.now in
     behind_said (behind (size_of_image old.reads)) _ old (g.P.Device.view c.upgrade.new.dev) (g.P.Device.view c.put_all.new.port) (g.met.P.Device.sound c.upgrade.new.dev told) (c.upgrade.ensures.behind told firm) (c.put_all.ensures.any_moment told)
+
+pub returns-in-Ok-put_all-clause-spared : goal.returns-in-Ok-put_all-clause-spared
+returns-in-Ok-put_all-clause-spared g c told bad = absurd (bad (c.in-Ok.ensures.upgraded told).upgrade.good)
+
+pub returns-in-Err-put_all-clause-spared : goal.returns-in-Err-put_all-clause-spared
+returns-in-Err-put_all-clause-spared g c told bad = absurd (bad (c.in-Ok.ensures.upgraded told).upgrade.good)

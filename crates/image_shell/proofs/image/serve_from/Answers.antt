@@ -12,7 +12,7 @@ use Rattle.image_world.proofs.CapsLaws.{loaded_is_no_fault}
 use Rattle.tsd_words.specs.declared.status.Status.TheVariants as status
 use Rattle.tsd_model.specs.Step.{State}
 use Rattle.core_blocks.proofs.BehindLaws.{behind_after, size_at}
-use Rattle.image_shell.proofs.StartLaws.{admitted_image, judged_start, not_served_by, ran_opened, ran_unopened, start_here}
+use Rattle.image_shell.proofs.StartLaws.{judged_start, not_served_by, ran_opened, ran_unopened, start_here}
 use Rattle.image_shell.proofs.image.serve_from.Goals as goal
 
 pub serve_opened-requires-clause-at : goal.serve_opened-requires-clause-at
@@ -52,13 +52,13 @@ pub returns-in-Ok-clause-untouched : goal.returns-in-Ok-clause-untouched
 returns-in-Ok-clause-untouched g c told foreign = absurd (not_foreign _ (c.in-Ok.ensures.read told) foreign)
 
 pub returns-in-Ok-clause-spared : goal.returns-in-Ok-clause-spared
-returns-in-Ok-clause-spared g c told h = absurd (admitted_image c.args.root c.args.cap.now g.K.Started.start c.serve_opened.result (c.serve_opened.ensures.allowed told) h)
+returns-in-Ok-clause-spared g c told bad = absurd (bad (c.in-Ok.ensures.read told))
 
 pub returns-in-Err-clause-untouched : goal.returns-in-Err-clause-untouched
 returns-in-Err-clause-untouched g c = c.open_core.ensures.untouched
 
 pub returns-in-Err-clause-spared : goal.returns-in-Err-clause-spared
-returns-in-Err-clause-spared g c told h = c.in-Err.ensures.spared told h
+returns-in-Err-clause-spared g c = c.open_core.ensures.spared
 
 pub returns-in-Ok-clause-behind : goal.returns-in-Ok-clause-behind
 returns-in-Ok-clause-behind g c told firm =

@@ -1,6 +1,7 @@
 use Rattle.std.proofs.Common.{refl, sym, arith, append-nil}
 use Rattle.image_device.proofs.Parts.{part_stays}
 use Rattle.image_world.specs.Behind.{behind, size_of_image}
+use Rattle.recovery.proofs.SparedLaws.{spared_start}
 use Rattle.image_shell.proofs.StartLaws.{ran_unstarted}
 use Rattle.image_shell.proofs.kinds.serve_chain_image.Goals as goal
 
@@ -21,3 +22,6 @@ returns-in-Err-clause-prompt g c told served = absurd (served tt)
 
 pub returns-in-Err-clause-opened : goal.returns-in-Err-clause-opened
 returns-in-Err-clause-opened g c told alone = record { most = omega arith; quiet = λ quiet. omega arith }
+
+pub returns-in-Err-clause-spared : goal.returns-in-Err-clause-spared
+returns-in-Err-clause-spared g c told bad = spared_start (g.P.Device.view c.args.port.now) (g.met.P.Device.sound c.args.port.now told)

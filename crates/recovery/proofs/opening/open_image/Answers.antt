@@ -1,10 +1,8 @@
 use Rattle.std.proofs.Common.{refl, ◌∙◌, ap, sym, subst, arith, rules}
-use Rattle.std.specs.Prelude.{Err}
 use Rattle.recovery.proofs.Common.{uses_and, Image, says_open, HasHead}
 use Rattle.recovery.proofs.OpenRuns.{synced, read_still, opened_start, opened_sync, opened_head, opened_replay, replayed, loaded, opened_load, stood, opened_finish, opened_err, opened_device, is_device, quiet_uses, quiet_finish, quiet_paid, unwritten, owed_start, owed_sync, owed_head, owed_replay, owed_load, owed_finish, right_head}
 use Rattle.recovery.proofs.OpenCosts.{costs_none, costs_start, uses_replay, costs_replay, uses_load, costs_finish, costs_paid}
-use Rattle.recovery.proofs.SparedLaws.{by_image, by_other, by_replay, spared_head, spared_bad, spared_load, data_start_of, data_sync, data_head, data_replay, data_load, data_finish}
-use Rattle.recovery.specs.declared.fault.OpenFault.TheVariants as fault
+use Rattle.recovery.proofs.SparedLaws.{spared_start, spared_sync, spared_head, spared_replay, spared_load, data_start_of, data_sync, data_head, data_replay, data_load, data_finish}
 use Rattle.volume_laws.proofs.StepOps.{either_same}
 use Rattle.recovery.proofs.opening.open_image.Goals as goal
 
@@ -184,32 +182,39 @@ returns-clause-untouched g c told none =
     absurd (none c.in_ok-header.header (subst (λ (r : Image). HasHead r c.in_ok-header.header) (c.sync.ensures.settles told).reads (c.in_ok-header.ensures.head told)))
 
 pub returns-in_err-ring-clause-spared : goal.returns-in_err-ring-clause-spared
-returns-in_err-ring-clause-spared g c told = by_other c.from_residual.result fault.NoMemory _ c.from_residual.ensures.1 (λ h. h)
+returns-in_err-ring-clause-spared g c told bad = spared_start _ (g.met.D.Device.sound c.args.dev.now told)
 
 pub returns-in_err-sync-clause-spared : goal.returns-in_err-sync-clause-spared
-returns-in_err-sync-clause-spared g c told = by_other c.from_residual-in_err-sync.result fault.Device _ c.from_residual-in_err-sync.ensures.1 (λ h. h)
+returns-in_err-sync-clause-spared g c told bad = spared_sync _ _ (g.met.D.Device.sound c.args.dev.now told) (c.sync.ensures.settles told) c.sync.ensures.uses
 
 pub returns-in_err-header-clause-spared : goal.returns-in_err-header-clause-spared
-returns-in_err-header-clause-spared g c told =
-    by_image c.from_residual-in_err-header.result _
-    (spared_head _ _ _ (g.met.D.Device.sound c.args.dev.now told) (c.in_ok-sync.ensures.firm told) (c.sync.ensures.settles told) (c.read_head.ensures.rests told) (uses_and 0 0 0 _ _ _ (omega arith) c.sync.ensures.uses c.read_head.ensures.uses))
+returns-in_err-header-clause-spared g c told bad =
+    spared_head _ _ _ (g.met.D.Device.sound c.args.dev.now told) (c.in_ok-sync.ensures.firm told) (c.sync.ensures.settles told) (c.read_head.ensures.rests told) (uses_and 0 0 0 _ _ _ (omega arith) c.sync.ensures.uses c.read_head.ensures.uses)
 
 pub returns-in_err-replay-clause-spared : goal.returns-in_err-replay-clause-spared
-returns-in_err-replay-clause-spared g c told =
-    by_replay c.from_residual-in_err-replay.result _ _ c.from_residual-in_err-replay.ensures.1
-    (λ bad. let rests = (c.in_err-replay.ensures.bad told (λ i. Err (bad i))).1 in
-    spared_bad _ _ _ _ (g.met.D.Device.sound c.args.dev.now told) (c.in_ok-sync.ensures.firm told) (c.sync.ensures.settles told) (c.read_head.ensures.rests told) rests
-    (uses_and 0 0 0 _ _ _ (omega arith) (uses_and 0 0 0 _ _ _ (omega arith) c.sync.ensures.uses c.read_head.ensures.uses) (c.in_err-replay.ensures.unwritten (λ i. Err (bad i)))))
+returns-in_err-replay-clause-spared g c told bad =
+    spared_replay _ _ _ _ (g.met.D.Device.sound c.args.dev.now told) (g.met.D.Device.sound c.replay.new.dev told) (c.in_ok-sync.ensures.firm told) (c.sync.ensures.settles told) (c.read_head.ensures.rests told)
+    (c.replay.ensures.any_moment told) (uses_and 0 0 0 _ _ _ (omega arith) c.sync.ensures.uses c.read_head.ensures.uses) (c.replay.ensures.needed told)
 
 pub returns-in_err-volume-clause-spared : goal.returns-in_err-volume-clause-spared
-returns-in_err-volume-clause-spared g c told =
-    by_image c.from_residual-in_err-volume.result _
-    (spared_load _ _ _ _ _ (g.met.D.Device.sound c.args.dev.now told) (c.in_ok-sync.ensures.firm told) (c.sync.ensures.settles told) (c.read_head.ensures.rests told) (c.replay.ensures.any_moment told)
+returns-in_err-volume-clause-spared g c told bad =
+    spared_load _ _ _ _ _ (g.met.D.Device.sound c.args.dev.now told) (c.in_ok-sync.ensures.firm told) (c.sync.ensures.settles told) (c.read_head.ensures.rests told) (c.replay.ensures.any_moment told)
     (c.in_ok-replay.ensures.at told) (c.in_ok-replay.ensures.done told) (c.in_ok-replay.ensures.valid told) (c.in_ok-replay.ensures.firm told) (c.load.ensures.rests told)
-    (uses_and 0 0 0 _ _ _ (omega arith) c.sync.ensures.uses c.read_head.ensures.uses) (c.replay.ensures.needed told) c.load.ensures.uses)
+    (uses_and 0 0 0 _ _ _ (omega arith) c.sync.ensures.uses c.read_head.ensures.uses) (c.replay.ensures.needed told) c.load.ensures.uses
 
 pub returns-in_err-finish-clause-spared : goal.returns-in_err-finish-clause-spared
-returns-in_err-finish-clause-spared g c told = by_other c.from_residual-in_err-finish.result fault.Device _ c.from_residual-in_err-finish.ensures.1 (λ h. h)
+returns-in_err-finish-clause-spared g c told bad =
+    let still = read_still _ _ _ (synced _ _ (c.in_ok-sync.ensures.firm told) (c.sync.ensures.settles told)) (c.read_head.ensures.rests told) in
+    let done = replayed _ _ _ still (c.in_ok-replay.ensures.at told) (c.in_ok-replay.ensures.done told) (c.in_ok-replay.ensures.valid told) (c.in_ok-replay.ensures.firm told) (c.replay.ensures.sent told) in
+    let now = loaded _ _ _ done (c.load.ensures.rests told) in
+    absurd (bad (stood _ _ now (c.in_ok-volume.ensures.at told).good).good)
+
+pub returns-clause-spared : goal.returns-clause-spared
+returns-clause-spared g c told bad =
+    let still = read_still _ _ _ (synced _ _ (c.in_ok-sync.ensures.firm told) (c.sync.ensures.settles told)) (c.read_head.ensures.rests told) in
+    let done = replayed _ _ _ still (c.in_ok-replay.ensures.at told) (c.in_ok-replay.ensures.done told) (c.in_ok-replay.ensures.valid told) (c.in_ok-replay.ensures.firm told) (c.replay.ensures.sent told) in
+    let now = loaded _ _ _ done (c.load.ensures.rests told) in
+    absurd (bad (stood _ _ now (c.in_ok-volume.ensures.at told).good).good)
 
 pub returns-in_err-ring-clause-data_kept : goal.returns-in_err-ring-clause-data_kept
 returns-in_err-ring-clause-data_kept g c told firm = data_start_of _ (g.met.D.Device.sound c.args.dev.now told) firm

@@ -23,6 +23,7 @@ returns-in-Load-clause-did g c =
         any_moment = λ told firm. subst (λ (k : PlaceKind). LeavesOnly port.old port.new (IsLeftOfLoad k words.seed words.count port.old)) c.pick.ensures (c.load_image.ensures.any_moment told firm);
         spared = record { foreign = c.load_image.ensures.untouched; damaged = c.load_image.ensures.spared; behind = c.load_image.ensures.behind };
         no_memory = c.load_image.ensures.no_memory;
+        looked = c.load_image.ensures.looked;
       },
     )
 
@@ -39,6 +40,7 @@ returns-in-CopyFs-clause-did g c =
         copied = c.copy_image.ensures.copied;
         any_moment = c.copy_image.ensures.any_moment;
         not_begun = c.copy_image.ensures.not_begun;
+        looked = c.copy_image.ensures.looked;
         spared = record { foreign = c.copy_image.ensures.untouched; damaged = c.copy_image.ensures.spared; behind = c.copy_image.ensures.behind };
       },
     )
