@@ -301,8 +301,8 @@ def many_results(context: Context) -> Iterator[Result]:
 
 
 def asked_results(context: Context, site: Site, tree: Plain) -> Iterator[Result]:
-    """How often the image is called: by a copy of a tree of chains no more often than by the shell that lists its names,
-    reads each file and puts it under the other root. So nothing is read in vain, and nothing is made twice."""
+    """How often the image is called: by a copy of a tree of chains no more often than by the shell that lists its
+    names, reads each file and puts it under the other root. So nothing is read in vain, and nothing is made twice."""
     name = "4,096 names, calls of the image"
     if context.compiler is None:
         yield skipped(name, "no C compiler was found")
