@@ -10,6 +10,7 @@ from __future__ import annotations
 
 import random
 import signal
+from collections import Counter
 from pathlib import Path
 from typing import Callable, Iterator, List, NamedTuple, Optional, Sequence, Tuple
 
@@ -26,7 +27,7 @@ from judging import Different
 from mirror import without_end
 from parts import Context, Result, compared, failed, passed, skipped
 from program import Program, Run, without_copying, write_image
-from recording import READ, NoRecorder, Recorder, Recording
+from recording import READ, SYNC, WRITE, NoRecorder, Recorder, Recording
 
 NAME = "copies"
 USAGE, ROOT_DENIED, DEVICE_FAULT, OUTPUT_FAULT, SIDE_LOST = 2, 10, 4, 6, 11
@@ -294,15 +295,15 @@ def many_results(context: Context) -> Iterator[Result]:
     yield tried("4,096 names of chains, made", lambda: site.make(CHAINS_0, lines))
     line = copied_line(tree)
     yield tried("4,096 names, from chains to chains", lambda: many(site, CHAINS_1, tree, line, 2 * clusters))
-    yield from read_results(context, site, tree)
+    yield from asked_results(context, site, tree)
     held = clusters + 2 * MOST_INODE_NAMES
     yield tried("4,096 names, to inodes", lambda: many(site, INODES_1, first, b"no dir-full\n", held))
 
 
-def read_results(context: Context, site: Site, tree: Plain) -> Iterator[Result]:
-    """How often the image is read: by a copy of a tree of chains no more often than by the shell that lists the names,
-    reads each file and puts it under the other root."""
-    name = "4,096 names, reads of the image"
+def asked_results(context: Context, site: Site, tree: Plain) -> Iterator[Result]:
+    """How often the image is called: by a copy of a tree of chains no more often than by the shell that lists its
+    names, reads each file and puts it under the other root. So nothing is read in vain, and nothing is made twice."""
+    name = "4,096 names, calls of the image"
     if context.compiler is None:
         yield skipped(name, "no C compiler was found")
         return
@@ -311,24 +312,26 @@ def read_results(context: Context, site: Site, tree: Plain) -> Iterator[Result]:
     except NoRecorder as no_recorder:
         yield skipped(name, str(no_recorder))
         return
-    yield tried(name, lambda: fewer_reads(site, recorder, tree))
+    yield tried(name, lambda: no_more_calls(site, recorder, tree))
 
 
-def fewer_reads(site: Site, recorder: Recorder, tree: Plain) -> str:
-    """Counts the reads of both ways from the first root to the second one, in this order."""
+def no_more_calls(site: Site, recorder: Recorder, tree: Plain) -> str:
+    """Counts the calls of both ways from the first root to the second one, which has the tree before each."""
     assert isinstance(tree, dict)
     looks = [b"ls /", *(b"cat /" + name for name in sorted(tree))]
-    puts = [b"mkfs", *(line for line in steps_of(tree) if line != b"mkfs")]
     counts = []
-    for words, lines in ((copying(CHAINS_0, CHAINS_1), []), (shelling(CHAINS_0), looks), (shelling(CHAINS_1), puts)):
-        recording = recorder.run(site.path, words, b"".join(line + b"\n" for line in lines), ())
+    for words, lines in ((copying(CHAINS_0, CHAINS_1), []), (shelling(CHAINS_0), looks),
+                         (shelling(CHAINS_1), list(steps_of(tree)))):
+        recording = recorder.run(site.path, words, b"".join(line + b"\n" for line in lines))
         if recording.status or recording.error or b"no " in recording.out:
             raise Different(f"{words[0]} ended with {recording.status} and {recording.error!r}: {recording.out[:80]!r}")
-        counts.append(sum(event.kind == READ for event in recording.events))
+        counts.append(Counter(event.kind for event in recording.events))
     copied, looked, put = counts
-    if copied > looked + put:
-        raise Different(f"a copy takes {copied} reads, the shell {looked} and {put}")
-    return f"{copied} by a copy, {looked} and {put} by the shell"
+    said = [f"{copied[kind]} {what} by a copy, {looked[kind]} and {put[kind]} by the shell"
+            for kind, what in ((READ, "reads"), (WRITE, "writes"), (SYNC, "syncs"))]
+    if any(copied[kind] > looked[kind] + put[kind] for kind in (READ, WRITE, SYNC)):
+        raise Different("; ".join(said))
+    return "; ".join(said)
 
 
 def many(site: Site, target: Side, tree: Plain, line: bytes, held: int) -> None:
