@@ -53,8 +53,9 @@ pub fn serve_in_groups<
     /// promise: **Each image that a crash at any moment leaves, with the bytes sent by then, is of a prefix**: it
     /// stands for the state after the first requests of the input, and no more was sent than the replies that the rules
     /// give to those, in order. So it holds each request of whose reply something was sent. What no request touches is
-    /// as it was. Unless a call on the device or a put failed, or there was no memory, all were answered. (There is
-    /// such a record of what is left; none is picked.)
+    /// as it was. By the status all replies were sent; where the device failed or there was no memory, those to the
+    /// first requests, each whole; where a put failed, a front of such. (There is such a record of what is left; none
+    /// is picked.)
     ensures ran { RanInGroups result.1 (spoken H.rules R.voice) R.spelling (H.aside server.old)
         (H.state server.old (P.view port).reads) (H.state server.new (P.view result.0).reads) limit
         (taking S.told S.taken S.left_bytes S.ended source.old source.new) (moments P.told P.view port result.0) }

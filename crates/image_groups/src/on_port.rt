@@ -39,7 +39,7 @@ pub fn serve_port_in_groups<S: Source, P: Port, R: Protocol<Request = Request> +
     /// it is.
     ensures ran { ImageRanInGroups result R.voice R.spelling placement.now.kind limit
         (taking S.told S.taken S.left_bytes S.ended source.old source.new) (moments P.told P.view port.old port.new) }
-    /// promise: So it is of its rounds.
+    /// promise: What `serve_image_in_groups` says of its rounds holds of such a port too.
     ensures rounds { P.told → ImageRanByRounds result R.voice R.spelling placement.now.kind (IsOfPort P.view) limit
         (taking S.told S.taken S.left_bytes S.ended source.old source.new) (P.view port.old) (P.view port.new) }
     // Where the image fails one of the tests that need no write, nothing is written, and the disk reads as before;
