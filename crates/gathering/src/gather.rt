@@ -116,8 +116,8 @@ impl<P: Port, K: Began> Gather<P, K> {
         }
     }
 
-    /// Leaves a group off: nothing is committed, and nothing sent. Its batch stays in the room, for a group that goes on
-    /// with it; what was put is gone. The fault `Put` never comes.
+    /// Leaves a group off: nothing is committed, and nothing sent. Its batch stays in the room, for a group that goes
+    /// on with it; what was put is gone. The fault `Put` never comes.
     pub fn suspend(self) -> Flushed<P>
         /// promise (with at, reads, loose, sent, any_moment): What the disk in memory holds outside the journal is what
         /// the batch in the room makes of what the real disk stands for, and that was only read: so a crash leaves what

@@ -10,8 +10,8 @@
 //! sent. Of a group in which a call failed nothing counts.
 //!
 //! A group may be left off and gone on with: `suspend` gives its batch back in the [`Room`], uncommitted, and `resume`
-//! begins with it. So requests that are carried out one at a time, each over a disk in memory of its own, are one batch.
-//! A room is all the memory that groups need, and is taken once.
+//! begins with it. So requests that are carried out one at a time, each over a disk in memory of its own, are one
+//! batch. A room is all the memory that groups need, and is taken once.
 //!
 //! What the disk in memory stands for while requests are under way is asked of the crates above: `gathering_laws` has
 //! what follows for the world of an image.
