@@ -1,5 +1,6 @@
 // Requests carried out on a disk in memory.
-ghost use Rattle.std.specs.Prelude.{◌≡◌, ◌<◌, ◌≤◌, ◌++◌, ◌⊎◌, ◌∷◌, [], ℕ, List, Ok, OnOk, OnErr, IfOk, true, false, unwrap_or};
+ghost use Rattle.std.specs.Prelude.{◌≡◌, ◌<◌, ◌≤◌, ◌++◌, ◌⊎◌, ◌∷◌, [], ℕ, List, Ok, OnOk, OnErr, IfOk};
+ghost use Rattle.std.specs.Prelude.{true, false, unwrap_or};
 ghost use Rattle.image_device.specs.Counts.{Rose};
 ghost use Rattle.gathering.specs.Gathered.{AreClosed};
 ghost use Rattle.serving.specs.Goes.{remaining, unread};

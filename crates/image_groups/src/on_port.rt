@@ -35,8 +35,8 @@ pub fn serve_port_in_groups<S: Source, P: Port, R: Protocol<Request = Request> +
     ensures read { P.told → IsJudged (P.view port.old).reads result }
     // What came in and what was sent, by status; what a crash at any moment may have left; and what the disk is after
     // Done.
-    /// promise: What `serve_image_in_groups` says of a port that it takes and gives back holds of a port that stays where
-    /// it is.
+    /// promise: What `serve_image_in_groups` says of a port that it takes and gives back holds of a port that stays
+    /// where it is.
     ensures ran { ImageRanInGroups result R.voice R.spelling placement.now.kind limit
         (taking S.told S.taken S.left_bytes S.ended source.old source.new) (moments P.told P.view port.old port.new) }
     /// promise: What `serve_image_in_groups` says of its rounds holds of such a port too.

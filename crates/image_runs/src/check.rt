@@ -38,7 +38,8 @@ pub fn check_image<P: Port>(alloc: Global, port: &mut P, telling: Telling) -> St
     ensures ending { IsEnding result }
     /// promise: After Done and NotImage one line: `clean` with the numbers of the world for which the image stands, or
     /// the first test that it fails; Done comes with the one, NotImage with the other. Or the lines of `info`.
-    ensures said { P.told → HasChecked telling result (P.view port.old).reads (P.view port.old).sent (P.view port.new).sent }
+    ensures said { P.told → HasChecked telling result (P.view port.old).reads (P.view port.old).sent
+        (P.view port.new).sent }
     /// promise (with spared): Where the image fails one of the first three tests, nothing is written, and it reads as
     /// before; where it fails another, nothing is lost that a repair could use, whatever is answered.
     ensures untouched { P.told → IsForeign (P.view port.old).reads
@@ -47,7 +48,8 @@ pub fn check_image<P: Port>(alloc: Global, port: &mut P, telling: Telling) -> St
     /// promise: Each image left stands for the same world, or for none where the image stood for none; nothing was sent
     /// by then, or a front of those lines.
     ensures any_moment { P.told → IsFirm (P.view port.old) → LeavesOnly (P.view port.old) (P.view port.new)
-        (λ x f. StandAlike (P.view port.old).reads x × IsSaying telling (P.view port.old).reads (P.view port.old).sent f) }
+        (λ x f. StandAlike (P.view port.old).reads x
+        × IsSaying telling (P.view port.old).reads (P.view port.old).sent f) }
     /// promise (with kept): Where nothing is left to be done on the image nothing is written, and else no more than
     /// an opening writes, however it ends; the data of all blocks is as it was in each image left, of free ones too.
     ensures only { P.told → OnlyLooks (P.view port.old) (P.view port.new) }

@@ -42,9 +42,9 @@ pub fn tsd_mirror<S: Source, P: Sides + Drop, K: Began>(
         ≡ None) }
     ensures untouched_source { result.0 ≡ MirrorStatus.Ended Status.Usage → source.new ≡ source.old }
     ensures untouched_sides { result.0 ≡ MirrorStatus.Ended Status.Usage → result.1 ≡ sides }
-    /// promise: Any command does over the mirror, from when it began to its end, what it does over one image; or it ended
-    /// in the tests of the first side; or that side failed in the copying, and nothing else was done. The copying, done
-    /// before the mirror began, wrote no more sectors of the second side than differed.
+    /// promise: Any command does over the mirror, from when it began to its end, what it does over one image; or it
+    /// ended in the tests of the first side; or that side failed in the copying, and nothing else was done. The copying,
+    /// done before the mirror began, wrote no more sectors of the second side than differed.
     ensures did { result.0 ≢ MirrorStatus.Ended Status.Usage → let old = P.view sides in
         let new = P.view result.1 in
         let taken = taking S.told S.taken S.left_bytes S.ended source.old source.new in
@@ -53,8 +53,8 @@ pub fn tsd_mirror<S: Source, P: Sides + Drop, K: Began>(
         × DidOver (command_of (map string_bytes words.now.items)) result.0 taken old new c
         (moments P.told ⟦<Mirror<P, K> as Device>⟧.view m n)
         × (P.told → WritesWhatDiffers old (P.view m.sides.sides))) }
-    /// promise: **Where the first image stands for no world, a command that opens an image leaves both as they were**, at
-    /// each moment, with what was loose before alone, and the second one with the same counts of syncs and faults.
+    /// promise: **Where the first image stands for no world, a command that opens an image leaves both as they were**,
+    /// at each moment, with what was loose before alone, and the second one with the same counts of syncs and faults.
     ensures spares_second { P.told → OpensImage (command_of (map string_bytes words.now.items))
         → StandsForNone (P.view sides).first.reads → AreSpared (P.view sides) (P.view result.1) }
     // The headline holds of each side that is sound, at each moment.
