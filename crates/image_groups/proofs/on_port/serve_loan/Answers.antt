@@ -7,6 +7,7 @@ use Rattle.image_runs.specs.Served.{disk_service}
 use Rattle.image_runs.specs.Server.{disk_work}
 use Rattle.gathering_runs.proofs.Rounds.{ran_over}
 use Rattle.image_groups.proofs.Opened.{of_same, ran_alike}
+use Rattle.recovery.specs.Opening.{SparesDamaged}
 use Rattle.image_groups.proofs.on_port.serve_loan.Goals as goal
 
 pub returns-clause-ran : goal.returns-clause-ran
@@ -38,3 +39,7 @@ returns-clause-rounds g c told =
       nothing_sent = ran.nothing_sent;
       rounds = ran_over (disk_service g.R.Replies.voice) disk_work _ (IsOfPort view) (λ m here. (here.0.loan.port.now, here.1)) r g.R.Protocol.spelling c.args.limit _ source _ _ ran.rounds;
     })
+
+pub returns-clause-spared : goal.returns-clause-spared
+returns-clause-spared g c told =
+    of_same (λ x y. SparesDamaged (g.P.Device.view x) (g.P.Device.view y)) _ _ _ _ c.new-lent.ensures (sym c.into_loan.ensures.port) (c.serve_image_in_groups-lent.ensures.spared told)

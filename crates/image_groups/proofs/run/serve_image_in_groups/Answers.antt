@@ -11,7 +11,7 @@ use Rattle.image_runs.specs.Served.{disk_service, start_of}
 use Rattle.image_runs.specs.Server.{disk_work}
 use Rattle.gathering_runs.specs.Rounds.{RanByRounds}
 use Rattle.gathering_runs.proofs.Rounds.{near_none, ran_by_rounds, so_far_none, take_none}
-use Rattle.image_groups.proofs.Opened.{asked_groups, behind_opened, ends_opened, ends_unopened, judged_groups, ok_no_err}
+use Rattle.image_groups.proofs.Opened.{behind_opened, ends_opened, ends_unopened, judged_groups, ok_no_err}
 use Rattle.image_groups.proofs.run.serve_image_in_groups.Goals as goal
 
 pub returns-in-Ok-clause-read : goal.returns-in-Ok-clause-read

@@ -45,7 +45,8 @@ pub returns-clause-before : goal.returns-clause-before
 returns-clause-before g c = λ told bounded.
     on_left _ c.apply_into.result c.apply_into.new.into
     (before_reply c.args.self.now.placement.now.kind c.args.self.now.core.now c.args.request.now (g.D.Device.view c.args.dev.now) (g.D.Device.view c.apply_into.new.dev) _ (left_in c.apply_into.result c.apply_into.new.into) _
-    (λ same. ap (λ d. (g.D.Device.view d).writes) same) (c.requires.at told).1 (c.apply_into.ensures.applied.limit bounded) (c.apply_into.ensures.applied.given told) c.apply_into.ensures.asks_nothing)
+    (λ same. ap (λ d. (g.D.Device.view d).writes) same) (g.met.D.Device.sound c.args.dev.now told) (c.requires.at told).1 bounded (c.apply_into.ensures.applied.limit bounded)
+    (λ one. (c.apply_into.ensures.applied.once one).most) (c.apply_into.ensures.applied.given told) c.apply_into.ensures.asks_nothing)
 
 pub returns-clause-refused : goal.returns-clause-refused
 returns-clause-refused g c =
