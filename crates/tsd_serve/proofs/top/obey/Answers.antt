@@ -54,3 +54,51 @@ pub returns-in-Group-clause-rounds : goal.returns-in-Group-clause-rounds
 returns-in-Group-clause-rounds g c told =
     let source = taking g.S.Source.told g.S.Source.taken g.S.Source.left_bytes g.S.Source.ended c.args.source.now c.group_frames.new.source in
     subst (λ (x : Command). AnswersByRounds (Some x) c.group_frames.result source g.P.Device.view c.args.port.now c.group_frames.new.port) (sym c.in-Group.is) (c.group_frames.ensures.rounds told)
+
+pub returns-in-Check-clause-did : goal.returns-in-Check-clause-did
+returns-in-Check-clause-did g c =
+    let source = taking g.S.Source.told g.S.Source.taken g.S.Source.left_bytes g.S.Source.ended c.args.source.now c.args.source.now in
+    let port = moments g.P.Device.told g.P.Device.view c.args.port.now c.check_image.new.port in
+    let r = c.check_image.result in
+    subst (λ (x : Command). Did (Some x) r source port) (sym c.in-Check.is) (
+      refl,
+      record {
+        ending = c.check_image.ensures.ending;
+        said = c.check_image.ensures.said;
+        any_moment = c.check_image.ensures.any_moment;
+        looks = record { only = c.check_image.ensures.only; kept = c.check_image.ensures.kept };
+        spared = record { foreign = c.check_image.ensures.untouched; damaged = c.check_image.ensures.spared; behind = c.check_image.ensures.behind };
+      },
+    )
+
+pub returns-in-Info-clause-did : goal.returns-in-Info-clause-did
+returns-in-Info-clause-did g c =
+    let source = taking g.S.Source.told g.S.Source.taken g.S.Source.left_bytes g.S.Source.ended c.args.source.now c.args.source.now in
+    let port = moments g.P.Device.told g.P.Device.view c.args.port.now c.check_image-in-Info.new.port in
+    let r = c.check_image-in-Info.result in
+    subst (λ (x : Command). Did (Some x) r source port) (sym c.in-Info.is) (
+      refl,
+      record {
+        ending = c.check_image-in-Info.ensures.ending;
+        said = c.check_image-in-Info.ensures.said;
+        any_moment = c.check_image-in-Info.ensures.any_moment;
+        looks = record { only = c.check_image-in-Info.ensures.only; kept = c.check_image-in-Info.ensures.kept };
+        spared = record { foreign = c.check_image-in-Info.ensures.untouched; damaged = c.check_image-in-Info.ensures.spared; behind = c.check_image-in-Info.ensures.behind };
+      },
+    )
+
+pub returns-in-Upgrade-clause-did : goal.returns-in-Upgrade-clause-did
+returns-in-Upgrade-clause-did g c =
+    let source = taking g.S.Source.told g.S.Source.taken g.S.Source.left_bytes g.S.Source.ended c.args.source.now c.args.source.now in
+    let port = moments g.P.Device.told g.P.Device.view c.args.port.now c.upgrade_image.new.port in
+    let r = c.upgrade_image.result in
+    subst (λ (x : Command). Did (Some x) r source port) (sym c.in-Upgrade.is) (
+      refl,
+      record {
+        ending = c.upgrade_image.ensures.ending;
+        upgraded = c.upgrade_image.ensures.upgraded;
+        any_moment = c.upgrade_image.ensures.any_moment;
+        spared = record { foreign = c.upgrade_image.ensures.untouched; damaged = c.upgrade_image.ensures.spared; behind = c.upgrade_image.ensures.behind };
+        no_memory = c.upgrade_image.ensures.no_memory;
+      },
+    )
