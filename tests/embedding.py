@@ -240,8 +240,8 @@ def tried_signals(host: Host) -> Iterator[Result]:
     read = b"open 1\nread 1 0 " + cap[0].encode() + b"\n"
     ran = subprocess.run([str(context.program), str(image), "run", "near"], input=read, capture_output=True,
                          timeout=MOST_SECONDS)
-    yield compared(f"{host.name}the last write before a signal stays", (count - 1).to_bytes(4, "little").hex().encode(),
-                   ran.stdout.split()[-1][:8])
+    yield compared(f"{host.name}the last write between signals stays", count - 1,
+                   int.from_bytes(bytes.fromhex(ran.stdout.split()[-1].decode()), "little"))
 
 
 def tried_failures(context: Context, archive: str, table: Table) -> Iterator[Result]:

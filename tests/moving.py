@@ -119,7 +119,7 @@ def tried_stops(place: Place) -> Iterator[Result]:
         child = subprocess.Popen(words, env=place.environment, cwd=place.folder, stdout=subprocess.DEVNULL,
                                  start_new_session=True)
         try:
-            status = child.wait(0.4 + 0.4 * kills)
+            status = child.wait(0.1 + 0.15 * kills)
         except subprocess.TimeoutExpired:
             os.killpg(child.pid, signal.SIGKILL)
             child.wait()
