@@ -119,13 +119,13 @@ def tried_stops(place: Place) -> Iterator[Result]:
         child = subprocess.Popen(words, env=place.environment, cwd=place.folder, stdout=subprocess.DEVNULL,
                                  start_new_session=True)
         try:
-            status = child.wait(0.1 + 0.15 * kills)
+            status = child.wait(0.2 + 0.15 * kills)
         except subprocess.TimeoutExpired:
             os.killpg(child.pid, signal.SIGKILL)
             child.wait()
             kills += 1
             # Its programs are in sessions of their own, and end as their input does.
-            time.sleep(0.3)
+            time.sleep(1.0)
     yield compared("a copy that was killed is done", 0, status)
     yield passed("it was killed on the way") if kills else failed("it was killed on the way", "it was done before")
     yield compared("what is reached, after kills", reached(old), reached(new))
