@@ -40,9 +40,9 @@
 enum { HEADER = 64, NUMBER = 4, SESSION = 1, MOST_DEPTHS = 8, RING = 256 };
 /* Where so many writes and flushes wait, a write waits too. */
 enum { MANY = 4 };
-/* How many sectors of writes go out together, and the bytes of each: as many blocks as the disk's journal has room for
-   (113 sectors), which the disk commits as one batch, by five syncs (docs/FORMAT.md). */
-enum { BATCH = 112, SECTOR = 512 };
+/* How many sectors of writes go out together, and the bytes of each. The disk's journal has room for 113, and takes
+   three syncs more than the two of a batch each time that it is full: two such batches fill it (docs/FORMAT.md). */
+enum { BATCH = 56, SECTOR = 512 };
 /* After so long without an answer it is looked whether the disk is silent for too long; and how long those are awaited
    that were let go together. */
 enum { NAP_NS = 100000000, GATHER_NS = 200000, SECOND_NS = 1000000000 };
