@@ -11,9 +11,8 @@
    Nobody is left to whom it could be told that a write failed which has returned. So from then on each call fails, and
    so does each that waits.
 
-   What isn't sent goes out when it fills half a batch of the disk's journal, when somebody waits for a read, and else
-   when no write is under way: then those that came while the disk was at work on some are committed together. After
-   several calls were let go at once, it is given a little time for as many to come again.
+   What is in the ring goes out at once, up to as many writes as fill the disk's journal: those that come while the disk
+   is at work on some are committed together.
 
    What a leaf has by all requests up to the last one in the ring is kept in a slot of the cache: since the disk carries
    requests out in their order, that is what a read behind them would have. A reader finds it there without the lock.
@@ -40,12 +39,11 @@
 enum { HEADER = 64, NUMBER = 4, SESSION = 1, MOST_DEPTHS = 8, RING = 256 };
 /* Where so many writes and flushes wait, a write waits too. */
 enum { MANY = 4 };
-/* How many sectors of writes go out together, and the bytes of each. The disk's journal has room for 113, and takes
-   three syncs more than the two of a batch each time that it is full: two such batches fill it (docs/FORMAT.md). */
-enum { BATCH = 56, SECTOR = 512 };
-/* After so long without an answer it is looked whether the disk is silent for too long; and how long those are awaited
-   that were let go together. */
-enum { NAP_NS = 100000000, GATHER_NS = 200000, SECOND_NS = 1000000000 };
+/* How many sectors of writes are sent and not answered at most, and the bytes of each: the disk's journal has room for
+   113 (docs/FORMAT.md), so more of them wouldn't be committed together. */
+enum { BATCH = 112, SECTOR = 512 };
+/* After so long without an answer it is looked whether the disk is silent for too long. */
+enum { NAP_NS = 100000000 };
 
 enum kind { READ, WRITE, TRIM, ZERO, FLUSH, EXTENTS };
 
@@ -97,12 +95,9 @@ struct vdisk {
     struct entry ring[RING];
     uint8_t *bytes; /* of the ring's writes */
     unsigned first, under_way, sent; /* of what is under way, the front that was sent */
-    unsigned writes, writing; /* under way; and of these, sent */
-    unsigned reads; /* that aren't sent */
+    unsigned writing; /* writes that were sent */
     unsigned early, last_early; /* writes that were answered, and the place of the last of them */
-    unsigned waiting, let_go; /* writes and flushes that wait; and how many were let go so far */
-    unsigned wanted; /* so many are awaited, */
-    int64_t until; /* until then */
+    unsigned waiting; /* writes and flushes that wait */
     bool is_stirred; /* something was sent or taken since answers were looked for */
     bool may_write; /* a write was granted */
     vdisk_error lost; /* how a write failed that was answered */
@@ -217,16 +212,10 @@ static void drop(vdisk *v, uint64_t leaf) {
 
 /* --- the ring --- */
 
-static int64_t now_ns(void) {
-    struct timespec now;
-    clock_gettime(CLOCK_MONOTONIC, &now);
-    return (int64_t)now.tv_sec * SECOND_NS + now.tv_nsec;
-}
-
-/* How many writes of leaves go out together; as many may go out while these are at work. */
+/* How many writes of leaves are sent and not answered at most. */
 static unsigned batch_of(const vdisk *v) {
     unsigned batch = BATCH * SECTOR / v->block_bytes;
-    return batch < TSD_MOST_UNDER_WAY / 2 ? batch : TSD_MOST_UNDER_WAY / 2;
+    return batch < TSD_MOST_UNDER_WAY ? batch : TSD_MOST_UNDER_WAY;
 }
 
 /* A write that was answered failed: what was told isn't so. */
@@ -248,7 +237,6 @@ static void let_go(vdisk *v, struct job *job) {
     has_lost(v, &job->error);
     if (--job->left == 0) {
         v->waiting -= job->kind != READ;
-        v->let_go += job->kind != READ;
         sem_post(&job->done);
     }
 }
@@ -258,7 +246,6 @@ static void take_leaf(vdisk *v, const struct entry *entry) {
     struct slot *slot = slot_of(v, entry->leaf);
     vdisk_error error = {0};
     bool is_write = entry->kind == WRITE, is_done = well(v, tsd_take(v->disk, &v->answer), &error);
-    v->writes -= is_write;
     v->writing -= is_write;
     if (is_write && slot != NULL) {
         slot->pending--;
@@ -299,35 +286,23 @@ static void take(vdisk *v) {
     }
 }
 
-/* Sends what isn't sent, as far as there is room: at most a batch. It goes out when answers are looked for. */
+/* Sends what isn't sent, as far as there is room. It goes out when answers are looked for. */
 static void send_some(vdisk *v) {
-    unsigned batch = batch_of(v), left = batch;
+    unsigned batch = batch_of(v);
     while (v->sent < v->under_way && tsd_under_way(v->disk) < TSD_MOST_UNDER_WAY) {
         unsigned place = (v->first + v->sent) % RING;
         struct entry *entry = &v->ring[place];
         bool is_write = entry->kind == WRITE;
-        if (is_write && (left == 0 || v->writing == 2 * batch)) {
+        if (is_write && v->writing == batch) {
             break;
         }
         tsd_request request = {.code = is_write ? TSD_WRITE : TSD_READ, .session = SESSION, .block = entry->block};
         request.data = is_write ? v->bytes + (size_t)place * v->block_bytes : NULL;
         request.length = is_write ? v->block_bytes : 0;
         tsd_send(v->disk, &request); /* where the link has ended the answers tell it */
-        left -= is_write;
         v->writing += is_write;
-        v->reads -= !is_write;
         v->sent++;
-        v->wanted = 0;
         v->is_stirred = true;
-    }
-}
-
-/* Sends what isn't sent, where it is time. */
-static void send_in_time(vdisk *v) {
-    bool is_full = v->writes - v->writing >= batch_of(v) && v->writing <= batch_of(v);
-    bool is_idle = v->writing == 0 && (v->waiting >= v->wanted || now_ns() >= v->until);
-    if (v->sent < v->under_way && (v->reads > 0 || is_full || is_idle)) {
-        send_some(v);
     }
 }
 
@@ -349,13 +324,11 @@ static void put(vdisk *v, struct entry entry, const uint8_t *bytes) {
     v->ring[place] = entry;
     if (entry.kind == WRITE) {
         memcpy(v->bytes + (size_t)place * v->block_bytes, bytes, v->block_bytes);
-        v->writes++;
         keep(v, entry.leaf, bytes);
         if (slot != NULL) {
             slot->pending++;
         }
     }
-    v->reads += entry.kind == READ;
     if (entry.job != NULL) {
         entry.job->left++;
     }
@@ -383,20 +356,15 @@ static void put_flush(vdisk *v, struct job *job) {
     }
 }
 
-/* Takes the answers that have come, and sends what it is time for. (Whoever sends or takes may read answers to others
-   from the stream; then the thread, which waits at the stream, wouldn't see them.) */
+/* Takes the answers that have come, and sends what there is room for. (Whoever sends or takes may read answers to
+   others from the stream; then the thread, which waits at the stream, wouldn't see them.) */
 static void take_some(vdisk *v) {
     do {
-        unsigned before = v->let_go;
         while (v->sent > 0 && tsd_has_come(v->disk)) {
             take(v);
         }
-        if (v->let_go - before > 1) {
-            v->wanted = v->waiting + v->let_go - before;
-            v->until = now_ns() + GATHER_NS;
-        }
         v->is_stirred = false;
-        send_in_time(v);
+        send_some(v);
     } while (v->is_stirred);
 }
 
@@ -810,7 +778,7 @@ static bool done(vdisk *v, struct job *job, vdisk_error *error) {
     }
     bool waits = --job->left > 0;
     v->waiting += waits && job->kind != READ;
-    send_in_time(v);
+    send_some(v);
     if (v->is_stirred) {
         take_some(v);
     }
@@ -822,15 +790,12 @@ static bool done(vdisk *v, struct job *job, vdisk_error *error) {
     return error->number == 0;
 }
 
-/* Waits until something may have come, or it is time to send. */
+/* Waits until something may have come. */
 static void nap(vdisk *v) {
-    int64_t length = v->sent > 0 ? NAP_NS : v->until - now_ns();
     struct pollfd ready = {.fd = tsd_stream(v->disk), .events = POLLIN};
-    struct timespec most = {.tv_nsec = length > 0 && length < NAP_NS ? length : NAP_NS};
+    struct timespec most = {.tv_nsec = NAP_NS};
     pthread_mutex_unlock(&v->lock);
-    if (length > 0) {
-        ppoll(&ready, 1, &most, NULL);
-    }
+    ppoll(&ready, 1, &most, NULL);
     pthread_mutex_lock(&v->lock);
 }
 
