@@ -1,7 +1,7 @@
 """The commands tsd-copy and tsd-keygen: disks that a load has drawn, copied to larger images and of the same size, in
-both versions, and read by the reader of images of this folder: what is reached is equal block by block, with its number, its
-bytes and its pointers; copies that are killed and run again; and what they refuse, each in a line, with nothing
-changed."""
+both versions, and read by the reader of images of this folder: what is reached is equal block by block, with its
+number, its bytes and its pointers; copies that are killed and run again; and what they refuse, each in a line, with
+nothing changed."""
 
 from __future__ import annotations
 

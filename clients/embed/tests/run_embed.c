@@ -241,7 +241,8 @@ static int run_signals(const char *path, const char *digits, size_t count) {
     for (tsd_embed_status status = TSD_EMBED_OK; done < count && status == TSD_EMBED_OK; done++) {
         uint8_t bytes[4];
         put_number(bytes, (uint32_t)done);
-        status = tsd_embed_apply(signalled, asked, frame(asked, 4, cap, bytes, sizeof bytes), room, sizeof room, &filled);
+        size_t length = frame(asked, 4, cap, bytes, sizeof bytes);
+        status = tsd_embed_apply(signalled, asked, length, room, sizeof room, &filled);
         if (status != TSD_EMBED_OK || filled < 3 || room[2] == REFUSED) {
             fprintf(stderr, "%s\n", tsd_embed_words(status));
             break;
