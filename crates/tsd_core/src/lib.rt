@@ -16,6 +16,7 @@ mod carry;
 mod disk;
 mod grow;
 mod laws;
+mod lending;
 mod outcome;
 mod pointers;
 mod raise;
