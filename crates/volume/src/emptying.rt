@@ -3,13 +3,13 @@
 ghost use Rattle.std.specs.Prelude.{◌≡◌, [], true, false, OnOk, OnErr};
 ghost use Rattle.image_device.specs.Calls.{Uses};
 ghost use Rattle.image_device.specs.Counts.{CountsFault};
+ghost use Rattle.intent_journal.specs.Records.{AreClosed};
 ghost use Rattle.intent_journal.specs.Ring.{checkpoint_writes};
 ghost use Rattle.volume_laws.specs.Operations.{IsOperation, IsWithin};
 ghost use Rattle.volume_laws.specs.Volume.{IsVolumeAt, told_by, world_on};
 ghost use Rattle.volume_laws.specs.Writes.{batch_cost, due, IsPaid};
 ghost use Rattle.volume_laws.specs.Moments.{LeavesWorld, LeavesOwed};
 ghost use Rattle.image_world.specs.Debt.{owed};
-ghost use Rattle.image_world.specs.Fresh.{AreClosed};
 
 use crate::volume::Volume;
 use image_device::{Device, Failed};

@@ -5,7 +5,7 @@ ghost use Rattle.tsd_model.specs.Records.{upgraded};
 ghost use Rattle.image_device.specs.Calls.{Uses};
 ghost use Rattle.image_device.specs.Counts.{CountsFault};
 ghost use Rattle.image_device.specs.Image.{zeros};
-ghost use Rattle.image_world.specs.Fresh.{AreClosed};
+ghost use Rattle.intent_journal.specs.Records.{AreClosed};
 ghost use Rattle.intent_journal.specs.Ring.{checkpoint_writes};
 ghost use Rattle.volume_laws.specs.Operations.{IsOperation, IsWithin};
 ghost use Rattle.volume_laws.specs.Rings.{CommitsOnce};
