@@ -19,8 +19,7 @@ ghost use Rattle.volume_laws.specs.Graphs.{IsStepNext};
 
 use crate::volume::Volume;
 use image_device::{Device, Failed};
-use pointer_table::OutStep;
-use reclaim::find_step;
+use reclaim::{OutStep, find_step};
 use volume_changes::{note_step, put_step};
 
 /// How many steps of reclamation one call of `settle_some` makes at most.
