@@ -59,8 +59,8 @@ impl Volume {
         Ok(self.is_owed())
     }
 
-    /// Makes one step of reclamation, if one is left; whether it did. It commits one batch of at most 33 homes. `Failed`
-    /// comes only where the device's count of faults rose; the volume is then spent.
+    /// Makes one step of reclamation, if one is left; whether it did. It commits one batch of at most 33 homes.
+    /// `Failed` comes only where the device's count of faults rose; the volume is then spent.
     pub fn settle_one<D: Device>(&mut self, dev: &mut D) -> Result<bool, Failed>
         requires ready { IsVolumeReady self.old }
         requires unspent { self.old.is_spent ≡ false }

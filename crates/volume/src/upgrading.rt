@@ -37,8 +37,8 @@ impl Volume {
         ensures none { self.old.tables.version ≡ 2
             → (D.view dev.new).writes ≤ (D.view dev.old).writes + checkpoint_writes self.old.ring + 113 }
         ensures told { OnOk result (told_by self.new ≡ upgraded (told_by self.old)) }
-        /// promise (with stays): Where it was of version 1, the sectors of records then hold the digests and zeros alone,
-        /// so that no byte of an earlier capability is left there. Of version 2 all but the journal stays.
+        /// promise (with stays): Where it was of version 1, the sectors of records then hold the digests and zeros
+        /// alone, so that no byte of an earlier capability is left there. Of version 2 all but the journal stays.
         ensures digests { D.told → self.old.tables.version ≡ 1
             → OnOk result (HasOnlyDigests self.new.tables.records (D.view dev.new).reads) }
         ensures stays { D.told → self.old.tables.version ≡ 2
