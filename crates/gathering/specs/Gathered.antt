@@ -1,6 +1,6 @@
 -- A gathering device: a disk in memory that begins as the real one reads, its journal closed, and to which since then
 -- only what its log tells was done.
-use Rattle.std.specs.Prelude.{ℕ, ◌-◌, ◌≡◌, ◌<◌, true, false, cond, get_or, List, ◌++◌, Option, None, unwrap_or}
+use Rattle.std.specs.Prelude.{ℕ, ◌-◌, ◌≡◌, ◌<◌, Bool, true, false, cond, get_or, List, ◌++◌, Option, None, unwrap_or}
 use Rattle.image_device.specs.declared.event.Event.{Event}
 use Rattle.image_device.specs.Image.{Image, IsSector, zeros}
 use Rattle.image_device.specs.View.{View, IsLeftNow, IsSound}
@@ -85,11 +85,11 @@ pub record AreAlike (s : HistoryState) (done tried : List Event) : Type 0 where
   pub sent : (after tried s).sent ≡ (after done s).sent
 
 -- No batch may hold this sector, which is none of the journal's, and it is loose: a crash may leave any bytes in it.
-pub record IsAstray (v : View) (sector : ℕ) : Type 0 where
+pub record IsAstray (loose : ℕ → Bool) (sector : ℕ) : Type 0 where
   pub outside : is_journal sector ≡ false
   pub unlawful : is_lawful_home sector ≡ false
-  pub loose : v.loose sector ≡ true
+  pub loosened : loose sector ≡ true
 
--- a write to a sector that no batch may hold was tried
+-- A write to a sector that no batch may hold was tried, and a crash may leave any bytes there.
 abbrev pub HasStrayed : View → Type 0
-HasStrayed v = (sector : ℕ) × IsAstray v sector
+HasStrayed v = (sector : ℕ) × IsAstray v.loose sector

@@ -3,10 +3,11 @@ ghost use Rattle.std.specs.Prelude.{◌≡◌, ◌≤◌, ◌<◌, ◌+◌, ◌�
 ghost use Rattle.image_layout.specs.Ring.{bodies};
 ghost use Rattle.image_device.specs.Calls.{Uses};
 ghost use Rattle.image_device.specs.Counts.{Rose};
+ghost use Rattle.image_device.specs.History.{after};
 ghost use Rattle.image_device.specs.View.{IsLeftNow};
 ghost use Rattle.image_device.specs.Runs.{IsFirm, LeavesOnly};
 ghost use Rattle.intent_journal.specs.Ring.{IsRingAt};
-ghost use Rattle.gathering.specs.Gathered.{begun_on, gathered_view, AreAlike, AreWhole, IsAstray};
+ghost use Rattle.gathering.specs.Gathered.{begun_on, AreAlike, AreWhole, IsAstray};
 
 use crate::began::Began;
 use crate::flush::{FlushFault, flush_to};
@@ -48,7 +49,7 @@ pub struct Gather<P: Port, K: Began> {
     ghost alike: { AreAlike (begun_on K.start) group.past.events tried.events },
     ghost few: { length group.batch ≤ K.homes + writes },
     ghost astray: { (n : ℕ) → stray ≡ Some n
-        → IsAstray (gathered_view K.start tried.events faults put_faults writes) n },
+        → IsAstray (after tried.events (begun_on K.start)).loose n },
     ghost why: { device_failed ≡ false → stray ≡ None → 0 < faults → bodies < K.homes + writes },
 }
 
@@ -365,7 +366,10 @@ impl<P: Port, K: Began> Device for Gather<P, K> {
 
     fn write(&mut self, sector: u32, from: &[u8; 512]) -> Result<(), Failed> {
         self.writes = self.writes.saturating_add(1);
-        if self.group.write(sector, from).is_err() {
+        let kept = self.group.write(sector, from);
+        // The call tells that the batch has at most 113 homes.
+        let _homes = self.group.batch.len();
+        if kept.is_err() {
             self.faults = self.faults.saturating_add(1);
             if !is_lawful_home(sector) {
                 self.tried = self.tried.with_touch::<K>(sector);
