@@ -5,7 +5,6 @@ ghost use Rattle.image_device.specs.Counts.{Rose};
 ghost use Rattle.image_device.specs.History.{after};
 ghost use Rattle.image_device.specs.Image.{IsSector};
 ghost use Rattle.image_device.specs.View.{View, untold};
-ghost use Rattle.image_device.specs.Runs.{IsFirm};
 ghost use Rattle.image_layout.specs.Ring.{bodies};
 ghost use Rattle.image_layout.specs.declared.offset.Patch.{Patch};
 ghost use Rattle.intent_journal.specs.Batch.{homes_of};

@@ -114,7 +114,11 @@ impl Room {
 }
 
 /// Commits a batch, unless it is empty.
-fn commit_some<D: Device>(dev: &mut D, ring: &mut Ring, batch: &Batch) -> Result<(), Failed>
+pub(crate) fn commit_some<D: Device>(
+    dev: &mut D,
+    ring: &mut Ring,
+    batch: &Batch,
+) -> Result<(), Failed>
     requires at { D.told → IsRingAt ring.old (D.view dev.old) }
     requires firm { D.told → IsFirm (D.view dev.old) }
     ensures done { D.told → OnOk result (AgreeBut is_journal (overlaid batch.now (home (D.view dev.old).reads))
