@@ -105,7 +105,10 @@ fn send_file<F: Walks, P: Port, L: Placing, K: Started>(
 {
     let mut line = OutBuf::new();
     print_data_head(size == 0, &mut line);
-    send_text(port, line.as_slice())?;
+    match send_text(port, line.as_slice()) {
+        Ok(()) => {}
+        Err(why) => return Err(why),
+    }
     let mut part = Data::new();
     let mut place = None;
     let mut start: u64 = 0;
@@ -116,7 +119,10 @@ fn send_file<F: Walks, P: Port, L: Placing, K: Started>(
             Err(_) => return send_end(port),
         }
         print_data_part(part.as_slice(), &mut line);
-        send_text(port, line.as_slice())?;
+        match send_text(port, line.as_slice()) {
+            Ok(()) => {}
+            Err(why) => return Err(why),
+        }
         start = start.saturating_add(4096);
     }
     send_end(port)
