@@ -12,7 +12,8 @@ ghost use Rattle.volume_laws.specs.Data.{KeepsData};
 ghost use Rattle.volume_laws.specs.Rings.{HasBatches};
 ghost use Rattle.volume_laws.specs.Moments.{LeavesWorld};
 ghost use Rattle.volume_laws.specs.Quiet.{IsQuiet};
-ghost use Rattle.volume_laws.specs.Writes.{due, Works};
+ghost use Rattle.volume_laws.specs.Writes.{batch_cost, due, Works};
+ghost use Rattle.intent_journal.specs.Ring.{checkpoint_writes};
 ghost use Rattle.tsd_core.specs.Core.{IsCoreReady, IsCoreAt, state_on, told_state};
 ghost use Rattle.tsd_core.specs.Work.{LeavesNoDebt, SameSize};
 
@@ -71,9 +72,15 @@ impl Core {
         ensures at { D.told → OnOk result (IsCoreAt self.new (D.view dev.new)) }
         ensures state { D.told → OnOk result (state_on self.new (D.view dev.new).reads ≡ state_on self.old
             (D.view dev.old).reads) }
+        ensures told { OnOk result (told_state self.new ≡ told_state self.old) }
         ensures lowered { IfOk result (λ some. some ≡ true → owed self.new.volume.tables < owed
             self.old.volume.tables) }
         ensures none { IfOk result (λ some. some ≡ false → owed self.new.volume.tables ≡ 0) }
+        /// promise (with most): A step of reclamation costs at most 69 writes, those that it leaves for later included.
+        ensures used { OnOk result ((D.view dev.new).writes + checkpoint_writes self.new.volume.ring
+            ≤ (D.view dev.old).writes + checkpoint_writes self.old.volume.ring + batch_cost 33) }
+        ensures most { (D.view dev.new).writes ≤ (D.view dev.old).writes + checkpoint_writes
+            self.old.volume.ring + batch_cost 33 }
         ensures size { SameSize self.old self.new }
         ensures spent { OnErr result (self.new.volume.is_spent ≡ true) }
         ensures sent { D.told → (D.view dev.new).sent ≡ (D.view dev.old).sent }
@@ -95,8 +102,12 @@ impl Core {
         ensures ready { OnOk result (IsCoreReady self.new) }
         ensures at { D.told → OnOk result (IsCoreAt self.new (D.view dev.new)) }
         ensures closed { D.told → OnOk result (AreClosed (D.view dev.new).reads) }
+        /// promise (with most): No record of the journal is left, and only what those that were there need is written.
+        ensures emptied { OnOk result (self.new.volume.ring ≡ []) }
+        ensures most { (D.view dev.new).writes ≤ (D.view dev.old).writes + checkpoint_writes self.old.volume.ring }
         ensures state { D.told → OnOk result (state_on self.new (D.view dev.new).reads ≡ state_on self.old
             (D.view dev.old).reads) }
+        ensures told { OnOk result (told_state self.new ≡ told_state self.old) }
         ensures owes { OnOk result (owed self.new.volume.tables ≡ owed self.old.volume.tables) }
         ensures size { SameSize self.old self.new }
         ensures spent { OnErr result (self.new.volume.is_spent ≡ true) }

@@ -76,6 +76,9 @@ impl Volume {
         ensures lowered { IfOk result (λ some. some ≡ true → owed self.new.tables < owed self.old.tables) }
         ensures none { IfOk result (λ some. some ≡ false → owed self.new.tables ≡ 0) }
         ensures ready { OnOk result (IsVolumeReady self.new) }
+        ensures used { OnOk result ((D.view dev.new).writes + checkpoint_writes self.new.ring
+            ≤ (D.view dev.old).writes + checkpoint_writes self.old.ring + batch_cost 33) }
+        ensures uses { Uses (checkpoint_writes self.old.ring + batch_cost 33) (D.view dev.old) (D.view dev.new) }
     {
         self.settle_step(dev)
     }
