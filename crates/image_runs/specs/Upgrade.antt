@@ -6,7 +6,7 @@ use Rattle.image_device.specs.View.{View, IsPart}
 use Rattle.image_device.specs.Runs.{IsFirm}
 use Rattle.image_layout.specs.Image.{Image}
 use Rattle.image_world.specs.Faults.{IsGood, IsFirstFault}
-use Rattle.image_world.specs.Fresh.{AreClosed}
+use Rattle.intent_journal.specs.Records.{AreClosed}
 use Rattle.image_world.specs.Stands.{Stands, world_of}
 use Rattle.recovery.specs.Opening.{StandAlike}
 use Rattle.tsd_words.specs.declared.status.Status.{Status}

@@ -5,7 +5,7 @@ ghost use Rattle.image_device.specs.Counts.{CountsFault, CountsFaultOf, Rose};
 ghost use Rattle.image_device.specs.Runs.{IsFirm, LeavesOnly, LeavesPart};
 ghost use Rattle.image_device.specs.Image.{zeros};
 ghost use Rattle.image_world.specs.Behind.{LeavesBehind, behind};
-ghost use Rattle.image_world.specs.Fresh.{AreClosed};
+ghost use Rattle.intent_journal.specs.Records.{AreClosed};
 ghost use Rattle.tsd_model.specs.Records.{upgraded};
 ghost use Rattle.volume_laws.specs.Moments.{LeavesEither};
 ghost use Rattle.volume_laws.specs.Volume.{IsVolumeAt, IsVolumeReady, world_on};

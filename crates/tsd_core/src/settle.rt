@@ -6,7 +6,7 @@ ghost use Rattle.image_device.specs.Counts.{CountsFault};
 ghost use Rattle.image_device.specs.Runs.{LeavesPart};
 ghost use Rattle.image_world.specs.Behind.{behind};
 ghost use Rattle.image_world.specs.Debt.{debt, graph_in, owed};
-ghost use Rattle.image_world.specs.Fresh.{AreClosed};
+ghost use Rattle.intent_journal.specs.Records.{AreClosed};
 ghost use Rattle.tsd_model.specs.Doomed.{doomed};
 ghost use Rattle.volume_laws.specs.Data.{KeepsData};
 ghost use Rattle.volume_laws.specs.Rings.{HasBatches};

@@ -19,8 +19,7 @@ ghost use Rattle.volume_laws.specs.Graphs.{IsStepNext};
 
 use crate::volume::Volume;
 use image_device::{Device, Failed};
-use pointer_table::OutStep;
-use reclaim::find_step;
+use reclaim::{OutStep, find_step};
 use volume_changes::{note_step, put_step};
 
 /// How many steps of reclamation one call of `settle_some` makes at most.
@@ -60,8 +59,8 @@ impl Volume {
         Ok(self.is_owed())
     }
 
-    /// Makes one step of reclamation, if one is left; whether it did. It commits one batch of at most 33 homes. `Failed`
-    /// comes only where the device's count of faults rose; the volume is then spent.
+    /// Makes one step of reclamation, if one is left; whether it did. It commits one batch of at most 33 homes.
+    /// `Failed` comes only where the device's count of faults rose; the volume is then spent.
     pub fn settle_one<D: Device>(&mut self, dev: &mut D) -> Result<bool, Failed>
         requires ready { IsVolumeReady self.old }
         requires unspent { self.old.is_spent ≡ false }
