@@ -8,7 +8,7 @@ use Rattle.gathering_runs.proofs.Turning.{Went}
 use Rattle.gathering_runs.proofs.settle.settle_in_groups.Given as goal
 
 abbrev pub ghosts-settle_group : goal.ghosts-settle_group
-ghosts-settle_group g a = record { start = g.P.Device.view a.disk.port }
+ghosts-settle_group g a = record { start = g.P.Device.view a.disk.port; homes = 0 }
 
 abbrev pub invariant-loop-group : goal.invariant-loop-group
 invariant-loop-group g l =
