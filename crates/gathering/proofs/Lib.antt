@@ -9,3 +9,4 @@ pub mod Merely
 pub mod Closed
 mod Tried
 pub mod Straying
+pub mod PartLaws

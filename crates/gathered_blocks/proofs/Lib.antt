@@ -1,0 +1,4 @@
+pub mod AskLeaves
+pub mod EndLaws
+pub mod HoldLaws
+pub mod BoundLaws
