@@ -1,5 +1,6 @@
 // A group in memory: what was done to a disk since the group began, and what it comes to.
-ghost use Rattle.std.specs.Prelude.{◌≡◌, ◌⊎◌, ◌≤◌, ◌+◌, ◌++◌, [], ◌∷◌, true, false, length, OnOk, OnErr, IfSome, IfNone};
+ghost use Rattle.std.specs.Prelude.{◌≡◌, ◌⊎◌, ◌≤◌, ◌+◌, ◌++◌, [], ◌∷◌, true, false, length};
+ghost use Rattle.std.specs.Prelude.{OnOk, OnErr, IfSome, IfNone};
 ghost use Rattle.image_device.specs.declared.event.Event.TheVariants.{Put, Sync, Write};
 ghost use Rattle.image_device.specs.History.{HistoryState, after};
 ghost use Rattle.image_layout.specs.Ring.{bodies};
