@@ -1,4 +1,3 @@
 pub mod AskLeaves
-pub mod EndLaws
 pub mod HoldLaws
 pub mod BoundLaws

@@ -3,7 +3,6 @@ pub mod Bounds
 pub mod Rooms
 pub mod Held
 pub mod GatheredView
-pub mod Ended
 pub mod Once
 pub mod Steps
 pub mod ViewLaws

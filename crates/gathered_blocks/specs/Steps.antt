@@ -2,6 +2,9 @@
 use Rattle.std.specs.Prelude.{◌≡◌, true, false, Result, OnOk, OnErr, IfOk}
 use Rattle.image_device.specs.Counts.{CountsFault}
 use Rattle.image_device.specs.declared.device.Failed.{Failed}
+use Rattle.image_device.specs.Runs.{LeavesOnly}
+use Rattle.image_device.specs.View.{View, IsLeftNow}
+use Rattle.volume_laws.specs.Writes.{Works}
 use Rattle.tsd_model.specs.Needs.{is_steady}
 use Rattle.tsd_model.specs.declared.replies.Reply.{Reply}
 use Rattle.tsd_model.specs.declared.requests.Request.{Request}
@@ -27,3 +30,10 @@ pub record Asks (told : Type 0) (old new : DiskView) (q : Request) (result : Res
   pub faults : CountsFault result old.faults new.faults
   pub unspent : OnOk result (new.spent ≡ false)
   pub spent : OnErr result (new.spent ≡ true)
+
+-- The device is as it was picked. Of what was picked beside it, that it is.
+pub record HasBegun (told : Type 0) (start now : View) : Type 0 where
+  pub sent : told → now.sent ≡ start.sent
+  pub works : Works start now
+  pub faults : now.faults ≡ start.faults
+  pub leaves : told → LeavesOnly start now (IsLeftNow now)

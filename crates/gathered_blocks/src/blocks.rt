@@ -2,6 +2,9 @@
 
 ghost use Rattle.std.specs.Prelude.{◌≡◌, ◌≤◌, ◌+◌, ◌*◌, [], ℕ, true, false, length, OnOk, OnErr};
 ghost use Rattle.image_device.specs.Counts.{CountsFault, Rose};
+ghost use Rattle.image_device.specs.Runs.{LeavesOnly, LeavesPart};
+ghost use Rattle.image_world.specs.Behind.{behind};
+ghost use Rattle.gathered_blocks.specs.GatheredView.{IsOfAsked};
 ghost use Rattle.volume_laws.specs.Writes.{Works};
 ghost use Rattle.tsd_core.specs.Core.{IsCoreAt, IsCoreReady, state_on};
 ghost use Rattle.gathered_blocks.specs.Held.{HasLed, IsInMemory, IsReadyInMemory};
@@ -44,6 +47,9 @@ pub struct GatheredBlocks<'a, P: Port, L: Placing, K: Begun> {
         asked.kept core.now room.now (P.view port.now) } by { led_prop P.told (L.kind placement.now) K.state
         asked.requests asked.kept core.now room.now (P.view port.now) },
     ghost sent: { P.told → (P.view port.now).sent ≡ K.start.sent },
+    ghost leaves: { P.told → ∥ LeavesOnly K.start (P.view port.now) (IsOfAsked (L.kind placement.now) K.state
+        asked.requests K.start.sent) ∥₁ },
+    ghost behind: { P.told → ∥ LeavesPart (behind core.now.volume.tables.geometry) K.start (P.view port.now) ∥₁ },
     ghost works: { Works K.start (P.view port.now) },
     ghost unfailed: { core.now.volume.is_spent ≡ false → (P.view port.now).faults ≡ K.start.faults },
     ghost failed: { core.now.volume.is_spent ≡ true → Rose K.start.faults (P.view port.now).faults },
@@ -59,15 +65,12 @@ pub struct Ended<'a, P: Port> {
 }
 
 impl<'a, P: Port, L: Placing, K: Begun> GatheredBlocks<'a, P, L, K> {
-    ghost use Rattle.image_device.specs.Runs.{LeavesOnly, LeavesPart};
-    ghost use Rattle.image_world.specs.Behind.{behind};
     ghost use Rattle.fs_port.specs.View.{state_of};
     ghost use Rattle.tsd_core.specs.Work.{SameSize};
-    ghost use Rattle.gathered_blocks.specs.Ended.{IsOfAsked};
     ghost use Rattle.gathered_blocks.specs.Bounds.{IsBound};
     ghost use Rattle.gathered_blocks.specs.Rooms.{gathered, IsFree};
     ghost use Rattle.image_layout.specs.Ring.{bodies};
-    ghost use Rattle.gathered_blocks.specs.Steps.{Asks, KeepsOn};
+    ghost use Rattle.gathered_blocks.specs.Steps.{Asks, HasBegun, KeepsOn};
 
     /// A core that is at its port, as an ask begins.
     pub fn new(
@@ -80,7 +83,7 @@ impl<'a, P: Port, L: Placing, K: Begun> GatheredBlocks<'a, P, L, K> {
         requires at { P.told → IsCoreAt core.old (P.view port.old) }
         requires free { IsFree room.old }
         requires name { room.entry.ghost_name ≡ K.room }
-        requires start { K.start ≡ P.view port.old }
+        requires start { HasBegun P.told K.start (P.view port.old) }
         requires state { P.told → K.state ≡ state_on core.old (P.view port.old).reads }
         /// promise (with port, core_now, port_now, asked, kind): The core over its port, with nothing asked yet. Its
         /// journal's records wait in the room.
@@ -106,8 +109,8 @@ impl<'a, P: Port, L: Placing, K: Begun> GatheredBlocks<'a, P, L, K> {
     /// it failed, nothing more is done. `Failed` comes only where the count of faults rose since the ask began; the
     /// core is spent then.
     pub fn finish(self) -> Ended<'a, P>
-        ensures core { result.core.ghost_name ≡ self.core.ghost_name }
-        ensures port { result.port.ghost_name ≡ self.port.ghost_name }
+        ensures core { result.core.ghost_name ≡ self.entry.core.ghost_name }
+        ensures port { result.port.ghost_name ≡ self.entry.port.ghost_name }
         ensures room { result.room.ghost_name ≡ K.room }
         ensures ready { OnOk result.result (IsCoreReady result.core.now) }
         /// promise (with ready, free, state): **After Ok all that was asked is on the device**, the core is at its port
@@ -115,20 +118,21 @@ impl<'a, P: Port, L: Placing, K: Begun> GatheredBlocks<'a, P, L, K> {
         ensures at { P.told → OnOk result.result (IsCoreAt result.core.now (P.view result.port.now)) }
         ensures free { OnOk result.result (IsFree result.room.now) }
         ensures state { P.told → OnOk result.result (state_on result.core.now (P.view result.port.now).reads ≡ state_of
-            (⟦<GatheredBlocks<'a, P, L, K> as Blocks>⟧.view self)) }
-        ensures told { OnOk result.result (result.core.now ≡ record self.core.now {
-            volume = record self.core.now.volume { ring = result.core.now.volume.ring } }) }
-        ensures unspent { OnOk result.result (self.core.now.volume.is_spent ≡ false) }
+            (⟦<GatheredBlocks<'a, P, L, K> as Blocks>⟧.view self.entry)) }
+        ensures told { OnOk result.result (result.core.now ≡ record self.entry.core.now {
+            volume = record self.entry.core.now.volume { ring = result.core.now.volume.ring } }) }
+        ensures unspent { OnOk result.result (self.entry.core.now.volume.is_spent ≡ false) }
         ensures spent { OnErr result.result (result.core.now.volume.is_spent ≡ true) }
-        ensures size { SameSize self.core.now result.core.now }
+        ensures size { SameSize self.entry.core.now result.core.now }
         ensures sent { P.told → (P.view result.port.now).sent ≡ K.start.sent }
-        /// promise (with behind): A crash inside leaves the world as it was after some of the requests, and what lies
-        /// behind the image.
-        ensures any_moment { P.told → LeavesOnly (P.view self.port.now) (P.view result.port.now)
-            (λ x f. IsOfAsked (L.kind self.placement.now) K.state self.asked.requests x × (f ≡ K.start.sent)) }
-        ensures behind { P.told → LeavesPart (behind self.core.now.volume.tables.geometry) (P.view self.port.now)
-            (P.view result.port.now) }
-        ensures works { Works (P.view self.port.now) (P.view result.port.now) }
+        /// promise (with behind): However the ask ended, a crash at any moment since it began leaves the world as it
+        /// was after some of its requests, with nothing more sent, and what lies behind the image. (There is such a
+        /// record of what is left; none is picked.)
+        ensures any_moment { P.told → ∥ LeavesOnly K.start (P.view result.port.now) (IsOfAsked
+            (L.kind self.entry.placement.now) K.state self.entry.asked.requests K.start.sent) ∥₁ }
+        ensures behind { P.told → ∥ LeavesPart (behind result.core.now.volume.tables.geometry) K.start
+            (P.view result.port.now) ∥₁ }
+        ensures works { Works K.start (P.view result.port.now) }
         /// promise: `Failed` comes only where the count of faults rose since the ask began, and Ok leaves it.
         ensures faults { CountsFault result.result K.start.faults (P.view result.port.now).faults }
     {
