@@ -1,6 +1,6 @@
 //! A core whose requests are gathered, beside its device.
 
-ghost use Rattle.std.specs.Prelude.{◌≡◌, ◌≤◌, ◌+◌, ◌*◌, [], ℕ, true, false, length, OnOk, OnErr};
+ghost use Rattle.std.specs.Prelude.{◌≡◌, ◌≤◌, ◌+◌, ◌*◌, [], ℕ, true, false, is_some, length, OnOk, OnErr};
 ghost use Rattle.image_device.specs.Counts.{CountsFault, Rose};
 ghost use Rattle.image_device.specs.Runs.{LeavesOnly, LeavesPart};
 ghost use Rattle.image_world.specs.Behind.{behind};
@@ -9,6 +9,7 @@ ghost use Rattle.volume_laws.specs.Writes.{Works};
 ghost use Rattle.tsd_core.specs.Core.{IsCoreAt, IsCoreReady, state_on};
 ghost use Rattle.gathered_blocks.specs.Held.{HasLed, IsInMemory, IsReadyInMemory};
 ghost use Rattle.gathered_blocks.specs.Once.{at_prop, led_prop, ready_prop};
+ghost use Rattle.gathered_blocks.specs.Rooms.{gathered};
 
 use crate::asked::Asked;
 use crate::begun::Begun;
@@ -39,13 +40,13 @@ pub struct GatheredBlocks<'a, P: Port, L: Placing, K: Begun> {
     asked: Asked,
     begun: PhantomData<K>,
     ghost is_room: { room.ghost_name ≡ K.room },
-    ghost ready: { core.now.volume.is_spent ≡ false → IsReadyInMemory core.now room.now } by {
-        ready_prop core.now room.now },
-    ghost at: { P.told → core.now.volume.is_spent ≡ false → IsInMemory core.now room.now (P.view port.now) } by {
-        at_prop P.told core.now room.now (P.view port.now) },
+    ghost here: { is_some room.now.room ≡ true },
+    ghost ready: { core.now.volume.is_spent ≡ false → IsReadyInMemory core.now } by { ready_prop core.now },
+    ghost at: { P.told → core.now.volume.is_spent ≡ false → IsInMemory core.now room.now.ring (gathered room.now)
+        (P.view port.now) } by { at_prop P.told core.now room.now.ring (gathered room.now) (P.view port.now) },
     ghost led: { P.told → core.now.volume.is_spent ≡ false → HasLed (L.kind placement.now) K.state asked.requests
-        asked.kept core.now room.now (P.view port.now) } by { led_prop P.told (L.kind placement.now) K.state
-        asked.requests asked.kept core.now room.now (P.view port.now) },
+        asked.kept core.now (gathered room.now) (P.view port.now) } by { led_prop P.told (L.kind placement.now) K.state
+        asked.requests asked.kept core.now (gathered room.now) (P.view port.now) },
     ghost sent: { P.told → (P.view port.now).sent ≡ K.start.sent },
     ghost leaves: { P.told → ∥ LeavesOnly K.start (P.view port.now) (IsOfAsked (L.kind placement.now) K.state
         asked.requests K.start.sent) ∥₁ },
@@ -68,7 +69,7 @@ impl<'a, P: Port, L: Placing, K: Begun> GatheredBlocks<'a, P, L, K> {
     ghost use Rattle.fs_port.specs.View.{state_of};
     ghost use Rattle.tsd_core.specs.Work.{SameSize};
     ghost use Rattle.gathered_blocks.specs.Bounds.{IsBound};
-    ghost use Rattle.gathered_blocks.specs.Rooms.{gathered, IsFree};
+    ghost use Rattle.gathered_blocks.specs.Rooms.{IsFree};
     ghost use Rattle.image_layout.specs.Ring.{bodies};
     ghost use Rattle.gathered_blocks.specs.Steps.{Asks, HasBegun, KeepsOn};
 
@@ -265,8 +266,8 @@ impl<'a, P: Port, L: Placing, K: Begun> Blocks for GatheredBlocks<'a, P, L, K> {
         b.asked.requests b.core.now (P.view b.port.now) };
 
     ghost sound = { λ b told unspent. gathered_disk_sound (b.core.ghost_name, b.port.ghost_name)
-        (L.kind b.placement.now) K.start K.state b.asked.requests b.asked.kept b.core.now b.room.now
-        (P.view b.port.now) (b.at told unspent) (b.led told unspent) };
+        (L.kind b.placement.now) K.start K.state b.asked.requests b.asked.kept b.core.now b.room.now.ring
+        (gathered b.room.now) (P.view b.port.now) (b.at told unspent) (b.led told unspent) };
 
     fn geometry(&self) -> Geometry {
         self.core.geometry()
