@@ -167,48 +167,6 @@ pub on_closed : (ps : List Patch) (x : Image) → IsBatch ps → (index : ℕ) �
 on_closed ps x batch index less =
     ap says_open (none_of_journal ps (cleared x) (gate_sector index) batch (gate_in index less)) ∙ cleared_closed x index less
 
--- ---- time
-
-module _ (start : View) (batch : List Patch) (below now : View) (es new : List Event) (a b a' b' : ℕ) (back : (t : ℕ) (x : Image) (f : List ℕ) → t ≤ start.clock → now.left t x f → below.left t x f)
-    (forth : (t : ℕ) (x : Image) (f : List ℕ) → t ≤ start.clock → below.left t x f → now.left t x f) where
-  lifted : (inside : Image → List ℕ → Type 0) → Elapses (history_view (went_on start batch) es 0 0 0) (history_view (went_on start batch) new 0 0 0) inside
-      → Elapses (part_view start batch below es a b) (part_view start batch now new a' b') inside
-  lifted inside time = record {
-    later = omega (arith, time.later);
-    nothing_else = λ t x f le left. elim left [
-      | inl r ↦ inl (inl (r.0, back t x f r.0 r.1))
-      | inr h ↦ ⊎_elim (λ was. inl (inr was)) (λ more. inr more) (time.nothing_else (t - suc start.clock) x f (within t le) h)
-    ];
-    keeps = λ t x f le left. elim left [
-      | inl r ↦ inl (r.0, forth t x f r.0 r.1)
-      | inr h ↦ inr (time.keeps (t - suc start.clock) x f (within t le) h)
-    ];
-  }
-    where
-      within : (t : ℕ) → t ≤ suc start.clock + length es → t - suc start.clock ≤ length es
-      within t le = omega (arith, le)
-
-  pub part_touches : (sector : ℕ) → Touches sector (history_view (went_on start batch) es 0 0 0) (history_view (went_on start batch) new 0 0 0)
-      → Touches sector (part_view start batch below es a b) (part_view start batch now new a' b')
-  part_touches sector did = record { reads = did.reads; loose = did.loose; sent = did.sent; time = lifted _ did.time }
-
-  pub part_settles : Settles (history_view (went_on start batch) es 0 0 0) (history_view (went_on start batch) new 0 0 0)
-      → Settles (part_view start batch below es a b) (part_view start batch now new a' b')
-  part_settles did = record { reads = did.reads; loose = did.loose; sent = did.sent; time = lifted _ did.time }
-
--- the device below was read
-module _ (start : View) (batch : List Patch) (below now : View) (es : List Event) (a b a' b' : ℕ) (sound : IsSound below) (late : start.clock ≤ below.clock) (did : Rests below now) where
-  pub part_rests : Rests (part_view start batch below es a b) (part_view start batch now es a' b')
-  part_rests = record {
-    reads = refl;
-    loose = refl;
-    sent = refl;
-    time = lifted start batch below now es es a b a' b'
-        (λ t x f le left. ⊎_elim (λ was. was) (λ now. sound.counts_now t x f (omega (arith, le, late)) now) (did.time.nothing_else t x f (omega (arith, le, late)) left))
-        (λ t x f le left. did.time.keeps t x f (omega (arith, le, late)) left) _
-        (record { later = omega arith; nothing_else = λ t x f le left. inl left; keeps = λ t x f le left. left });
-  }
-
 -- ---- sectors that no batch may hold
 
 first_only : (a b c : Bool) → a ≡ true → (not (a || b) || c) ≡ true → c ≡ true
@@ -264,11 +222,6 @@ stray_left (Write k b ∷ es) s base whole is = elim (cases_Bool (is_journal k))
       whole = λ n. chosen_whole (n == k) bytes (s.reads n) sized (base n);
     }
 
-pub leaves_stray : (start : View) (batch : List Patch) (below : View) (es : List Event) (faults writes : ℕ) → ((n : ℕ) → IsSector (gone_on batch start.reads n)) → AreWholeWrites es → has_stray es ≡ true
-    → LeavesStray start (part_view start batch below es faults writes)
-leaves_stray start batch below es faults writes base whole is =
-    let found = stray_left es (went_on start batch) base whole is in
-    (found.0, found.1, found.2, λ bytes sized. let left = found.3 bytes sized in (left.0, left.1, left.2, inr (subst (λ t. HadSince t es (went_on start batch) left.0 left.1) since left.3)))
-  where
-    since : 0 ≡ suc start.clock - suc start.clock
-    since = omega arith
+pub leaves_stray : (start : View) (batch : List Patch) (es : List Event) (faults writes : ℕ) → ((n : ℕ) → IsSector (gone_on batch start.reads n)) → AreWholeWrites es → has_stray es ≡ true
+    → LeavesStray (part_view start batch es faults writes)
+leaves_stray start batch es faults writes base whole is = stray_left es (went_on start batch) base whole is

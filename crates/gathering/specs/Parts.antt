@@ -1,35 +1,26 @@
 -- A disk in memory for a part of a group: it goes on with a batch over a device that is only read.
-use Rattle.std.specs.Prelude.{ℕ, suc, ◌+◌, ◌-◌, ◌≤◌, ◌≡◌, ◌⊎◌, ◌||◌, ◌&&◌, Bool, true, false, not, List, [], ◌∷◌, length}
+use Rattle.std.specs.Prelude.{ℕ, ◌≡◌, ◌||◌, Bool, true, false, not, List, [], ◌∷◌}
 use Rattle.image_device.specs.declared.event.Event.{Event}
 use Rattle.image_device.specs.declared.event.Event.TheVariants.{Write, Sync, Put, Poke}
 use Rattle.image_device.specs.Image.{Image, IsSector}
 use Rattle.image_device.specs.View.{View, IsSound}
-use Rattle.image_device.specs.History.{HistoryState, step, after, HadSince}
+use Rattle.image_device.specs.History.{HistoryState, step, after}
+use Rattle.image_device.specs.MemStation.{history_view}
 use Rattle.image_device.specs.Laws.{counts_now, only_now}
 use Rattle.image_layout.specs.declared.offset.Patch.{Patch}
 use Rattle.intent_journal.specs.Home.{overlaid, is_journal}
 use Rattle.intent_journal.specs.Homes.{is_lawful_home}
 use Rattle.gathering.specs.Gathered.{cleared, gone_on}
 use Rattle.std.proofs.Props.{props}
-use Rattle.std.proofs.Common.{refl, inl, inr, ⊎_elim, arith, subst, cond, ◌==◌}
+use Rattle.std.proofs.Common.{refl, cond, ◌==◌}
 
 -- the disk in memory as a part begins over this device with this batch: nothing is loose
 abbrev pub went_on : View → List Patch → HistoryState
 went_on v batch = record { reads = gone_on batch v.reads; synced = gone_on batch v.reads; loose = λ n. false; sent = v.sent }
 
--- The disk in memory after these events. Since a moment before the part began, what a crash of the device below may
--- have left counts too.
-abbrev pub part_view : View → List Patch → View → List Event → ℕ → ℕ → View
-part_view start batch below es faults writes = record {
-  reads = (after es (went_on start batch)).reads;
-  loose = (after es (went_on start batch)).loose;
-  sent = (after es (went_on start batch)).sent;
-  clock = suc start.clock + length es;
-  left = λ t x f. ((t ≤ start.clock) × below.left t x f) ⊎ HadSince (t - suc start.clock) es (went_on start batch) x f;
-  faults = faults;
-  put_faults = 0;
-  writes = writes;
-}
+-- the disk in memory after these events
+abbrev pub part_view : View → List Patch → List Event → ℕ → ℕ → View
+part_view start batch es faults writes = history_view (went_on start batch) es faults 0 writes
 
 -- each write of these is of 512 bytes
 abbrev pub AreWholeWrites : List Event → Type 0
@@ -53,11 +44,11 @@ has_stray [] = false
 has_stray (e ∷ es) = is_stray e || has_stray es
 
 -- Since the part began a crash may have left any bytes in such a sector.
-abbrev pub LeavesStray : View → View → Type 0
-LeavesStray start v =
+abbrev pub LeavesStray : View → Type 0
+LeavesStray v =
     (sector : ℕ) × (is_journal sector ≡ false) × (is_lawful_home sector ≡ false)
     × ((bytes : List ℕ) → IsSector bytes → (x : Image) × (f : List ℕ) × (x sector ≡ bytes)
-    × v.left (suc start.clock) x f)
+    × v.left 0 x f)
 
 -- ---- what holds at each moment
 
@@ -75,20 +66,14 @@ after_whole (Poke sector bytes ∷ es) s base whole n =
 after_whole (Sync ∷ es) s base whole n = after_whole es (step s Sync) base whole n
 after_whole (Put piece ∷ es) s base whole n = after_whole es (step s (Put piece)) base whole n
 
-pub part_sound : (start : View) (batch : List Patch) (below : View) (es : List Event) (faults writes : ℕ)
+pub part_sound : (start : View) (batch : List Patch) (es : List Event) (faults writes : ℕ)
     → ((n : ℕ) → IsSector (gone_on batch start.reads n)) → AreWholeWrites es
-    → IsSound (part_view start batch below es faults writes)
-part_sound start batch below es faults writes base whole = record {
-  counts_now = λ t x f le now. inr (counts_now (t - suc start.clock) es (went_on start batch) x f now);
-  only_now = λ x f left. ⊎_elim (λ r. absurd (late r.0)) (λ h. only_now es (went_on start batch) x f (subst (λ t. HadSince t es (went_on start batch) x f) since h)) left;
+    → IsSound (part_view start batch es faults writes)
+part_sound start batch es faults writes base whole = record {
+  counts_now = λ t x f le now. counts_now t es (went_on start batch) x f now;
+  only_now = λ x f left. only_now es (went_on start batch) x f left;
   own = record { agrees = λ n h. refl; whole = after_whole es (went_on start batch) base whole };
 }
-  where
-    late : suc start.clock + length es ≤ start.clock → ⊥
-    late le = omega (arith, le)
-
-    since : suc start.clock + length es - suc start.clock ≡ length es
-    since = omega arith
 
 pub whole_prop : (es : List Event) → IsProp (AreWholeWrites es)
 whole_prop [] = hlevel props

@@ -4,7 +4,8 @@ ghost use Rattle.image_device.specs.Calls.{Uses};
 ghost use Rattle.image_device.specs.Counts.{Rose};
 ghost use Rattle.image_device.specs.History.{after};
 ghost use Rattle.image_device.specs.Image.{IsSector};
-ghost use Rattle.image_device.specs.View.{View, untold};
+ghost use Rattle.image_device.specs.View.{View, untold, IsLeftNow};
+ghost use Rattle.image_device.specs.Runs.{IsFirm, LeavesOnly};
 ghost use Rattle.image_layout.specs.Ring.{bodies};
 ghost use Rattle.image_layout.specs.declared.offset.Patch.{Patch};
 ghost use Rattle.intent_journal.specs.Batch.{homes_of};
@@ -75,6 +76,7 @@ pub struct Part<'a, 'r, P: Device, K: Going> {
     ghost reads: { P.told → (P.view dev.now).reads ≡ K.start.reads },
     ghost loose: { P.told → (P.view dev.now).loose ≡ K.start.loose },
     ghost sent: { P.told → (P.view dev.now).sent ≡ K.start.sent },
+    ghost leaves: { P.told → ∥ LeavesOnly K.start (P.view dev.now) (IsLeftNow K.start) ∥₁ },
     ghost counts: { Uses 0 K.start (P.view dev.now) },
     ghost failed: { device_failed ≡ true → Rose K.start.faults (P.view dev.now).faults },
     ghost unfailed: { device_failed ≡ false → (P.view dev.now).faults ≡ K.start.faults },
@@ -94,24 +96,24 @@ pub struct Part<'a, 'r, P: Device, K: Going> {
 
 impl<'a, 'r, P: Device, K: Going> Part<'a, 'r, P, K> {
     ghost use Rattle.intent_journal.specs.Home.{AgreeBut};
+    ghost use Rattle.gathering.specs.Gathered.{HasRested};
     ghost use Rattle.gathering.specs.Parts.{LeavesStray};
 
     /// Goes on with the batch in a room, over the device that proofs pick.
     pub fn new(below: Base<'a, P>, ring: &'r Ring) -> Part<'a, 'r, P, K>
         requires device { below.dev.ghost_name ≡ K.device }
         requires batch { below.room.batch ≡ K.batch }
-        requires reads { P.told → (P.view below.dev.now).reads ≡ K.start.reads }
-        requires loose { P.told → (P.view below.dev.now).loose ≡ K.start.loose }
-        requires sent { P.told → (P.view below.dev.now).sent ≡ K.start.sent }
+        requires rests { P.told → HasRested K.start (P.view below.dev.now) }
         requires counts { Uses 0 K.start (P.view below.dev.now) }
         requires faults { (P.view below.dev.now).faults ≡ K.start.faults }
         requires at { P.told → IsRingAt ring.now K.start }
-        /// promise (with past, at): The disk in memory begins as the batch makes what the device stands for, its
+        /// promise (with past, firm, at): The disk in memory begins as the batch makes what the device stands for, its
         /// journal closed and nothing loose.
         ensures dev { result.dev.now ≡ below.entry.dev.now }
         ensures past { result.past.events ≡ [] }
         ensures faults { result.faults ≡ 0 }
         ensures writes { result.writes ≡ 0 }
+        ensures firm { IsFirm (⟦<Part<'a, 'r, P, K> as Device>⟧.view result) }
         ensures at { IsRingAt [] (⟦<Part<'a, 'r, P, K> as Device>⟧.view result) }
     {
         let Base { dev, room } = below;
@@ -141,18 +143,19 @@ impl<'a, 'r, P: Device, K: Going> Part<'a, 'r, P, K> {
     /// Leaves the part off: its batch stays in the room. A sector that no batch may hold is not kept, nor is the batch
     /// then.
     pub fn leave(self) -> Base<'a, P>
-        /// promise (with dev, reads, loose, sent, counts): The device was only read.
+        /// promise (with dev, reads, loose, sent, any_moment, counts): The device was only read.
         ensures device { result.dev.ghost_name ≡ K.device }
         ensures dev { result.dev.now ≡ self.entry.dev.now }
         ensures reads { P.told → (P.view result.dev.now).reads ≡ K.start.reads }
         ensures loose { P.told → (P.view result.dev.now).loose ≡ K.start.loose }
         ensures sent { P.told → (P.view result.dev.now).sent ≡ K.start.sent }
+        ensures any_moment { P.told → ∥ LeavesOnly K.start (P.view result.dev.now) (IsLeftNow K.start) ∥₁ }
         ensures counts { Uses 0 K.start (P.view result.dev.now) }
         /// promise: What the disk in memory holds outside the journal is what the batch in the room makes of what the
         /// device stands for, or a crash of that disk may have left any bytes in a sector that no batch may hold.
         ensures holds { P.told → (AgreeBut is_journal (⟦<Part<'a, 'r, P, K> as Device>⟧.view self.entry).reads
             (gone_on result.room.batch K.start.reads))
-            ⊎ LeavesStray K.start (⟦<Part<'a, 'r, P, K> as Device>⟧.view self.entry) }
+            ⊎ LeavesStray (⟦<Part<'a, 'r, P, K> as Device>⟧.view self.entry) }
         ensures few { length result.room.batch ≤ length K.batch + (⟦<Part<'a, 'r, P, K> as Device>⟧.view self.entry).writes }
         /// promise (with unfailed): A call failed only where the device's count of faults rose, or where 113 homes are
         /// fewer than those of the batch and one for each write.
@@ -231,10 +234,10 @@ impl<'a, 'r, P: Device, K: Going> Device for Part<'a, 'r, P, K> {
 
     ghost told = { P.told };
 
-    ghost view = { λ m. part_view K.start K.batch (P.view m.dev.now) m.past.events m.faults m.writes };
+    ghost view = { λ m. part_view K.start K.batch m.past.events m.faults m.writes };
 
-    ghost sound = { λ m told. part_sound K.start K.batch (P.view m.dev.now) m.past.events m.faults m.writes
-        (m.began_whole told) m.whole };
+    ghost sound = { λ m told. part_sound K.start K.batch m.past.events m.faults m.writes (m.began_whole told)
+        m.whole };
 
     fn read(&mut self, sector: u32, into: &mut [u8; 512]) -> Result<(), Failed> {
         if let Some(bytes) = self.last_write(sector) {

@@ -37,7 +37,7 @@ invariant_of-result-clause-whole g c = subst AreWholeWrites (sym c.none.ensures)
 pub invariant_of-result-clause-began_whole : goal.invariant_of-result-clause-began_whole
 invariant_of-result-clause-began_whole g c told =
     let batch : IsBatch g.K.Going.batch = subst (λ (b : List Patch). IsBatch b) (c.with_batch_alone-batch.ensures.batch ∙ c.requires.batch) c.len-length.ensures.batch in
-    gone_on_whole g.K.Going.batch g.K.Going.start.reads (g.P.Device.view c.args.below.dev.now).reads (c.requires.reads told) batch (g.met.P.Device.sound c.args.below.dev.now told).own.whole
+    gone_on_whole g.K.Going.batch g.K.Going.start.reads (g.P.Device.view c.args.below.dev.now).reads (c.requires.rests told).reads batch (g.met.P.Device.sound c.args.below.dev.now told).own.whole
 
 pub invariant_of-result-clause-few : goal.invariant_of-result-clause-few
 invariant_of-result-clause-few g c =
@@ -56,3 +56,9 @@ returns-clause-at g c =
     at_closed _
     (λ index less. ap (λ (l : List Event). is_gate_open (after l base).reads index) c.none.ensures ∙ on_closed g.K.Going.batch g.K.Going.start.reads batch index less)
     (λ n inside. ap (λ (l : List Event). (after l base).loose n) c.none.ensures)
+
+pub invariant_of-result-clause-leaves : goal.invariant_of-result-clause-leaves
+invariant_of-result-clause-leaves g c told = ∣ (c.requires.rests told).leaves ∣₁
+
+pub returns-clause-firm : goal.returns-clause-firm
+returns-clause-firm g c n = ap (λ (l : List Event). (after l (went_on g.K.Going.start g.K.Going.batch)).loose n) c.none.ensures

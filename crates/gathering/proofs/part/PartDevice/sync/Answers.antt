@@ -4,7 +4,7 @@ use Rattle.image_device.specs.History.{HistoryState}
 use Rattle.image_device.proofs.Pushes.{settles}
 use Rattle.gathering.specs.Parts.{went_on}
 use Rattle.gathering.proofs.Events.{journal_kept, pushed}
-use Rattle.gathering.proofs.PartLaws.{net_of_sync, part_settles, stray_kept, whole_sync}
+use Rattle.gathering.proofs.PartLaws.{net_of_sync, stray_kept, whole_sync}
 use Rattle.gathering.proofs.part.PartDevice.sync.Goals as goal
 
 pub invariant_of-self-clause-newest : goal.invariant_of-self-clause-newest
@@ -35,7 +35,4 @@ returns-clause-firm g c told n =
 pub returns-clause-settles : goal.returns-clause-settles
 returns-clause-settles g c told =
     let m = c.args.self.now in
-    let start = g.K.Going.start in
-    let here = g.P.Device.view m.dev.now in
-    part_settles start g.K.Going.batch here here m.past.events c.with_sync-self.result.events m.faults m.writes m.faults m.writes (λ t x f le left. left) (λ t x f le left. left)
-    (settles (went_on start g.K.Going.batch) m.past.events 0 0 0 0 0 0 (went_on start g.K.Going.batch) refl _ c.with_sync-self.ensures)
+    settles (went_on g.K.Going.start g.K.Going.batch) m.past.events _ _ _ _ _ _ (went_on g.K.Going.start g.K.Going.batch) refl _ c.with_sync-self.ensures

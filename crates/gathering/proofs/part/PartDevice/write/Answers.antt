@@ -8,7 +8,7 @@ use Rattle.intent_journal.specs.Home.{is_journal}
 use Rattle.intent_journal.specs.Homes.{is_lawful_home}
 use Rattle.gathering.specs.Parts.{went_on, IsNetOver}
 use Rattle.gathering.proofs.Events.{journal_apart, journal_written}
-use Rattle.gathering.proofs.PartLaws.{apart_homes, few_more, net_of_home, net_of_journal, never_full, part_touches, stray_kept, stray_now, whole_write, with_one, with_room}
+use Rattle.gathering.proofs.PartLaws.{apart_homes, few_more, net_of_home, net_of_journal, never_full, stray_kept, stray_now, whole_write, with_one, with_room}
 use Rattle.gathering.proofs.part.PartDevice.write.Goals as goal
 
 -- of the journal
@@ -51,9 +51,7 @@ returns-then-is_of_journal-clause-touches g c told =
     let m = c.args.self.now in
     let also = c.with_write-self.ensures in
     let base = went_on g.K.Going.start g.K.Going.batch in
-    let here = g.P.Device.view m.dev.now in
-    part_touches g.K.Going.start g.K.Going.batch here here m.past.events _ m.faults m.writes _ _ (λ t x f le left. left) (λ t x f le left. left) c.args.sector
-    (touches base m.past.events 0 0 0 0 0 0 c.args.sector also.0 base refl _ also.2)
+    touches base m.past.events _ _ _ _ _ _ c.args.sector also.0 base refl _ also.2
 
 -- of a sector that no batch may hold
 pub invariant_of-self-then-not-is_lawful_home-clause-newest : goal.invariant_of-self-then-not-is_lawful_home-clause-newest
@@ -101,9 +99,7 @@ returns-then-not-is_lawful_home-clause-touches g c told =
     let m = c.args.self.now in
     let also = c.with_write-self-then-not-is_lawful_home.ensures in
     let base = went_on g.K.Going.start g.K.Going.batch in
-    let here = g.P.Device.view m.dev.now in
-    part_touches g.K.Going.start g.K.Going.batch here here m.past.events _ m.faults m.writes _ _ (λ t x f le left. left) (λ t x f le left. left) c.args.sector
-    (touches base m.past.events 0 0 0 0 0 0 c.args.sector also.0 base refl _ also.2)
+    touches base m.past.events _ _ _ _ _ _ c.args.sector also.0 base refl _ also.2
 
 -- of another one
 pub invariant_of-self-2-clause-newest : goal.invariant_of-self-2-clause-newest
@@ -151,9 +147,7 @@ returns-clause-touches g c told =
     let m = c.args.self.now in
     let also = c.with_write-self-2.ensures in
     let base = went_on g.K.Going.start g.K.Going.batch in
-    let here = g.P.Device.view m.dev.now in
-    part_touches g.K.Going.start g.K.Going.batch here here m.past.events _ m.faults m.writes _ _ (λ t x f le left. left) (λ t x f le left. left) c.args.sector
-    (touches base m.past.events 0 0 0 0 0 0 c.args.sector also.0 base refl _ also.2)
+    touches base m.past.events _ _ _ _ _ _ c.args.sector also.0 base refl _ also.2
 
 pub invariant_of-self-then-not-is_lawful_home-clause-stray : goal.invariant_of-self-then-not-is_lawful_home-clause-stray
 invariant_of-self-then-not-is_lawful_home-clause-stray g c had =
