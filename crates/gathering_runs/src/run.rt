@@ -62,9 +62,13 @@ pub fn serve_in_groups<
         (taking S.told S.taken S.left_bytes S.ended source.old source.new) (moments P.told P.view port result.0) }
     // Round by round: no request that is whole waits while more input is taken.
     /// promise: **Round by round**: bytes came, and then all requests were answered by turns, and their replies sent,
-    /// that were whole in what had come. A turn is a group, with at most 236 writes from its first call to its last
-    /// reply, or a request on the device itself. Of what comes in a round but the last 65,536 bytes make one request
-    /// whole at most. Where the input was cut short, nothing was written or sent behind the last round.
+    /// that were whole in what had come. A turn answers one request at least: it is a group, with at most 236 writes
+    /// from its first call to its last reply, or a request on the device itself. Behind a turn no more is left to be
+    /// reclaimed than where each of its requests is served alone, with four steps behind it, where none is a sweep.
+    /// Groups that only reclaim send nothing, and each lowers what is left: before a turn only where its first request
+    /// may have to wait for them, behind a turn four at most, and in the end until nothing is left. Of what comes in a
+    /// round but the last 65,536 bytes make one request whole at most. Where the input was cut short, nothing was
+    /// written or sent behind the last round.
     ensures rounds { P.told → RanByRounds result.1 (spoken H.rules R.voice) H.work H.may_wait (IsOfPort P.view) R.spelling
         limit
         (H.state server.old (P.view port).reads)

@@ -1,5 +1,5 @@
 -- What a core holds in memory, from the disk of one group to that of the next.
-use Rattle.std.specs.Prelude.{◌≡◌, ◌+◌, List, []}
+use Rattle.std.specs.Prelude.{◌≡◌, ◌+◌, []}
 use Rattle.std.proofs.Common.{sym, ◌∙◌, ap, arith}
 use Rattle.tsd_model.specs.Step.{State}
 use Rattle.tsd_model.specs.World.{World}
@@ -8,18 +8,14 @@ use Rattle.tsd_model.specs.declared.requests.PlaceKind.{PlaceKind}
 use Rattle.image_layout.specs.Areas.{total}
 use Rattle.image_layout.specs.Image.{Image}
 use Rattle.intent_journal.specs.Home.{home, is_journal, AgreeBut}
-use Rattle.intent_journal.specs.Records.{JournalRecord, open_records}
-use Rattle.intent_journal.specs.Ring.{checkpoint_writes}
+use Rattle.intent_journal.specs.Records.{open_records}
 use Rattle.image_world.specs.Behind.{behind}
-use Rattle.image_world.specs.Debt.{debt, owed}
 use Rattle.image_world.specs.Stands.{Stands}
-use Rattle.image_world.proofs.AgreeLaws.{same_owe}
 use Rattle.image_world.proofs.WrittenLaws.{above_journal}
 use Rattle.gathering.specs.Gathered.{AreClosed}
 use Rattle.gathering.specs.Left.{IsHomeOf}
 use Rattle.gathering.proofs.Closed.{closed_ring}
 use Rattle.gathering_laws.proofs.Alike.{carries_over, stands_alike}
-use Rattle.volume_laws.specs.Writes.{due}
 use Rattle.serving.specs.ModelRules.{Placed}
 use Rattle.tsd_core.specs.Core.{Core, FitsReads, sessions_of}
 use Rattle.image_runs.specs.Server.{placed_on}
@@ -47,19 +43,3 @@ worlds_alike s x y same stands = stands_alike x y s.state.world stands same
 -- and what lies behind it is the same
 pub behind_alike : (g : Geometry) (x y : Image) → IsHomeOf (home x) y → behind g y ≡ behind g x
 behind_alike g x y same i n = same.stands (total g + n) (above_journal (total g + n) (omega arith)) i
-
--- it owes what an image owes that it fits
-pub core_owes : (c : Core) (x : Image) → FitsReads c x → debt x ≡ owed c.volume.tables
-core_owes c x held = ap owed held.tables
-
--- and an image with the home of that one owes as much
-pub core_owed_alike : (c : Core) (x y : Image) → FitsReads c x → IsHomeOf (home x) y → debt y ≡ debt x
-core_owed_alike c x y held same =
-    same_owe x y held.good.header (record { valid = same.valid ∙ sym held.good.journal; stands = same.stands })
-
--- where nothing is owed and the journal is closed, no write is due
-pub core_due_none : (c : Core) (x : Image) → FitsReads c x → AreClosed x → owed c.volume.tables ≡ 0 → due c.volume ≡ 0
-core_due_none c x held closed none =
-    let ring : c.volume.ring ≡ [] = sym held.shows ∙ (closed_ring x closed).shows in
-    let writes : checkpoint_writes c.volume.ring ≡ 0 = ap (λ (rs : List JournalRecord). checkpoint_writes rs) ring in
-    omega (arith, writes, none)

@@ -1,3 +1,4 @@
 pub mod Carried
+pub mod Owing
 pub mod Served
 pub mod Waiting

@@ -7,8 +7,8 @@ ghost use Rattle.volume_laws.specs.Quiet.{IsQuiet};
 ghost use Rattle.volume_laws.specs.Writes.{due};
 ghost use Rattle.image_runs.specs.Server.{disk_rules, disk_work, placed_on};
 ghost use Rattle.image_runs.specs.StandsLaws.{stands_here};
-ghost use Rattle.image_world.specs.Debt.{owed};
-ghost use Rattle.image_groups.specs.Carried.{behind_alike, core_carried, core_due_none, core_owed_alike, core_owes, worlds_alike};
+ghost use Rattle.image_groups.specs.Carried.{behind_alike, core_carried, worlds_alike};
+ghost use Rattle.image_groups.specs.Owing.{core_due_none, core_owed_alike, core_owes, owed_by};
 ghost use Rattle.image_groups.specs.Waiting.{may_wait};
 
 use gathering_runs::GroupHandler;
@@ -83,7 +83,7 @@ impl<'a> Handler for GroupServer<'a> {
 }
 
 impl<'a> GroupHandler for GroupServer<'a> {
-    ghost owed = { λ h. owed h.core.now.volume.tables };
+    ghost owed = { λ h. owed_by h.core.now };
 
     ghost may_wait = { may_wait };
 
