@@ -43,3 +43,7 @@ ok_by (Err e) b u other is value = absurd (cc)
 pub on_ok : {T E P R : Type 0} (r : Result T E) → (P → R) → OnOk r P → OnOk r R
 on_ok (Ok x) f p = f p
 on_ok (Err e) f p = tt
+
+pub if_ok_then : {T E : Type 0} {P R : T → Type 0} (r : Result T E) → ((x : T) → P x → R x) → IfOk r P → IfOk r R
+if_ok_then (Ok x) f p = f x p
+if_ok_then (Err e) f p = tt

@@ -14,6 +14,7 @@ use Rattle.serving.specs.Prompt.{Mark}
 use Rattle.serving.specs.Runs.{Run, Served}
 use Rattle.serving.specs.Service.{Service}
 use Rattle.serving.specs.Work.{WorkCount}
+use Rattle.serving.proofs.Costs.{front_all, next_all}
 use Rattle.serving.proofs.Debts.{debt_next}
 use Rattle.serving.proofs.Runs.{run_next, sent_next}
 use Rattle.gathering_runs.specs.ByTurns.{IsReclaiming, Reclaims, LeavesBut, left_by}
@@ -63,22 +64,14 @@ module _ {Q : Type 0} (k : Service Q) (w : WorkCount Q k.States) where
   pub leaves_none : (s : k.States) (before : List ℕ) (owed lacking : ℕ) → LeavesBut k w s before [] s before owed owed lacking
   leaves_none s before owed lacking = record { served = record { answers = []; run = refl; sent = sym (append-nil before) }; few = λ all. omega arith }
 
-  all_first : (P : Q → Type 0) (qs : List Q) (q : Q) → All P (qs ++ q ∷ []) → All P qs
-  all_first P [] q all = tt
-  all_first P (x ∷ qs) q all = (all.0, all_first P qs q all.1)
-
-  all_last : (P : Q → Type 0) (qs : List Q) (q : Q) → All P (qs ++ q ∷ []) → P q
-  all_last P [] q all = all.0
-  all_last P (x ∷ qs) q all = all_last P qs q all.1
-
   pub leaves_more : (s m t : k.States) (before mid now : List ℕ) (qs : List Q) (q : Q) (a : List ℕ) (owed some left lacking : ℕ) → LeavesBut k w s before qs m mid owed some 0 → k.gives m q a t → now ≡ mid ++ a → (w.bounded q → left ≤ some + w.made m q - 4 + lacking)
       → LeavesBut k w s before (qs ++ q ∷ []) t now owed left lacking
   leaves_more s m t before mid now qs q a owed some left lacking was given sent few = record {
     served = record { answers = was.served.answers ++ a ∷ []; run = run_next k s m t qs was.served.answers q a was.served.run given; sent = sent_next before mid now was.served.answers a was.served.sent sent };
     few = λ all.
         let e = ap (λ (x : Debt). x.left) (debt_next k w.made s m t qs was.served.answers q a was.served.run given (debt_of owed)) in
-        let one = was.few (all_first w.bounded qs q all) in
-        let two = few (all_last w.bounded qs q all) in
+        let one = was.few (front_all w.bounded qs (q ∷ []) all) in
+        let two = few (next_all w.bounded qs q all) in
         omega (arith, e, one, two);
   }
 

@@ -62,7 +62,10 @@ pub(crate) fn gather<R: Protocol<Request = Request> + Replies, H: GroupHandler, 
         if !intake.next_held(protocol, request) {
             return Ok(false);
         }
-        if *lacking > 0 || !port.has_room(server.homes(request)) {
+        if *lacking > 0 {
+            return Ok(true);
+        }
+        if !port.has_room(server.homes(request)) {
             return Ok(true);
         }
     }

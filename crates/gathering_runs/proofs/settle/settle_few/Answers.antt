@@ -20,5 +20,5 @@ loop-made-preserved g c =
       part = λ told. part_more (g.H.Handler.aside c.args.server.now) (g.H.Handler.aside c.loop-made.server) _ _ _ i.aside (i.part told) (a.part told);
       faults = a.faults ∙ i.faults;
       put_faults = c.step.ensures.put_faults ∙ i.put_faults;
-      less = let less = a.lowered c.if-not-in_ok.false in omega (arith, less, i.less);
+      less = let less = a.lowered c.if-not-some.false in omega (arith, less, i.less);
     }

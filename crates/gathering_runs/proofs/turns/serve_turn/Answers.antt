@@ -36,7 +36,7 @@ returns-in-Ok-clause-did g c =
       λ told.
           let rest = went k part r _ s0 s1 v0 v1 [] c.in-Ok.is (e1.did told) in
           let groups = ok_is r _ c.in-Ok.is (e1.groups told) in
-          on_ok c.serve_settled.result.1 (turn_after k g.H.Handler.work g.H.GroupHandler.may_wait (IsOfPort g.P.Device.view) s0 s1 s2 q did.0 (mark v0) (mark v1) (mark v2) groups.0 (c.homes.ensures (omega (arith, c.if-not-homes))) groups.1 (sym (run_none k s0 s1 rest.served.answers rest.served.run))) (did.3 told),
+          on_ok c.serve_settled.result.1 (turn_after k g.H.Handler.work g.H.GroupHandler.may_wait (IsOfPort g.P.Device.view) s0 s1 s2 q did.0 (mark v0) (mark v1) (mark v2) groups.0 (c.homes.ensures (omega (arith, c.if-homes-le-HOMES_MAX.false))) groups.1 (sym (run_none k s0 s1 rest.served.answers rest.served.run))) (did.3 told),
     )
 
 pub returns-in-Err-clause-did : goal.returns-in-Err-clause-did
