@@ -10,11 +10,11 @@
 //! cluster, are found at once. Each cluster has to point to what it names. Where all that is right, the names are
 //! compared, each cluster's with its own and with those of the clusters behind it.
 //!
-//! What it promises: over any disk under whose root a tree of chains is, `size`, `read_file`, `read_on`, `name_after` and
-//! `names_after` answer by the step of the tree; `is_tree` tells exactly whether one is there. They change no world and are refused beyond that
-//! by a fault alone. The laws of `deciding` say what the write that decides a change leaves: the tree with that entry
-//! set, added or taken out, or with the bytes added. Nothing is recursive, however long a chain is, and nothing takes
-//! memory.
+//! What it promises: over any disk under whose root a tree of chains is, `size`, `read_file`, `read_on`, `name_after`
+//! and `names_after` answer by the step of the tree; `is_tree` tells exactly whether one is there. They change no world
+//! and are refused beyond that by a fault alone. The laws of `deciding` say what the write that decides a change
+//! leaves: the tree with that entry set, added or taken out, or with the bytes added. Nothing is recursive, however
+//! long a chain is, and nothing takes memory.
 #![tactic(auto)]
 
 mod comparing;

@@ -7,10 +7,13 @@ ghost use Rattle.image_world.specs.Behind.{behind};
 ghost use Rattle.tsd_model.specs.declared.requests.PlaceKind.{PlaceKind};
 ghost use Rattle.tsd_model.specs.Run.{IsAnswer};
 ghost use Rattle.volume_laws.specs.Moments.{LeavesEither};
-ghost use Rattle.volume_laws.specs.Writes.{Works};
+ghost use Rattle.volume_laws.specs.Rings.{CommitsOnce};
+ghost use Rattle.volume_laws.specs.Writes.{due, zeroed_cost, Works};
+ghost use Rattle.image_world.specs.Debt.{owed};
 ghost use Rattle.tsd_core.specs.Core.{IsCoreReady, IsCoreAt, state_on};
 ghost use Rattle.disk_laws.specs.Reclaiming.{is_sweep};
 ghost use Rattle.tsd_model.specs.ReplyForm.{is_refusal};
+ghost use Rattle.tsd_core.specs.Journal.{waits, most_homes, owed_then, makes_blocks, count_of};
 ghost use Rattle.tsd_core.specs.Work.{SameSize, write_limit};
 ghost use Rattle.tsd_core.specs.Applying.{IsToldAnswer, asks_nothing, next_world};
 
@@ -54,6 +57,19 @@ pub trait Placing {
         /// promise: At most so many writes for one request as `Core::apply` has.
         ensures limit { is_sweep request.now ≡ false → (D.view dev.new).writes ≤ (D.view dev.old).writes
             + write_limit core.old.volume request.now }
+        // What it commits and what is owed then, and what new blocks cost, as `Core::apply` has it.
+        /// promise (with owes, new_paid, new_most): What a request commits and leaves to be reclaimed, and what new
+        /// blocks cost, is as `Core::apply` has it.
+        ensures once { waits core.old.volume request.now ≡ false → CommitsOnce
+            (most_homes core.old.volume.tables.geometry request.now) core.old.volume core.new.volume (D.view dev.old)
+            (D.view dev.new) result }
+        ensures owes { IfOk result (λ r. is_refusal r ≡ false → owed core.new.volume.tables ≡ owed_then
+            core.old.volume request.now) }
+        ensures new_paid { makes_blocks request.now ≡ true
+            → OnOk result ((D.view dev.new).writes + due core.new.volume ≤ (D.view dev.old).writes + due
+            core.old.volume + zeroed_cost core.old.volume.tables.geometry (count_of request.now)) }
+        ensures new_most { makes_blocks request.now ≡ true → (D.view dev.new).writes ≤ (D.view dev.old).writes
+            + due core.old.volume + zeroed_cost core.old.volume.tables.geometry (count_of request.now) }
         ensures works { Works (D.view dev.old) (D.view dev.new) }
         ensures faults { CountsFault result (D.view dev.old).faults (D.view dev.new).faults };
 }

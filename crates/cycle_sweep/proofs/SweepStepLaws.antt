@@ -9,7 +9,7 @@ use Rattle.tsd_model.specs.Step.{targets_from}
 use Rattle.tsd_model.specs.World.{World, is_live, has_number}
 use Rattle.tsd_model.specs.Reach.{reach, swept}
 use Rattle.tsd_model.proofs.CountLaws.{none_pass, none_passes}
-use Rattle.pointer_table.specs.declared.out_step.OutStep.{OutStep}
+use Rattle.reclaim.specs.declared.out_step.OutStep.{OutStep}
 use Rattle.graph_laws.specs.Graph.{HasGraphOf}
 use Rattle.graph_laws.specs.RawGraph.{IsRawGraph}
 use Rattle.graph_laws.specs.Steps.{without_pointers, AreTargets, IsAlone}

@@ -4,7 +4,7 @@ use Rattle.tsd_model.specs.Pairs.{holds}
 use Rattle.tsd_model.specs.World.{World, is_live, has_number, free_count}
 use Rattle.tsd_model.specs.Reach.{reach}
 use Rattle.tsd_model.specs.Valid.{IsRaw}
-use Rattle.pointer_table.specs.declared.out_step.OutStep.{OutStep}
+use Rattle.reclaim.specs.declared.out_step.OutStep.{OutStep}
 use Rattle.graph_laws.specs.Graph.{HasGraphOf}
 use Rattle.graph_laws.specs.Steps.{without_pointers, IsStep, IsAlone}
 use Rattle.graph_laws.specs.Sweeping.{SweepsAs}

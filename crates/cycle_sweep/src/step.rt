@@ -13,8 +13,8 @@ ghost use Rattle.reclaim.specs.Tables.{graph_of, AreTables, HaveCounts};
 
 use crate::marks::Marks;
 use block_alloc::LiveMap;
-use pointer_table::{OutStep, PointerTable};
-use reclaim::{STEP_TARGETS, first_targets};
+use pointer_table::PointerTable;
+use reclaim::{OutStep, STEP_TARGETS, first_targets};
 use ref_counts::RefCounts;
 use tsd_model::BlockList;
 

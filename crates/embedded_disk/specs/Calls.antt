@@ -24,8 +24,8 @@ pub record HasNoRoom (r : Status) (source : Taking) (port : Moments) : Type 0 wh
 
 -- An image was opened and its frames served in groups, at most 2^40 bytes of them, and a refusal says what is wrong
 -- with it. Of one that stands for no world: where it fails one of the first three tests nothing was written; where it
--- fails another, all that a repair could use is still there. What lies behind the image stays in each image that a crash
--- leaves; of the records that say so there is one, and none is picked.
+-- fails another, all that a repair could use is still there. What lies behind the image stays in each image that a
+-- crash leaves; of the records that say so there is one, and none is picked.
 pub record OpenedAndServed (r : Status) (kind : PlaceKind) (source : Taking) (port : Moments) : Type 0 where
   pub judged : port.tells → IsJudged port.old.reads r
   pub ran : ImageRanInGroups r frame_voice frame_spelling kind (2 ^ 40) source port

@@ -7,3 +7,5 @@ mod Resuming
 mod Flushing
 pub mod Merely
 pub mod Closed
+mod Tried
+pub mod Straying

@@ -15,12 +15,12 @@ use Rattle.image_layout.specs.declared.offset.Patch.{Patch}
 use Rattle.intent_journal.specs.Batch.{IsBatch, has_home}
 use Rattle.intent_journal.specs.Home.{overlaid, is_journal}
 use Rattle.intent_journal.specs.Homes.{is_lawful_home}
-use Rattle.intent_journal.specs.Records.{is_gate_open}
+use Rattle.intent_journal.specs.Records.{is_gate_open, AreClosed}
 use Rattle.intent_journal.specs.Ring.{IsRingAt}
 use Rattle.intent_journal.proofs.Overlays.{overlaid_missed}
 use Rattle.intent_journal.proofs.Places.{gate_in}
 use Rattle.intent_journal.proofs.Uses.{at_closed, lawful_missed}
-use Rattle.gathering.specs.Gathered.{AreClosed, AreLastOfJournal, ArePut, AreWhole, ComesTo, IsNet, begun_on, cleared, gathered_view, gone_on, journal_size}
+use Rattle.gathering.specs.Gathered.{AreLastOfJournal, ArePut, AreWhole, ComesTo, IsNet, begun_on, cleared, gathered_view, gone_on, journal_size}
 use Rattle.gathering.proofs.Closed.{cleared_closed}
 use Rattle.gathering.proofs.PastEvents.{boxed, carried_on, writes_of}
 use Rattle.gathering.proofs.Events.{none_kept}

@@ -1,6 +1,6 @@
 -- A gathering device: a disk in memory that begins as the real one reads, its journal closed, and to which since then
 -- only what its log tells was done.
-use Rattle.std.specs.Prelude.{ℕ, ◌-◌, ◌≡◌, ◌<◌, true, false, cond, get_or, List, ◌++◌, Option, None, unwrap_or}
+use Rattle.std.specs.Prelude.{ℕ, ◌-◌, ◌≡◌, Bool, true, false, cond, get_or, List, ◌++◌, Option, None, unwrap_or}
 use Rattle.image_device.specs.declared.event.Event.{Event}
 use Rattle.image_device.specs.Image.{Image, IsSector, zeros}
 use Rattle.image_device.specs.View.{View, IsLeftNow, IsSound}
@@ -9,9 +9,9 @@ use Rattle.image_device.specs.History.{HistoryState, after}
 use Rattle.image_device.specs.Laws.{counts_now, only_now}
 use Rattle.image_device.specs.MemStation.{history_view}
 use Rattle.image_layout.specs.declared.offset.Patch.{Patch}
-use Rattle.image_layout.specs.Ring.{records, ring_start}
+use Rattle.image_layout.specs.Ring.{ring_start}
 use Rattle.intent_journal.specs.Home.{home, overlaid, is_journal}
-use Rattle.intent_journal.specs.Records.{is_gate_open}
+use Rattle.intent_journal.specs.Homes.{is_lawful_home}
 use Rattle.std.proofs.Common.{refl}
 
 -- what an image stands for, with zeros in the sectors of the journal, so that no record is open
@@ -21,10 +21,6 @@ cleared x n = cond (is_journal n) zeros (home x n)
 -- the same with these patches in place
 abbrev pub gone_on : List Patch → Image → Image
 gone_on batch x = overlaid batch (cleared x)
-
--- every gate of the journal reads closed
-abbrev pub AreClosed : Image → Type 0
-AreClosed x = (index : ℕ) → index < records → is_gate_open x index ≡ false
 
 -- the disk in memory as a group begins on this device: nothing is loose
 abbrev pub begun_on : View → HistoryState
@@ -77,3 +73,18 @@ pub record HasRested (start now : View) : Type 0 where
   pub loose : now.loose ≡ start.loose
   pub sent : now.sent ≡ start.sent
   pub leaves : LeavesOnly start now (IsLeftNow start)
+
+-- Both make the same of a disk that begins so, as far as it reads and what is sent. They may differ in what is loose.
+pub record AreAlike (s : HistoryState) (done tried : List Event) : Type 0 where
+  pub reads : (after tried s).reads ≡ (after done s).reads
+  pub sent : (after tried s).sent ≡ (after done s).sent
+
+-- No batch may hold this sector, which is none of the journal's, and it is loose: a crash may leave any bytes in it.
+pub record IsAstray (loose : ℕ → Bool) (sector : ℕ) : Type 0 where
+  pub outside : is_journal sector ≡ false
+  pub unlawful : is_lawful_home sector ≡ false
+  pub loosened : loose sector ≡ true
+
+-- A write to a sector that no batch may hold was tried, and a crash may leave any bytes there.
+abbrev pub HasStrayed : View → Type 0
+HasStrayed v = (sector : ℕ) × IsAstray v.loose sector

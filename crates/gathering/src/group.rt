@@ -1,5 +1,6 @@
 // A group in memory: what was done to a disk since the group began, and what it comes to.
-ghost use Rattle.std.specs.Prelude.{◌≡◌, ◌⊎◌, ◌++◌, [], ◌∷◌, true, false, length, OnOk, OnErr, IfSome, IfNone};
+ghost use Rattle.std.specs.Prelude.{◌≡◌, ◌⊎◌, ◌≤◌, ◌+◌, ◌++◌, [], ◌∷◌, true, false, length};
+ghost use Rattle.std.specs.Prelude.{OnOk, OnErr, IfSome, IfNone};
 ghost use Rattle.image_device.specs.declared.event.Event.TheVariants.{Put, Sync, Write};
 ghost use Rattle.image_device.specs.History.{HistoryState, after};
 ghost use Rattle.image_layout.specs.Ring.{bodies};
@@ -54,7 +55,8 @@ pub(crate) struct Group {
 impl Group {
     /// Nothing was done yet. What an earlier group left in the room is gone.
     pub(crate) fn new(room: Room) -> Group
-        ensures { result.past.events ≡ [] }
+        ensures past { result.past.events ≡ [] }
+        ensures batch { result.batch ≡ [] }
     {
         let Room {
             batch,
@@ -115,6 +117,7 @@ impl Group {
         ensures same { OnErr result (self.new.past.events ≡ self.old.past.events) }
         ensures cause { OnErr result ((is_journal sector ≡ false) × ((is_lawful_home sector ≡ false)
             ⊎ ((has_home self.old.batch sector ≡ false) × (length self.old.batch ≡ bodies)))) }
+        ensures few { length self.new.batch ≤ length self.old.batch + 1 }
     {
         if is_of_journal(sector) {
             self.write_journal(sector, from);
@@ -126,8 +129,9 @@ impl Group {
     /// Keeps a write to the journal.
     fn write_journal(&mut self, sector: u32, from: &[u8; 512])
         requires { is_journal sector ≡ true }
-        ensures { (bytes : _) × (bytes.value ≡ from.now)
+        ensures kept { (bytes : _) × (bytes.value ≡ from.now)
             × (self.new.past.events ≡ self.old.past.events ++ Write sector bytes ∷ []) }
+        ensures batch { self.new.batch ≡ self.old.batch }
     {
         self.journal.put(sector, from);
         self.past = Past::of(&(&self.past, sector, from));
@@ -141,6 +145,7 @@ impl Group {
         ensures same { OnErr result (self.new.past.events ≡ self.old.past.events) }
         ensures cause { OnErr result ((is_lawful_home sector ≡ false)
             ⊎ ((has_home self.old.batch sector ≡ false) × (length self.old.batch ≡ bodies))) }
+        ensures few { length self.new.batch ≤ length self.old.batch + 1 }
     {
         keep_home(&mut self.batch, &mut self.homes, sector, from)?;
         self.past = Past::of(&(&self.past, sector, from));
@@ -149,7 +154,8 @@ impl Group {
 
     /// Keeps a sync.
     pub(crate) fn sync(&mut self)
-        ensures { self.new.past.events ≡ self.old.past.events ++ Sync ∷ [] }
+        ensures past { self.new.past.events ≡ self.old.past.events ++ Sync ∷ [] }
+        ensures batch { self.new.batch ≡ self.old.batch }
     {
         self.past = Past::of(&self.past);
     }
@@ -159,6 +165,7 @@ impl Group {
         ensures kept { OnOk result ((kept : _) × (kept.items ≡ piece.now)
             × (self.new.past.events ≡ self.old.past.events ++ Put kept ∷ [])) }
         ensures same { OnErr result (self.new.past.events ≡ self.old.past.events) }
+        ensures batch { self.new.batch ≡ self.old.batch }
     {
         self.waiting.extend_from_slice(piece)?;
         self.past = Past::of(&(&self.past, piece));
@@ -204,6 +211,7 @@ fn keep_home(
     ensures put { OnOk result (batch.new ≡ with_patch (record { sector = sector; bytes = from.now }) batch.old) }
     ensures was { OnOk result (IsBatch batch.old) }
     ensures unchanged { OnErr result (batch.new ≡ batch.old) }
+    ensures few { length batch.new ≤ length batch.old + 1 }
     ensures cause { OnErr result ((is_lawful_home sector ≡ false)
         ⊎ ((has_home batch.old sector ≡ false) × (length batch.old ≡ bodies))) }
 {

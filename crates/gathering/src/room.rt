@@ -1,5 +1,6 @@
 // The memory of a group.
-ghost use Rattle.std.specs.Prelude.{◌≡◌, [], None, replicate};
+ghost use Rattle.std.specs.Prelude.{◌≡◌, ◌≤◌, [], None, length, replicate, IfOk};
+ghost use Rattle.image_layout.specs.Ring.{bodies};
 ghost use Rattle.gathering.specs.Gathered.{journal_size};
 
 use crate::homes::Homes;
@@ -23,7 +24,9 @@ pub struct Room {
 
 impl Room {
     /// Room for 113 homes, the sectors of a journal, and 128 KiB that wait. This alone takes memory.
-    pub fn new(alloc: Global) -> Result<Room, NoMemory> {
+    pub fn new(alloc: Global) -> Result<Room, NoMemory>
+        ensures batch { IfOk result (λ r. r.batch ≡ []) }
+    {
         let batch = Batch::new(alloc)?;
         let homes = Homes::new(alloc)?;
         let journal = JournalSectors::new(alloc)?;
@@ -36,6 +39,15 @@ impl Room {
             }),
             Err(_) => Err(NoMemory),
         }
+    }
+
+    /// How many homes the batch in it has, which the last group left. There is room for 113.
+    pub fn homes(&self) -> usize
+        /// promise (with most): How many homes the batch in the room has; at most 113.
+        ensures value { result ≡ length self.now.batch }
+        ensures most { result ≤ bodies }
+    {
+        self.batch.len() as usize
     }
 
     /// The same room, with nothing in it.

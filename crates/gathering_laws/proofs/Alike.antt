@@ -3,8 +3,8 @@ use Rattle.std.proofs.Common.{◌≡◌, ℕ, sym, ◌∙◌, subst}
 use Rattle.tsd_model.specs.World.{World}
 use Rattle.image_device.specs.Image.{Image}
 use Rattle.intent_journal.specs.Home.{home, is_journal, AgreeBut}
+use Rattle.intent_journal.specs.Records.{AreClosed}
 use Rattle.image_world.specs.Faults.{IsGood}
-use Rattle.image_world.specs.Fresh.{AreClosed}
 use Rattle.image_world.specs.Stands.{Stands}
 use Rattle.image_world.proofs.AgreeLaws.{alike_outside, old_stands, same_owe}
 use Rattle.image_world.proofs.AlikeLaws.{alike_tables}

@@ -3,10 +3,9 @@ use Rattle.std.specs.Prelude.{◌≡◌, ◌⊎◌, List, [], ℕ}
 use Rattle.tsd_model.specs.World.{World}
 use Rattle.image_device.specs.Image.{Image}
 use Rattle.intent_journal.specs.Home.{home, is_journal, AgreeBut}
-use Rattle.intent_journal.specs.Records.{open_records}
+use Rattle.intent_journal.specs.Records.{open_records, AreClosed}
 use Rattle.image_world.specs.Debt.{debt}
 use Rattle.image_world.specs.Faults.{IsGood}
-use Rattle.image_world.specs.Fresh.{AreClosed}
 use Rattle.image_world.specs.Stands.{world_of, Stands}
 use Rattle.image_world.specs.Tables.{tables_of}
 use Rattle.gathering.specs.Gathered.{cleared}

@@ -4,10 +4,10 @@ use Rattle.image_device.specs.Image.{Image, zeros}
 use Rattle.image_device.specs.View.{View}
 use Rattle.image_device.specs.Runs.{IsFirm}
 use Rattle.intent_journal.specs.Home.{home, is_journal, AgreeBut}
-use Rattle.intent_journal.specs.Records.{JournalRecord}
+use Rattle.intent_journal.specs.Records.{JournalRecord, AreClosed}
 use Rattle.intent_journal.specs.Ring.{IsRingAt}
 use Rattle.intent_journal.proofs.Uses.{at_closed}
-use Rattle.gathering.specs.Gathered.{cleared, AreClosed}
+use Rattle.gathering.specs.Gathered.{cleared}
 use Rattle.gathering.specs.Left.{IsHomeOf}
 use Rattle.gathering.proofs.Closed.{cleared_closed, closed_home, closed_valid}
 use Rattle.gathering_runs.specs.Turns.{StandsBetween}

@@ -4,7 +4,7 @@ use Rattle.std.specs.Prelude.{Result, Ok, Err, OnErr}
 use Rattle.image_device.specs.Counts.{Rose}
 use Rattle.image_device.specs.View.{View}
 use Rattle.image_device.specs.Runs.{LeavesOnly}
-use Rattle.intent_journal.specs.Records.{JournalRecord}
+use Rattle.intent_journal.specs.Records.{JournalRecord, AreClosed}
 use Rattle.intent_journal.specs.Ring.{IsRingAt}
 use Rattle.intent_journal.proofs.Uses.{at_valid}
 use Rattle.gathering.proofs.Merely.{weakened_mere}
@@ -13,7 +13,7 @@ use Rattle.image_device.specs.Image.{Image}
 use Rattle.intent_journal.specs.Home.{home, is_journal, AgreeBut}
 use Rattle.serving.specs.Runs.{Run, Served, texts}
 use Rattle.serving.specs.Service.{Service}
-use Rattle.gathering.specs.Gathered.{cleared, AreClosed}
+use Rattle.gathering.specs.Gathered.{cleared}
 use Rattle.gathering.specs.Left.{Moment, moment_of, IsHomeOf, IsLeftAtStart, IsLeftByGroup, IsSentBetween}
 use Rattle.gathering.proofs.Closed.{cleared_closed, cleared_home, closed_home, closed_valid}
 use Rattle.gathering_runs.specs.Promise.{IsLeftByRun, IsOfPrefix}

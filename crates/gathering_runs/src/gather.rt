@@ -2,7 +2,7 @@
 ghost use Rattle.std.specs.Prelude.{◌≡◌, ◌<◌, ◌≤◌, ◌+◌, ◌-◌, ◌++◌, ◌⊎◌, ◌∷◌, [], ℕ, List, Ok, OnOk, OnErr, IfOk};
 ghost use Rattle.std.specs.Prelude.{true, false, unwrap_or};
 ghost use Rattle.image_device.specs.Counts.{Rose};
-ghost use Rattle.gathering.specs.Gathered.{AreClosed};
+ghost use Rattle.intent_journal.specs.Records.{AreClosed};
 ghost use Rattle.serving.specs.Goes.{remaining, unread};
 ghost use Rattle.serving.specs.Handling.{FitsDevice};
 ghost use Rattle.serving.specs.Voice.{spoken};

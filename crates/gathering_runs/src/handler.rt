@@ -4,8 +4,8 @@ ghost use Rattle.std.specs.Prelude.{◌≡◌, ◌<◌, ◌↔◌, ℕ, IsTrue, 
 ghost use Rattle.image_device.specs.Counts.{CountsFault};
 ghost use Rattle.image_device.specs.Image.{Image};
 ghost use Rattle.image_device.specs.Runs.{LeavesOnly, LeavesPart};
-ghost use Rattle.gathering.specs.Gathered.{AreClosed};
 ghost use Rattle.intent_journal.specs.Home.{home, is_journal, AgreeBut};
+ghost use Rattle.intent_journal.specs.Records.{AreClosed};
 ghost use Rattle.gathering.specs.Left.{IsHomeOf};
 ghost use Rattle.serving.specs.Handling.{FitsDevice, CountsRise};
 ghost use Rattle.tsd_model.specs.declared.requests.Request.{Request as Asked};

@@ -2,7 +2,8 @@
 ghost use Rattle.std.specs.Prelude.{◌≡◌, ◌⊎◌, ◌≤◌, ◌<◌, ◌+◌, ◌-◌, [], ℕ, true, false, OnOk, IfOk, IfErr};
 ghost use Rattle.image_device.specs.Calls.{Uses};
 ghost use Rattle.image_device.specs.Counts.{CountsFault, CountsFaultOf};
-ghost use Rattle.gathering.specs.Gathered.{cleared, AreClosed, HasRested};
+ghost use Rattle.intent_journal.specs.Records.{AreClosed};
+ghost use Rattle.gathering.specs.Gathered.{cleared, HasRested};
 ghost use Rattle.serving.specs.Handling.{FitsDevice};
 ghost use Rattle.serving.specs.Prompt.{IsOfPort, mark};
 ghost use Rattle.serving.specs.Voice.{spoken};

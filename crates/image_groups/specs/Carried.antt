@@ -8,11 +8,10 @@ use Rattle.tsd_model.specs.declared.requests.PlaceKind.{PlaceKind}
 use Rattle.image_layout.specs.Areas.{total}
 use Rattle.image_layout.specs.Image.{Image}
 use Rattle.intent_journal.specs.Home.{home, is_journal, AgreeBut}
-use Rattle.intent_journal.specs.Records.{open_records}
+use Rattle.intent_journal.specs.Records.{open_records, AreClosed}
 use Rattle.image_world.specs.Behind.{behind}
 use Rattle.image_world.specs.Stands.{Stands}
 use Rattle.image_world.proofs.WrittenLaws.{above_journal}
-use Rattle.gathering.specs.Gathered.{AreClosed}
 use Rattle.gathering.specs.Left.{IsHomeOf}
 use Rattle.gathering.proofs.Closed.{closed_ring}
 use Rattle.gathering_laws.proofs.Alike.{carries_over, stands_alike}

@@ -3,11 +3,10 @@ use Rattle.std.specs.Prelude.{◌≡◌, ℕ, List, []}
 use Rattle.std.proofs.Common.{sym, ◌∙◌, ap, arith}
 use Rattle.image_layout.specs.Image.{Image}
 use Rattle.intent_journal.specs.Home.{home}
-use Rattle.intent_journal.specs.Records.{JournalRecord}
+use Rattle.intent_journal.specs.Records.{AreClosed, JournalRecord}
 use Rattle.intent_journal.specs.Ring.{checkpoint_writes}
 use Rattle.image_world.specs.Debt.{debt, owed}
 use Rattle.image_world.proofs.AgreeLaws.{same_owe}
-use Rattle.gathering.specs.Gathered.{AreClosed}
 use Rattle.gathering.specs.Left.{IsHomeOf}
 use Rattle.gathering.proofs.Closed.{closed_ring}
 use Rattle.volume_laws.specs.Writes.{due}

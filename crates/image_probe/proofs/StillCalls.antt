@@ -10,7 +10,6 @@ use Rattle.image_world.proofs.AgreeLaws.{agree_back, agree_stands, home_gate, ou
 use Rattle.image_world.proofs.FaultAlike.{fault_alike}
 use Rattle.image_world.specs.Alike.{ReadAlike}
 use Rattle.image_world.specs.Faults.{IsFormatGateOpen, IsGood}
-use Rattle.image_world.specs.Fresh.{AreClosed}
 use Rattle.image_world.specs.Stands.{Stands, world_of}
 use Rattle.image_layout.specs.Image.{says_open}
 use Rattle.image_layout.specs.Ring.{gate_sector}
@@ -20,7 +19,7 @@ use Rattle.std.specs.Prelude.{Result, Ok, Err}
 use Rattle.intent_journal.proofs.Opened.{home_of_empty, opened_none}
 use Rattle.intent_journal.proofs.Places.{gate_in}
 use Rattle.intent_journal.specs.Home.{home, is_journal}
-use Rattle.intent_journal.specs.Records.{has_valid_records, is_gate_open}
+use Rattle.intent_journal.specs.Records.{has_valid_records, is_gate_open, AreClosed}
 
 -- a call that leaves what it reads as and what was sent
 module _ (r r' : Image) (s s' : List ℕ) (c c' a a' b b' w w' : ℕ) (reads : r' ≡ r) (sent : s' ≡ s)

@@ -10,7 +10,7 @@ ghost use Rattle.image_layout.specs.Header.{IsHeaderReading, IsVersion};
 ghost use Rattle.image_probe.specs.Reading.{OnlyReads, ReadCounts};
 ghost use Rattle.image_probe.specs.Tested.{IsTested};
 ghost use Rattle.image_world.specs.Faults.{IsFormatGateOpen};
-ghost use Rattle.image_world.specs.Fresh.{AreClosed};
+ghost use Rattle.intent_journal.specs.Records.{AreClosed};
 
 use crate::first_side::{Before, FirstSide};
 use crate::head::read_head;

@@ -20,11 +20,11 @@ pub use Rattle.image_world.proofs.WorldLaws.{geometry_left, told_like, world_val
 pub use Rattle.image_world.specs.Behind.{LeavesBehind, behind, size_of_image}
 pub use Rattle.image_world.specs.Debt.{debt, owed}
 pub use Rattle.image_world.specs.Faults.{IsGood}
-pub use Rattle.image_world.specs.Fresh.{AreClosed}
 pub use Rattle.image_world.specs.Stands.{Stands, world_of}
 pub use Rattle.image_world.specs.Tables.{Tables, header_on}
 unfoldable pub use Rattle.image_world.specs.Tables.{tables_of}
 pub use Rattle.intent_journal.specs.Home.{home}
+pub use Rattle.intent_journal.specs.Records.{AreClosed}
 pub use Rattle.load_gen.specs.Load.{Generator, load_after, next_request}
 pub use Rattle.load_gen.specs.Requests.{request_of_kind, request_of_words, seed_request, shown_at, stream_word, window, words_place}
 pub use Rattle.recovery.specs.Formatting.{IsFormatting}

@@ -4,6 +4,10 @@ use Rattle.std.specs.Prelude.{Result, Ok, Err, IfErr, OnOk}
 use Rattle.image_runs.proofs.Common.{CountsFault, CountsFaultOf, Rose, World, zeros, View, IsPart, IsLeftInPut, LeavesOnly, joined, weakened, Image, IsGood, AreClosed, Stands, world_of, StandAlike, Status, LeavesEither, Volume, IsVolumeAt, world_on, upgrade_line, IsJudged, IsUnopened}
 use Rattle.tsd_model.specs.Records.{upgraded}
 use Rattle.tsd_words.specs.declared.status.Status.TheVariants as status
+use Rattle.volume_laws.specs.Erased.{HasOnlyDigests}
+use Rattle.volume_laws.proofs.Committed.{told_like as volume_told}
+use Rattle.volume_laws.proofs.QuestionLaws.{told_size}
+use Rattle.tsd_model.specs.declared.records.Record.{Record}
 use Rattle.image_runs.specs.Upgrade.{HasUpgraded, IsLeftOfUpgrade, IsUpgradeOf, IsUpgraded}
 use Rattle.image_runs.proofs.Saying.{put_over, still_firm}
 
@@ -38,6 +42,7 @@ upgraded_still image mid new is reads loose = record {
   upgrade = subst (λ (x : Image). IsUpgradeOf image x) (sym reads) is.upgrade;
   closed = subst (λ (x : Image). AreClosed x) (sym reads) is.closed;
   erased = subst (λ (x : Image). (n : ℕ) → 4 ≤ n → n ≤ 116 → x n ≡ zeros) (sym reads) is.erased;
+  digests = λ one. subst (λ (x : Image). HasOnlyDigests (upgraded (world_of image)).records x) (sym reads) (is.digests one);
 }
 
 pub line_moments : (old mid new : View) → IsUpgraded old.reads mid → mid.sent ≡ old.sent → LeavesOnly old mid (λ x f. (StandAlike old.reads x ⊎ IsUpgradeOf old.reads x) × (f ≡ old.sent))
@@ -60,16 +65,29 @@ not_upgraded status.TooLong old new stops judged sent = absurd stops
 not_upgraded status.Truncated old new stops judged sent = absurd stops
 not_upgraded (status.RootDenied level) old new stops judged sent = absurd stops
 
+-- what a volume's tables tell of the world's version and records
+told_version : (vol : Volume) (v : View) → IsVolumeAt vol v → (world_on v).version ≡ vol.tables.version
+told_version vol v at = sym (volume_told vol v at).version ∙ (told_size vol.tables).1
+
+told_records : (vol : Volume) (v : View) → IsVolumeAt vol v → (world_on v).records ≡ vol.tables.records
+told_records vol v at = sym (volume_told vol v at).records ∙ (told_size vol.tables).2
+
+-- the digests, said of the worlds for which the device stood and stands
+pub digests_told : (old now : Volume) (v w : View) → IsVolumeAt old v → IsVolumeAt now w → (old.tables.version ≡ 1 → HasOnlyDigests now.tables.records w.reads) → (world_on v).version ≡ 1 → HasOnlyDigests (world_on w).records w.reads
+digests_told old now v w before after has one = subst (λ (rs : List Record). HasOnlyDigests rs w.reads) (sym (told_records now w after)) (has (sym (told_version old v before) ∙ one))
+
 -- once the volume is upgraded, where it was opened
 pub upgraded_there : {T : Type 0} → (old mid new : View) (v : Volume) (result : Result T Status) → IsGood old.reads → world_on mid ≡ world_of old.reads → OnOk result (IsVolumeAt v new)
-    → OnOk result (world_on new ≡ upgraded (world_on mid)) → OnOk result (AreClosed new.reads) → OnOk result ((n : ℕ) → 4 ≤ n → n ≤ 116 → new.reads n ≡ zeros) → OnOk result (IsUpgraded old.reads new)
-upgraded_there old mid new v (Ok u) good opened at done closed erased = record {
+    → OnOk result (world_on new ≡ upgraded (world_on mid)) → OnOk result (AreClosed new.reads) → OnOk result ((n : ℕ) → 4 ≤ n → n ≤ 116 → new.reads n ≡ zeros)
+    → ((world_on mid).version ≡ 1 → OnOk result (HasOnlyDigests (world_on new).records new.reads)) → OnOk result (IsUpgraded old.reads new)
+upgraded_there old mid new v (Ok u) good opened at done closed erased digests = record {
   firm = at.firm;
   upgrade = record { good = good; stands = record { good = at.good; world = sym (done ∙ ap (λ (w : World). upgraded w) opened) } };
   closed = closed;
   erased = erased;
+  digests = λ one. subst (λ (w : World). HasOnlyDigests w.records new.reads) (done ∙ ap (λ (w : World). upgraded w) opened) (digests (ap (λ (w : World). w.version) opened ∙ one));
 }
-upgraded_there old mid new v (Err why) good opened at done closed erased = tt
+upgraded_there old mid new v (Err why) good opened at done closed erased digests = tt
 
 -- a device that failed is no want of memory
 pub not_for_memory : {T : Type 0} → (P : Type 0) (result : Result T Status) → IfErr result (λ why. why ≡ status.DeviceFault) → IfErr result (λ why. why ≡ status.NoMemory → P)

@@ -6,8 +6,9 @@ use Rattle.image_device.specs.View.{View, IsPart}
 use Rattle.image_device.specs.Runs.{IsFirm}
 use Rattle.image_layout.specs.Image.{Image}
 use Rattle.image_world.specs.Faults.{IsGood, IsFirstFault}
-use Rattle.image_world.specs.Fresh.{AreClosed}
+use Rattle.intent_journal.specs.Records.{AreClosed}
 use Rattle.image_world.specs.Stands.{Stands, world_of}
+use Rattle.volume_laws.specs.Erased.{HasOnlyDigests}
 use Rattle.recovery.specs.Opening.{StandAlike}
 use Rattle.tsd_words.specs.declared.status.Status.{Status}
 use Rattle.tsd_words.specs.declared.status.Status.TheVariants as status
@@ -20,12 +21,14 @@ pub record IsUpgradeOf (image x : Image) : Type 0 where
   pub stands : Stands x (upgraded (world_of image))
 
 -- Nothing is loose, the disk stands for the upgraded world, all gates of the journal are closed, and the sectors in
--- which it held earlier capabilities read as zeros.
+-- which it held earlier capabilities read as zeros. Where the image kept capabilities, the sectors of records hold their
+-- digests and nothing else.
 pub record IsUpgraded (image : Image) (v : View) : Type 0 where
   pub firm : IsFirm v
   pub upgrade : IsUpgradeOf image v.reads
   pub closed : AreClosed v.reads
   pub erased : (n : ℕ) → 4 ≤ n → n ≤ 116 → v.reads n ≡ zeros
+  pub digests : (world_of image).version ≡ 1 → HasOnlyDigests (upgraded (world_of image)).records v.reads
 
 -- What it has done by the time that it ended so: the disk is upgraded, and its line is sent whole or a proper front of
 -- it; or nothing is sent.

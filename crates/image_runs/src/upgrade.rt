@@ -5,8 +5,9 @@ ghost use Rattle.image_device.specs.Counts.{CountsFault, CountsFaultOf, Rose};
 ghost use Rattle.image_device.specs.Runs.{IsFirm, LeavesOnly, LeavesPart};
 ghost use Rattle.image_device.specs.Image.{zeros};
 ghost use Rattle.image_world.specs.Behind.{LeavesBehind, behind};
-ghost use Rattle.image_world.specs.Fresh.{AreClosed};
+ghost use Rattle.intent_journal.specs.Records.{AreClosed};
 ghost use Rattle.tsd_model.specs.Records.{upgraded};
+ghost use Rattle.volume_laws.specs.Erased.{HasOnlyDigests};
 ghost use Rattle.volume_laws.specs.Moments.{LeavesEither};
 ghost use Rattle.volume_laws.specs.Volume.{IsVolumeAt, IsVolumeReady, world_on};
 ghost use Rattle.volume_laws.specs.Writes.{Works};
@@ -29,7 +30,8 @@ use volume::Volume;
 pub fn upgrade_image<P: Port>(alloc: Global, port: &mut P) -> Status
     ensures ending { IsEnding result }
     /// promise: After Done the disk stands for the world with digests in place of capabilities, all gates of the
-    /// journal are closed, and what it held of these reads as zeros.
+    /// journal are closed, and what it held of these reads as zeros; the sectors of records of an image that kept
+    /// capabilities hold their digests and nothing else.
     ensures upgraded { P.told → HasUpgraded result (P.view port.old) (P.view port.new) }
     // Where the image fails one of the tests that need no write, nothing is written, and the disk reads as before;
     // where it fails another, nothing is lost that a repair could use, whatever is answered.
@@ -97,6 +99,8 @@ fn upgrade_at<D: Device>(volume: &mut Volume, dev: &mut D) -> Result<(), Status>
     ensures done { D.told → OnOk result (world_on (D.view dev.new) ≡ upgraded (world_on (D.view dev.old))) }
     ensures closed { D.told → OnOk result (AreClosed (D.view dev.new).reads) }
     ensures erased { D.told → OnOk result ((n : ℕ) → 4 ≤ n → n ≤ 116 → (D.view dev.new).reads n ≡ zeros) }
+    ensures digests { D.told → (world_on (D.view dev.old)).version ≡ 1
+        → OnOk result (HasOnlyDigests (world_on (D.view dev.new)).records (D.view dev.new).reads) }
     ensures failed { IfErr result (λ why. why ≡ Status.DeviceFault) }
     ensures sent { D.told → (D.view dev.new).sent ≡ (D.view dev.old).sent }
     ensures any_moment { D.told → LeavesEither (D.view dev.old) (D.view dev.new)

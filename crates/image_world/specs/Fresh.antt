@@ -6,7 +6,6 @@ use Rattle.tsd_model.specs.Geometry.{IsLawful}
 use Rattle.tsd_model.specs.Run.{fresh_world}
 use Rattle.image_device.specs.Image.{zeros}
 use Rattle.image_layout.specs.Offsets.{data_sector}
-use Rattle.image_layout.specs.Ring.{records}
 use Rattle.image_layout.specs.Areas.{header_sector, format_gate, sweep_flag, counts_start, bitmap_start, slots_start}
 use Rattle.image_layout.specs.Areas.{data_start}
 use Rattle.image_layout.specs.Header.{IsHeaderReading}
@@ -17,7 +16,7 @@ use Rattle.block_alloc.specs.Fresh.{fresh_live}
 use Rattle.block_alloc.specs.Stored.{AreWritten as AreBitsWritten}
 use Rattle.cap_store.specs.Fresh.{fresh_records}
 use Rattle.cap_store.specs.Stored.{IsStored as AreKept}
-use Rattle.intent_journal.specs.Records.{is_gate_open}
+use Rattle.intent_journal.specs.Records.{AreClosed}
 use Rattle.image_world.specs.Tables.{Tables}
 use Rattle.image_world.specs.Faults.{IsFormatGateOpen}
 use Rattle.image_world.specs.Sound.{HasTables}
@@ -34,10 +33,6 @@ fresh_tables g caps = record {
   records = fresh_records caps;
   is_sweeping = false;
 }
-
--- every gate of the journal reads closed
-abbrev pub AreClosed : Image → Type 0
-AreClosed x = (index : ℕ) → index < records → is_gate_open x index ≡ false
 
 -- All that formatting writes but the format gate: the tables, zeros in the primary blocks, and closed gates of the
 -- journal.

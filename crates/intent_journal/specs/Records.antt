@@ -1,6 +1,6 @@
 -- The records that an image has in the ring.
-use Rattle.std.specs.Prelude.{◌≡◌, ℕ, zero, suc, ◌+◌, ◌&&◌, Bool, true, false, cond, List, [], ◌∷◌, ◌++◌, length, map}
-use Rattle.std.specs.Prelude.{flat_map, slice_index}
+use Rattle.std.specs.Prelude.{◌≡◌, ℕ, zero, suc, ◌+◌, ◌<◌, ◌&&◌, Bool, true, false, cond, List, [], ◌∷◌, ◌++◌, length}
+use Rattle.std.specs.Prelude.{map, flat_map, slice_index}
 use Rattle.std.specs.List.{range_with_len}
 use Rattle.image_layout.specs.declared.offset.Patch.{Patch}
 use Rattle.image_layout.specs.Image.{Image, says_open}
@@ -20,6 +20,10 @@ descriptor_of image index = image (descriptor_sector index)
 
 abbrev pub is_gate_open : Image → ℕ → Bool
 is_gate_open image index = says_open (image (gate_sector index))
+
+-- every gate of the journal reads closed
+abbrev pub AreClosed : Image → Type 0
+AreClosed x = (index : ℕ) → index < records → is_gate_open x index ≡ false
 
 -- the record of this index, whose bodies begin at this one
 abbrev pub record_at : Image → ℕ → ℕ → JournalRecord

@@ -28,8 +28,9 @@ use image_layout::ring::{RECORDS, body_sector, descriptor_sector, gate_sector};
 
 impl Ring {
     /// Puts the open records of a disk in place and closes the gates that are open. Nothing may be loose. Where no gate
-    /// is open nothing is written or waited for. Whatever the ring held before, it is empty after. `BadDescriptor` comes exactly where an open record has no valid descriptor,
-    /// and then nothing was written; `Device` comes only where the device's count of faults rose.
+    /// is open nothing is written or waited for. Whatever the ring held before, it is empty after. `BadDescriptor`
+    /// comes exactly where an open record has no valid descriptor, and then nothing was written; `Device` comes only
+    /// where the device's count of faults rose.
     pub fn replay<D: Device>(&mut self, dev: &mut D) -> Result<Replayed, ReplayFault>
         requires { D.told → IsFirm (D.view dev.old) }
         ensures empty { self.new ≡ [] }
@@ -147,8 +148,8 @@ fn replay_into<D: Device>(dev: &mut D, patches: &mut PatchList) -> Result<Replay
     Ok(found(homes))
 }
 
-/// Puts patches in place and closes the gates that are open, where nothing is loose. Where no gate is open either, there
-/// is nothing to write, and nothing to wait for. Answers to how many homes it wrote.
+/// Puts patches in place and closes the gates that are open, where nothing is loose. Where no gate is open either,
+/// there is nothing to write, and nothing to wait for. Answers to how many homes it wrote.
 fn put_open_in_place<D: Device>(
     dev: &mut D,
     patches: &[Patch],

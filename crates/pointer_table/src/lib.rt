@@ -27,7 +27,6 @@ mod links;
 mod load;
 mod next;
 mod order;
-mod out_step;
 mod raw;
 mod sector;
 mod slots;
@@ -39,5 +38,4 @@ mod way;
 
 pub use fault::{NoPointer, TableFault, TableFull};
 pub use fresh::{fresh_sector, written_sectors_have_the_slots};
-pub use out_step::OutStep;
 pub use table::PointerTable;

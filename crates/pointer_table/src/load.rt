@@ -1,7 +1,6 @@
 //! Reading the slots of an image, a sector at a time.
 
-ghost use Rattle.std.specs.Prelude.{◌≡◌, ◌*◌, ◌<◌, length};
-ghost use Rattle.std.specs.Prelude.{OnOk};
+ghost use Rattle.std.specs.Prelude.{◌≡◌, ◌*◌, ◌<◌, length, OnOk};
 ghost use Rattle.image_device.specs.Calls.{Rests, Uses};
 ghost use Rattle.image_device.specs.Counts.{CountsFaultOf};
 ghost use Rattle.pointer_table.specs.Loading.{is_bad_slot};

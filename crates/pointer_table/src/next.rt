@@ -1,7 +1,6 @@
 //! The targets of a block in a row.
 
-ghost use Rattle.std.specs.Prelude.{◌≡◌, ℕ, ◌+◌, ◌^◌, ◌<◌, Option, None};
-ghost use Rattle.std.specs.Prelude.{◌≤◌, take, IsTrue};
+ghost use Rattle.std.specs.Prelude.{◌≡◌, ℕ, ◌+◌, ◌^◌, ◌<◌, ◌≤◌, take, IsTrue};
 ghost use Rattle.tsd_model.specs.Pairs.{holds};
 ghost use Rattle.tsd_model.specs.Step.{targets_from};
 ghost use Rattle.pointer_table.specs.Indexed.{IsIndex};

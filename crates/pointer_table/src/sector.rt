@@ -1,8 +1,7 @@
 //! The sectors of slots: 64 slots of eight bytes, each one more than the source, or 0, and the target, the lowest byte
 //! of each number first.
 
-ghost use Rattle.std.specs.Prelude.{◌≡◌, ◌+◌, ◌*◌, ◌^◌, ◌<◌, ◌≤◌, ◌++◌, ◌==◌};
-ghost use Rattle.std.specs.Prelude.{if◌then◌else◌, take, drop};
+ghost use Rattle.std.specs.Prelude.{◌≡◌, ◌+◌, ◌*◌, ◌^◌, ◌<◌, ◌≤◌, ◌++◌, ◌==◌, if◌then◌else◌, take, drop};
 ghost use Rattle.byteorder.specs.Endian.{little_from, little_bytes};
 ghost use Rattle.pointer_table.specs.Raw.{slot_in};
 ghost use Rattle.pointer_table.specs.Sectors.{slot_bytes, slot_sector_bytes};

@@ -12,7 +12,7 @@ pub use Rattle.graph_laws.specs.Marking.{IsMarking, IsMarkingBut}
 pub use Rattle.graph_laws.specs.RawGraph.{IsLaidOut, IsRawGraph}
 pub use Rattle.graph_laws.specs.Steps.{AreTargets, IsLost, IsStep, stepped}
 pub use Rattle.pointer_table.specs.Table.{Table, pairs}
-pub use Rattle.pointer_table.specs.declared.out_step.OutStep.{OutStep}
+pub use Rattle.reclaim.specs.declared.out_step.OutStep.{OutStep}
 pub use Rattle.reclaim.specs.Ahead.{Hides, IsAdding, IsAheadOf, IsDeleting, IsGrowing, IsStepping, Kept, is_gone, kept_ahead}
 pub use Rattle.reclaim.specs.Counting.{IsCounting, left_at}
 pub use Rattle.reclaim.specs.Held.{HeldTargets, IsHeld, IsPopped}

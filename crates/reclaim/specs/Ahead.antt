@@ -4,7 +4,7 @@ use Rattle.std.specs.Prelude.{IsTrue}
 use Rattle.tsd_model.specs.Pairs.{holds}
 use Rattle.tsd_model.specs.World.{World, is_free, has_number, are_apart}
 use Rattle.tsd_model.specs.Doomed.{doomed}
-use Rattle.pointer_table.specs.declared.out_step.OutStep.{OutStep}
+use Rattle.reclaim.specs.declared.out_step.OutStep.{OutStep}
 use Rattle.block_alloc.specs.LiveMap.{LiveMap, is_live}
 use Rattle.graph_laws.specs.Counts.{kept_count, doomed_pairs}
 use Rattle.graph_laws.specs.RawGraph.{IsLaidOut, IsRawGraph}

@@ -4,7 +4,7 @@ use Rattle.tsd_model.specs.Pairs.{holds}
 use Rattle.tsd_model.specs.World.{World, has_number}
 use Rattle.tsd_model.specs.Doomed.{settle}
 use Rattle.tsd_model.specs.Valid.{IsRaw}
-use Rattle.pointer_table.specs.declared.out_step.OutStep.{OutStep}
+use Rattle.reclaim.specs.declared.out_step.OutStep.{OutStep}
 use Rattle.graph_laws.specs.Counts.{doomed_size}
 use Rattle.graph_laws.specs.Graph.{HasGraphOf}
 use Rattle.graph_laws.specs.Steps.{stepped, IsStep, IsLost}

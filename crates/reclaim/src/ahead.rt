@@ -12,11 +12,12 @@ ghost use Rattle.reclaim.specs.Ahead.{is_gone, Hides, IsAheadOf, IsAdding, IsGro
 ghost use Rattle.reclaim.specs.Stepping.{after_step};
 ghost use Rattle.reclaim.specs.Tables.{graph_of, AreTables};
 
+use crate::out_step::OutStep;
 use crate::tally::Tally;
 use crate::work::Work;
 use bit_array::BitArray;
 use block_alloc::LiveMap;
-use pointer_table::{OutStep, PointerTable};
+use pointer_table::PointerTable;
 use ref_counts::RefCounts;
 use std::alloc::Global;
 use std::marker::Model;

@@ -7,10 +7,11 @@ ghost use Rattle.graph_laws.specs.Steps.{IsLost};
 ghost use Rattle.reclaim.specs.Stepping.{MayStep, TakesAll, AreKeptBy};
 ghost use Rattle.reclaim.specs.Tables.{graph_of, AreTables, HaveCounts};
 
+use crate::out_step::OutStep;
 use crate::step::step_at;
 use crate::work::is_uncounted;
 use block_alloc::LiveMap;
-use pointer_table::{OutStep, PointerTable};
+use pointer_table::PointerTable;
 use ref_counts::RefCounts;
 use std::alloc::Global;
 use tsd_model::NoMemory;

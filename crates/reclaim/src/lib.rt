@@ -13,6 +13,7 @@
 
 mod ahead;
 mod guesses;
+mod out_step;
 mod step;
 mod tally;
 mod targets;
@@ -20,6 +21,7 @@ mod work;
 
 pub use ahead::Ahead;
 pub use guesses::{Guesses, find_step};
+pub use out_step::OutStep;
 pub use step::next_step;
 pub use targets::{STEP_TARGETS, first_targets};
 pub use work::Work;

@@ -8,10 +8,11 @@ ghost use Rattle.graph_laws.specs.Steps.{IsLost};
 ghost use Rattle.reclaim.specs.Stepping.{MayStep, TakesAll, AreKeptBy};
 ghost use Rattle.reclaim.specs.Tables.{graph_of, AreTables, HaveCounts, HoldsLost};
 
+use crate::out_step::OutStep;
 use crate::targets::{STEP_TARGETS, first_targets};
 use crate::work::Work;
 use block_alloc::LiveMap;
-use pointer_table::{OutStep, PointerTable};
+use pointer_table::PointerTable;
 use ref_counts::RefCounts;
 
 /// The next step, at a block that waits: its first 16 targets, or all where it has no more, and then it is freed. A

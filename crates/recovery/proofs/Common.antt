@@ -16,7 +16,7 @@ pub use Rattle.image_layout.specs.Image.{Image, says_open}
 pub use Rattle.image_layout.specs.Ring.{gate_sector}
 pub use Rattle.image_world.proofs.FreshLaws.{fresh_sectors, fresh_sound, fresh_stands, torn_gate}
 pub use Rattle.image_world.specs.Debt.{graph_in, owed}
-pub use Rattle.image_world.specs.Fresh.{AreClosed, IsWrittenFresh, fresh_tables}
+pub use Rattle.image_world.specs.Fresh.{IsWrittenFresh, fresh_tables}
 pub use Rattle.image_world.specs.Tables.{Tables, pairs_of}
 unfoldable pub use Rattle.image_world.specs.Tables.{tables_of}
 pub use Rattle.intent_journal.proofs.Opened.{home_of_empty, opened_none}
@@ -24,7 +24,7 @@ pub use Rattle.intent_journal.proofs.Places.{gate_in, gates_apart, in_journal}
 pub use Rattle.intent_journal.proofs.Uses.{at_valid}
 pub use Rattle.intent_journal.specs.Crash.{IsTheSame}
 pub use Rattle.intent_journal.specs.Home.{AgreeBut, home, is_journal}
-pub use Rattle.intent_journal.specs.Records.{has_valid_records, is_gate_open, open_records}
+pub use Rattle.intent_journal.specs.Records.{has_valid_records, is_gate_open, open_records, AreClosed}
 pub use Rattle.intent_journal.specs.Ring.{IsRingAt, checkpoint_writes, distinct_homes, open_gates, replay_writes}
 pub use Rattle.recovery.specs.Areas.{HasAreas, fresh_bytes, fresh_end, is_fresh}
 pub use Rattle.recovery.specs.Faults.{of_volume}

@@ -10,7 +10,7 @@ use Rattle.block_alloc.specs.Bytes.{bitmap_sector_bytes}
 use Rattle.block_alloc.specs.Fresh.{fresh_live}
 use Rattle.cap_store.specs.Fresh.{fresh_records}
 use Rattle.cap_store.specs.Stored.{caps_sector_bytes}
-use Rattle.image_world.specs.Fresh.{AreClosed}
+use Rattle.intent_journal.specs.Records.{AreClosed}
 
 -- behind the data of the last primary block
 abbrev pub fresh_end : Geometry → ℕ

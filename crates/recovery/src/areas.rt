@@ -10,8 +10,9 @@ ghost use Rattle.image_device.specs.Counts.{CountsFault};
 ghost use Rattle.image_device.specs.Image.{Image};
 ghost use Rattle.image_device.specs.Runs.{IsConfined, IsFirm};
 ghost use Rattle.image_layout.specs.Areas.{format_gate, sweep_flag};
-ghost use Rattle.image_world.specs.Fresh.{IsWrittenFresh, AreClosed};
+ghost use Rattle.image_world.specs.Fresh.{IsWrittenFresh};
 ghost use Rattle.intent_journal.specs.Home.{is_journal};
+ghost use Rattle.intent_journal.specs.Records.{AreClosed};
 ghost use Rattle.recovery.specs.Areas.{fresh_end, fresh_bytes, is_fresh};
 
 use image_device::{Device, Failed};

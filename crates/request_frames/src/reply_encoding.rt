@@ -26,8 +26,8 @@ pub fn encode_reply(reply: &Reply, into: &mut FrameBuf)
     encode(reply, into);
 }
 
-/// Replaces the bytes by the frame of a reply where that is short, and answers whether it is: it isn't where the reply is
-/// the bytes of a larger block.
+/// Replaces the bytes by the frame of a reply where that is short, and answers whether it is: it isn't where the reply
+/// is the bytes of a larger block.
 pub fn put_short_frame(reply: &Reply, into: &mut ShortFrame) -> bool
     /// promise: A reply's frame is short unless the reply is the bytes of a block of more than 1,024.
     ensures short { result ≡ is_short reply.now }

@@ -39,8 +39,8 @@ pub fn size_on<F: Files, D: Device, L: Placing, K: Started>(
     files.size(&mut blocks, path)
 }
 
-/// The bytes of a file from an offset on, at most 4,096; none after an `Err`. Where a place is given, that is where they
-/// begin; the answer is the place behind them.
+/// The bytes of a file from an offset on, at most 4,096; none after an `Err`. Where a place is given, that is where
+/// they begin; the answer is the place behind them.
 pub fn part_on<F: Walks, D: Device, L: Placing, K: Started>(
     files: &mut F,
     core: &mut Core,

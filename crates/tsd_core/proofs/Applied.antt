@@ -1,6 +1,6 @@
 -- From a request that was judged and carried out to what is said of it.
 use Rattle.std.proofs.Common.{◌≡◌, ◌⊎◌, ℕ, ◌+◌, ◌≤◌, ◌||◌, Bool, true, false, List, length, refl, sym, ◌∙◌, ap, subst, arith, inl, inr, Option, Some, None}
-use Rattle.tsd_core.proofs.Common.{Ok, IsOk, IfSome, is_none, filter, World, has_number, Sessions, fitted, no_sessions, State, Outcome, raised_by, without_pointer, is_begin, verdict, Reply, Rule, PlaceKind, Request, View, IsSound, Failed, leaves_both, weakened, home, tables_of, AreLike, doomed_like, fitted_like, Geometry, doomed_pairs, Table, IsTable, IsMadeFor, with_sessions, world_after, reply_to, is_read, IsOver, IsStarved, state_over, IsAnswer, Volume, world_on, IsVolumeAt, behind, owed, LeavesEither, LeavesOwed, made, due, Core, IsCoreReady, IsCoreAt, told_world, sessions_of, state_on, made_by, made_in, cost_of, LeavesDebt, IsKnown, IsChanged, IsCarriedOut, is_refusal, IsToldAnswer, told_verdict, asks_nothing, next_world, IsApplied, bytes_given, most_homes, data_none, batch_none}
+use Rattle.tsd_core.proofs.Common.{Ok, IsOk, IfSome, is_none, filter, World, has_number, Sessions, fitted, no_sessions, State, Outcome, raised_by, without_pointer, is_begin, verdict, Reply, Rule, PlaceKind, Request, View, IsSound, Failed, leaves_both, weakened, home, tables_of, AreLike, doomed_like, fitted_like, Geometry, doomed_pairs, Table, IsTable, IsMadeFor, with_sessions, world_after, reply_to, is_read, IsOver, IsStarved, state_over, IsAnswer, Volume, world_on, IsVolumeAt, behind, owed, LeavesEither, LeavesOwed, made, due, zeroed_cost, count_of, Core, IsCoreReady, IsCoreAt, told_world, sessions_of, state_on, made_by, made_in, cost_of, LeavesDebt, IsKnown, IsChanged, IsCarriedOut, is_refusal, IsToldAnswer, told_verdict, asks_nothing, next_world, IsApplied, bytes_given, most_homes, data_none, batch_none}
 use Rattle.std.specs.Prelude.{Result, cond}
 use Rattle.tsd_model.specs.declared.replies.Reply.TheVariants as reply
 use Rattle.tsd_model.specs.declared.requests.Request.TheVariants as ask
@@ -71,6 +71,12 @@ owes vol v w x few more at same owing either =
 
 -- ---- refused
 
+at_least : (a more : ℕ) → a ≤ a + more
+at_least a more = omega arith
+
+with_due : (a b more : ℕ) → a ≤ a + b + more
+with_due a b more = omega arith
+
 pub refused_applied : (told : Type 0) (kind : PlaceKind) (q : Request) (c : Core) (v : View) (r : Rule) → IsCoreReady c → IsKnown c.volume → IsTable c.grants
     → (told → IsSound v) → (told → IsCoreAt c v) → verdict (told_world c) c.grants.sessions q ≡ Some r → IsApplied told kind q c c v v (Ok (reply.Refused r))
 refused_applied told kind q c v r ready known table sound at refusal = record {
@@ -98,6 +104,8 @@ refused_applied told kind q c v r ready known table sound at refusal = record {
   paid = λ t b. omega arith;
   most = λ t b. omega arith;
   limit = λ b. omega arith;
+  new_paid = λ b. at_least (v.writes + due c.volume) (zeroed_cost c.volume.tables.geometry (count_of q));
+  new_most = λ b. with_due v.writes (due c.volume) (zeroed_cost c.volume.tables.geometry (count_of q));
   sweep_paid = λ b. omega arith;
   swept = λ b. omega arith;
   works = record { clock = omega arith; faults = omega arith; put_faults = refl; writes = omega arith };
@@ -284,6 +292,8 @@ granted_risen told kind q old new v w result ready known table at granted carrie
       paid = λ h b. then_ok result (λ (p : w.writes + due new.volume ≤ v.writes + due old.volume + cost_of t q). omega (arith, p, same h)) (does.paid b);
       most = λ h b. omega (arith, does.most b, same h);
       limit = does.limit;
+      new_paid = does.new_paid;
+      new_most = does.new_most;
       sweep_paid = does.sweep_paid;
       swept = does.swept;
       works = op.works;

@@ -1,6 +1,9 @@
 -- Chosen blocks may be given out.
-use Rattle.std.proofs.Common.{◌≡◌, ℕ, zero, suc, ◌+◌, ◌≤◌, Bool, true, false, List, [], ◌∷◌, length, ◌∙◌, subst, arith, Some, None}
+use Rattle.std.proofs.Common.{◌≡◌, ℕ, zero, suc, ◌+◌, ◌≤◌, Bool, true, false, List, [], ◌∷◌, length, ◌∙◌, subst, arith, Option, Some, None}
 use Rattle.tsd_core.proofs.Common.{get_or-map, length-map, map, is_some, slice_get, range_with_len, World, is_free, hint_block, chosen, chosen_run, run_at, Hint, PlaceKind, AllOf, AllFree, chosen_are_free, chosen_run_is_free, length-range, AreToBeTaken}
+use Rattle.std.specs.Prelude.{take}
+use Rattle.tsd_model.specs.Placing.{free_blocks, sorted_by_rank}
+use Rattle.tsd_model.specs.Rank.{rank_of}
 use Rattle.block_alloc.specs.Worlds.{IsMapOf}
 use Rattle.block_alloc.proofs.ChosenLaws.{chosen-apart, run-free, run-inside}
 use Rattle.block_alloc.proofs.WorldLaws.{chosen_same, chosen_run_same}
@@ -47,3 +50,17 @@ pub run_inside : (kind : PlaceKind) (w : World) (h : Hint) (count first : ℕ) �
 run_inside kind w h count first some e =
     let free = run-free kind (live_map w) (hint_block h) count first (chosen_run_same (live_map w) w (map_of w) kind h count ∙ e) in
     omega (arith, run-inside (live_map w) count first some free, length-map w.blocks is_some)
+
+-- ---- no more than were asked for
+
+few_taken : (count : ℕ) (bs : List ℕ) → length (take count bs) ≤ count
+few_taken zero bs = omega arith
+few_taken (suc count) [] = omega arith
+few_taken (suc count) (b ∷ bs) = omega (arith, few_taken count bs)
+
+pub few_chosen : (kind : PlaceKind) (w : World) (h : Hint) (count : ℕ) → length (chosen kind w h count) ≤ count
+few_chosen kind w h count = few_taken count (sorted_by_rank (rank_of kind (hint_block h)) (free_blocks w))
+
+pub few_in_run : (first : Option ℕ) (count : ℕ) → length (run_at first count) ≤ count
+few_in_run None count = omega arith
+few_in_run (Some first) count = omega (arith, length-range first count)

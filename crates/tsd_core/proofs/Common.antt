@@ -35,7 +35,7 @@ pub use Rattle.tsd_core.specs.Carrying.{DoesRequest, IsCarriedOut, IsChanged, Is
 pub use Rattle.tsd_core.specs.Core.{Core, IsCoreAt, IsCoreReady, sessions_of, state_on, told_state, told_world}
 pub use Rattle.tsd_core.specs.Granted.{raised_need}
 pub use Rattle.tsd_core.specs.Growing.{AreToBeTaken}
-pub use Rattle.tsd_core.specs.Journal.{bytes_given, makes_blocks, most_homes, owed_then}
+pub use Rattle.tsd_core.specs.Journal.{bytes_given, count_of, makes_blocks, most_homes, owed_then}
 pub use Rattle.tsd_core.specs.Seen.{IsOver, IsStarved, dropped_each, is_read, levels_seen, reply_to, seen, state_over, table_after, table_change, world_after}
 pub use Rattle.tsd_core.specs.Work.{LeavesDebt, LeavesNoDebt, cost_in, cost_of, made_by, made_in}
 pub use Rattle.tsd_model.proofs.PairLaws.{holds-filter, holds_first, is_pair_same}
@@ -70,4 +70,4 @@ pub use Rattle.volume_laws.specs.Data.{HasSameData, KeepsData}
 pub use Rattle.volume_laws.specs.Moments.{LeavesEither, LeavesOwed, LeavesWorld, StandsForEither, made}
 pub use Rattle.volume_laws.specs.Rings.{HasBatches, HasNewBlocks}
 pub use Rattle.volume_laws.specs.Volume.{IsVolumeAt, IsVolumeReady, Volume, told_by, world_on}
-pub use Rattle.volume_laws.specs.Writes.{IsPaid, Works, batch_cost, due}
+pub use Rattle.volume_laws.specs.Writes.{IsPaid, Works, batch_cost, due, zeroed_cost}

@@ -1,6 +1,7 @@
 -- Worlds that are like, and what is told of them.
-use Rattle.std.proofs.Common.{◌≡◌, ℕ, ◌*◌, ◌≤◌, refl, sym, subst, arith, inl, inr}
-use Rattle.tsd_core.proofs.Common.{World, IsLawful, block_len, IsBlockSize, Geometry, AreLike}
+use Rattle.std.proofs.Common.{◌≡◌, ℕ, ◌+◌, ◌*◌, ◌≤◌, refl, sym, subst, arith, inl, inr}
+use Rattle.tsd_core.proofs.Common.{World, IsLawful, block_len, IsBlockSize, Geometry, AreLike, zeroed_cost}
+use Rattle.std.proofs.Math.Nat.{mul-le-mul_left}
 
 pub like_itself : (w : World) → AreLike w w
 like_itself w = record { geometry = refl; version = refl; count = refl; live = λ b. refl; pairs = refl; records = refl }
@@ -30,3 +31,10 @@ block_size_of g n lawful e = elim lawful.sectors [
     | inr rest ↦ elim rest [ inl four ↦ inr (inr (inl (omega (arith, e, four)))) | inr eight ↦ inr (inr (inr (omega (arith, e, eight)))) ]
   ]
 ]
+
+-- more new blocks cost no less
+pub zeroed_more : (g : Geometry) (few many : ℕ) → few ≤ many → zeroed_cost g few ≤ zeroed_cost g many
+zeroed_more g few many less = let sectors = mul-le-mul_left g.sectors less in omega (arith, sectors, less)
+
+pub due_more : (due few many : ℕ) → few ≤ many → due + few ≤ due + many
+due_more due few many less = omega (arith, less)

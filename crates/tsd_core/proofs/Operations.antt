@@ -90,6 +90,8 @@ request_of told kind q old new v w r does s ok err faults = record {
   paid = λ b. ok _ (does.paid b);
   most = does.most;
   limit = does.limit;
+  new_paid = λ b. ok _ (does.new_paid b);
+  new_most = does.new_most;
   sweep_paid = λ b. ok _ (does.sweep_paid b);
   swept = does.swept;
 }

@@ -53,6 +53,8 @@ still_there told kind q vol v r same idle sound at ready unspent = record {
   paid = λ b. omega arith;
   most = λ b. omega arith;
   limit = λ b. omega arith;
+  new_paid = λ b. absurd (clash (sym idle.none ∙ b));
+  new_most = λ b. absurd (clash (sym idle.none ∙ b));
   sweep_paid = λ b. omega arith;
   swept = λ b. omega arith;
 }

@@ -20,9 +20,9 @@ use Rattle.disk_laws.specs.Reclaiming.{is_sweep}
 use Rattle.tsd_model.specs.Run.{IsAnswer}
 use Rattle.volume.specs.Sweeping.{sweep_cost}
 use Rattle.volume_laws.specs.Moments.{LeavesEither}
-use Rattle.volume_laws.specs.Writes.{due, Works}
+use Rattle.volume_laws.specs.Writes.{due, zeroed_cost, Works}
 use Rattle.tsd_core.specs.Core.{Core, IsCoreReady, IsCoreAt, told_world, told_state, sessions_of, state_on}
-use Rattle.tsd_core.specs.Journal.{bytes_given, waits, most_homes, owed_then, makes_blocks, HasGrown}
+use Rattle.tsd_core.specs.Journal.{bytes_given, waits, most_homes, owed_then, makes_blocks, count_of, HasGrown}
 use Rattle.tsd_core.specs.Seen.{writes_nothing}
 use Rattle.volume_laws.specs.Data.{KeepsData}
 use Rattle.volume_laws.specs.Rings.{CommitsOnce}
@@ -88,6 +88,10 @@ pub record IsApplied (told : Type 0) (kind : PlaceKind) (q : Request) (old new :
       → OnOk result (w.writes + due new.volume ≤ v.writes + due old.volume + cost_in (state_on old v.reads) q)
   pub most : told → is_sweep q ≡ false → w.writes ≤ v.writes + due old.volume + cost_in (state_on old v.reads) q
   pub limit : is_sweep q ≡ false → w.writes ≤ v.writes + write_limit old.volume q
+  pub new_paid : makes_blocks q ≡ true → OnOk result (w.writes + due new.volume
+      ≤ v.writes + due old.volume + zeroed_cost old.volume.tables.geometry (count_of q))
+  pub new_most : makes_blocks q ≡ true
+      → w.writes ≤ v.writes + due old.volume + zeroed_cost old.volume.tables.geometry (count_of q)
   pub sweep_paid : is_sweep q ≡ true
       → OnOk result (w.writes + due new.volume ≤ v.writes + due old.volume + sweep_cost (told_world old))
   pub swept : is_sweep q ≡ true → w.writes ≤ v.writes + due old.volume + sweep_cost (told_world old)

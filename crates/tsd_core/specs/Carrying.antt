@@ -20,10 +20,10 @@ use Rattle.volume_laws.specs.Operations.{IsOperation}
 use Rattle.volume_laws.specs.Volume.{IsVolumeReady, Volume, told_by, world_on}
 use Rattle.image_world.specs.Debt.{owed}
 use Rattle.volume_laws.specs.Moments.{LeavesOwed}
-use Rattle.volume_laws.specs.Writes.{due, IsPaid}
+use Rattle.volume_laws.specs.Writes.{due, zeroed_cost, IsPaid}
 use Rattle.tsd_core.specs.Core.{Core, told_world}
 use Rattle.tsd_core.specs.Work.{made_by, cost_of, write_limit}
-use Rattle.tsd_core.specs.Journal.{bytes_given, waits, most_homes, owed_then, makes_blocks, HasGrown}
+use Rattle.tsd_core.specs.Journal.{bytes_given, waits, most_homes, owed_then, makes_blocks, count_of, HasGrown}
 use Rattle.volume_laws.specs.Rings.{CommitsOnce}
 use Rattle.image_device.specs.Calls.{Rests}
 
@@ -56,6 +56,10 @@ pub record DoesRequest {T : Type 0} (told : Type 0) (kind : PlaceKind) (q : Requ
   pub paid : is_sweep q ≡ false → OnOk result (IsPaid (cost_of (told_by old) q) old v new w)
   pub most : is_sweep q ≡ false → w.writes ≤ v.writes + due old + cost_of (told_by old) q
   pub limit : is_sweep q ≡ false → w.writes ≤ v.writes + write_limit old q
+  -- what new blocks cost
+  pub new_paid : makes_blocks q ≡ true
+      → OnOk result (IsPaid (zeroed_cost old.tables.geometry (count_of q)) old v new w)
+  pub new_most : makes_blocks q ≡ true → w.writes ≤ v.writes + due old + zeroed_cost old.tables.geometry (count_of q)
   -- what a sweep costs: by what it takes away
   pub sweep_paid : is_sweep q ≡ true → OnOk result (IsPaid (sweep_cost (told_by old)) old v new w)
   pub swept : is_sweep q ≡ true → w.writes ≤ v.writes + due old + sweep_cost (told_by old)

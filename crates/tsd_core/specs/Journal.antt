@@ -28,6 +28,12 @@ makes_blocks (ask.Alloc s a shown h count) = true
 makes_blocks (ask.Contig s a shown h count) = true
 makes_blocks q = false
 
+-- how many blocks it makes
+abbrev pub count_of : Request → ℕ
+count_of (ask.Alloc s a shown h count) = count
+count_of (ask.Contig s a shown h count) = count
+count_of q = 0
+
 -- it holds a pointer more, while the pairs on the disk, those from doomed blocks too, fill the slots
 abbrev pub finds_no_slot : Volume → Request → Bool
 finds_no_slot v (ask.Create s a shown b) = length (pairs_of v.tables) == v.tables.geometry.slots

@@ -9,9 +9,9 @@ ghost use Rattle.disk_laws.specs.Reclaiming.{is_sweep};
 ghost use Rattle.tsd_model.specs.Run.{IsAnswer};
 ghost use Rattle.volume.specs.Sweeping.{sweep_cost};
 ghost use Rattle.volume_laws.specs.Moments.{LeavesEither};
-ghost use Rattle.volume_laws.specs.Writes.{due, Works};
+ghost use Rattle.volume_laws.specs.Writes.{due, zeroed_cost, Works};
 ghost use Rattle.tsd_core.specs.Core.{IsCoreReady, IsCoreAt, state_on, told_world};
-ghost use Rattle.tsd_core.specs.Journal.{bytes_given, waits, most_homes, owed_then, makes_blocks, HasGrown};
+ghost use Rattle.tsd_core.specs.Journal.{bytes_given, waits, most_homes, owed_then, makes_blocks, count_of, HasGrown};
 ghost use Rattle.tsd_core.specs.Seen.{writes_nothing};
 ghost use Rattle.volume_laws.specs.Data.{KeepsData};
 ghost use Rattle.volume_laws.specs.Rings.{CommitsOnce};
@@ -119,6 +119,15 @@ impl Core {
         /// block and pair that waits at an allocation or a `Create`.
         ensures limit { is_sweep request.now ≡ false → (D.view dev.new).writes ≤ (D.view dev.old).writes +
             write_limit self.old.volume request.now }
+
+        // New blocks cost by their number, beside what was due.
+        /// promise (with new_most): New blocks: at most each of their sectors once, and 6 for each and 3, beside what
+        /// was due.
+        ensures new_paid { makes_blocks request.now ≡ true
+            → OnOk result ((D.view dev.new).writes + due self.new.volume ≤ (D.view dev.old).writes + due
+            self.old.volume + zeroed_cost self.old.volume.tables.geometry (count_of request.now)) }
+        ensures new_most { makes_blocks request.now ≡ true → (D.view dev.new).writes ≤ (D.view dev.old).writes
+            + due self.old.volume + zeroed_cost self.old.volume.tables.geometry (count_of request.now) }
 
         // A sweep writes by what it takes away and what was due: at most 7 times for each block and pair that goes,
         // and 10 times for its flag.

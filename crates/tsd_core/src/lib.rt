@@ -13,9 +13,11 @@
 mod apply;
 mod blocks;
 mod carry;
+mod closing;
 mod disk;
 mod grow;
 mod laws;
+mod lending;
 mod outcome;
 mod pointers;
 mod raise;

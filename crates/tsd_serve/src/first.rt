@@ -33,8 +33,8 @@ pub(crate) fn test_sides<P: Sides>(
     }
 }
 
-/// The status that says why an image isn't opened. Where the command tells what is wrong with an image, its line is put;
-/// a put that fails is the status then.
+/// The status that says why an image isn't opened. Where the command tells what is wrong with an image, its line is
+/// put; a put that fails is the status then.
 fn tell<P: Sides>(words: &Command, why: OpenFault, sides: P) -> (Status, P)
     ensures { HasTold P.told P.view (Some words.now) (status_of why) result.0 sides result.1 }
 {

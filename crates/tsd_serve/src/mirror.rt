@@ -43,8 +43,8 @@ pub fn tsd_mirror<S: Source, P: Sides + Drop, K: Began>(
     ensures untouched_source { result.0 ≡ MirrorStatus.Ended Status.Usage → source.new ≡ source.old }
     ensures untouched_sides { result.0 ≡ MirrorStatus.Ended Status.Usage → result.1 ≡ sides }
     /// promise: Any command does over the mirror, from when it began to its end, what it does over one image; or it
-    /// ended in the tests of the first side; or that side failed in the copying, and nothing else was done. The copying,
-    /// done before the mirror began, wrote no more sectors of the second side than differed.
+    /// ended in the tests of the first side; or that side failed in the copying, and nothing else was done. The
+    /// copying, done before the mirror began, wrote no more sectors of the second side than differed.
     ensures did { result.0 ≢ MirrorStatus.Ended Status.Usage → let old = P.view sides in
         let new = P.view result.1 in
         let taken = taking S.told S.taken S.left_bytes S.ended source.old source.new in

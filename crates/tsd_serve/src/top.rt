@@ -32,7 +32,8 @@ use tsd_words::{Command, Fresh, Shell, Status, command};
 /// files under a block, and answers lines on that. `format BLOCKS SECTORS SLOTS PRIMARIES SEED` makes a disk, `check`
 /// and `info` tell what an image is, `load SEED COUNT PLACE` carries out the requests of a seed, and `upgrade` has an
 /// image keep digests in place of capabilities. `audit` puts a certificate of which blocks are reached, and `verify`
-/// reads one and tells what it shows. `copyfs KIND ROOT CAP KIND ROOT CAP PLACE` copies the tree of files under one block to another block.
+/// reads one and tells what it shows. `copyfs KIND ROOT CAP KIND ROOT CAP PLACE` copies the tree of files under one
+/// block to another block.
 ///
 /// Each reply is put whole before the next request is carried out; by `group` once all of its group are committed.
 #[tactic(auto, using(crate::proofs::Statuses::no_usage_ending, crate::proofs::Statuses::no_source_ending))]

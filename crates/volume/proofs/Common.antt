@@ -33,7 +33,7 @@ pub use Rattle.intent_journal.specs.Records.{JournalRecord, is_gate_open, open_r
 pub use Rattle.intent_journal.specs.Ring.{IsRingAt, checkpoint_writes, commit_writes, committed}
 pub use Rattle.pointer_table.specs.Slots.{pairs_in}
 pub use Rattle.pointer_table.specs.Table.{MayBeHeld, Table as Pointers, pairs}
-pub use Rattle.pointer_table.specs.declared.out_step.OutStep.{OutStep}
+pub use Rattle.reclaim.specs.declared.out_step.OutStep.{OutStep}
 pub use Rattle.reclaim.specs.Ahead.{Hides, IsAheadOf, Kept, is_gone}
 pub use Rattle.reclaim.specs.Tables.{graph_of}
 pub use Rattle.ref_counts.specs.Changes.{KeepsStored as KeepsCounts}

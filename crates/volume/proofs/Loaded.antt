@@ -3,9 +3,9 @@ use Rattle.std.proofs.Common.{◌≡◌, ℕ, ◌&&◌, not, Bool, true, false, 
 use Rattle.std.proofs.Common.{Ok, Err, inl, inr}
 use Rattle.volume.proofs.Common.{cases_lt, get_or-replicate, get_or_past, length-replicate, IsFirm, View, Header, header_sector, sweep_flag, IsHeaderReading, Image, says_open, home, open_records, is_gate_open, LiveMap, Kept, is_gone, Hides, HasTables, header_on, tables_of, DoFit, AreStored, tables_with, IsVolumeAt, AreParts}
 use Rattle.intent_journal.proofs.Opened.{opened_none, home_of_empty}
+use Rattle.intent_journal.specs.Records.{AreClosed}
 use Rattle.block_alloc.specs.LiveMap.{is_live}
 use Rattle.image_world.specs.Faults.{IsFormatGateOpen, IsGood, HasHeader, IsTableFault}
-use Rattle.image_world.specs.Fresh.{AreClosed}
 use Rattle.image_world.proofs.AnswerLaws.{damaged}
 use Rattle.image_world.proofs.SoundLaws.{tables_good, has_one}
 use Rattle.image_world.specs.declared.tables.ImageTables.{ImageTables}

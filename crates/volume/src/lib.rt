@@ -15,6 +15,7 @@ mod emptying;
 mod fault;
 mod finishing;
 mod grow;
+mod lending;
 mod load;
 mod pointers;
 mod questions;

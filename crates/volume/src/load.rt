@@ -9,7 +9,7 @@ ghost use Rattle.image_layout.specs.Header.{IsHeaderReading, IsVersion};
 ghost use Rattle.image_layout.specs.Image.{says_open};
 ghost use Rattle.tsd_model.specs.Geometry.{IsLawful};
 ghost use Rattle.image_world.specs.Faults.{IsFormatGateOpen};
-ghost use Rattle.image_world.specs.Fresh.{AreClosed};
+ghost use Rattle.intent_journal.specs.Records.{AreClosed};
 ghost use Rattle.volume.specs.Loading.{AnswersVolume};
 ghost use Rattle.volume_laws.specs.Volume.{IsVolumeAt};
 

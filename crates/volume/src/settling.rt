@@ -19,8 +19,7 @@ ghost use Rattle.volume_laws.specs.Graphs.{IsStepNext};
 
 use crate::volume::Volume;
 use image_device::{Device, Failed};
-use pointer_table::OutStep;
-use reclaim::find_step;
+use reclaim::{OutStep, find_step};
 use volume_changes::{note_step, put_step};
 
 /// How many steps of reclamation one call of `settle_some` makes at most.
@@ -60,8 +59,8 @@ impl Volume {
         Ok(self.is_owed())
     }
 
-    /// Makes one step of reclamation, if one is left; whether it did. It commits one batch of at most 33 homes. `Failed`
-    /// comes only where the device's count of faults rose; the volume is then spent.
+    /// Makes one step of reclamation, if one is left; whether it did. It commits one batch of at most 33 homes.
+    /// `Failed` comes only where the device's count of faults rose; the volume is then spent.
     pub fn settle_one<D: Device>(&mut self, dev: &mut D) -> Result<bool, Failed>
         requires ready { IsVolumeReady self.old }
         requires unspent { self.old.is_spent ≡ false }
@@ -76,6 +75,9 @@ impl Volume {
         ensures lowered { IfOk result (λ some. some ≡ true → owed self.new.tables < owed self.old.tables) }
         ensures none { IfOk result (λ some. some ≡ false → owed self.new.tables ≡ 0) }
         ensures ready { OnOk result (IsVolumeReady self.new) }
+        ensures used { OnOk result ((D.view dev.new).writes + checkpoint_writes self.new.ring
+            ≤ (D.view dev.old).writes + checkpoint_writes self.old.ring + batch_cost 33) }
+        ensures uses { Uses (checkpoint_writes self.old.ring + batch_cost 33) (D.view dev.old) (D.view dev.new) }
     {
         self.settle_step(dev)
     }

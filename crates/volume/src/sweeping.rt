@@ -20,7 +20,7 @@ use cycle_sweep::{mark, next_sweep_step};
 use image_device::{Device, Failed};
 use image_layout::gate_bytes;
 use image_layout::sectors::SWEEP_FLAG;
-use pointer_table::OutStep;
+use reclaim::OutStep;
 use volume_changes::put_step;
 
 impl Volume {

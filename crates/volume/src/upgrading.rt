@@ -5,8 +5,11 @@ ghost use Rattle.tsd_model.specs.Records.{upgraded};
 ghost use Rattle.image_device.specs.Calls.{Uses};
 ghost use Rattle.image_device.specs.Counts.{CountsFault};
 ghost use Rattle.image_device.specs.Image.{zeros};
-ghost use Rattle.image_world.specs.Fresh.{AreClosed};
+ghost use Rattle.intent_journal.specs.Records.{AreClosed};
+ghost use Rattle.image_device.specs.Runs.{IsConfined};
+ghost use Rattle.intent_journal.specs.Home.{AgreeBut, home, is_journal};
 ghost use Rattle.intent_journal.specs.Ring.{checkpoint_writes};
+ghost use Rattle.volume_laws.specs.Erased.{is_body, HasOnlyDigests};
 ghost use Rattle.volume_laws.specs.Operations.{IsOperation, IsWithin};
 ghost use Rattle.volume_laws.specs.Rings.{CommitsOnce};
 ghost use Rattle.volume_laws.specs.Volume.{IsVolumeAt, IsVolumeReady, told_by, world_on};
@@ -34,6 +37,12 @@ impl Volume {
         ensures none { self.old.tables.version ≡ 2
             → (D.view dev.new).writes ≤ (D.view dev.old).writes + checkpoint_writes self.old.ring + 113 }
         ensures told { OnOk result (told_by self.new ≡ upgraded (told_by self.old)) }
+        /// promise (with stays): Where it was of version 1, the sectors of records then hold the digests and zeros
+        /// alone, so that no byte of an earlier capability is left there. Of version 2 all but the journal stays.
+        ensures digests { D.told → self.old.tables.version ≡ 1
+            → OnOk result (HasOnlyDigests self.new.tables.records (D.view dev.new).reads) }
+        ensures stays { D.told → self.old.tables.version ≡ 2
+            → OnOk result (AgreeBut is_journal (home (D.view dev.old).reads) (D.view dev.new).reads) }
         /// promise (with closed, erased, none): Afterwards the ring is empty, its gates are closed and its bodies read
         /// as zeros; of version 2 no more is written than that takes.
         ensures ring { OnOk result (self.new.ring ≡ []) }
@@ -57,6 +66,10 @@ impl Volume {
         ensures none { self.old.tables.version ≡ 2 → CommitsOnce 0 self.old self.new (D.view dev.old) (D.view dev.new)
             result }
         ensures told { OnOk result (told_by self.new ≡ upgraded (told_by self.old)) }
+        ensures digests { D.told → self.old.tables.version ≡ 1
+            → OnOk result (HasOnlyDigests self.new.tables.records (home (D.view dev.new).reads)) }
+        ensures stays { D.told → self.old.tables.version ≡ 2
+            → OnOk result (AgreeBut is_journal (home (D.view dev.old).reads) (home (D.view dev.new).reads)) }
         ensures ready { OnOk result (IsVolumeReady self.new) }
         ensures owes { owed self.new.tables ≡ owed self.old.tables }
     {
@@ -79,6 +92,7 @@ impl Volume {
             (D.view dev.new) result }
         ensures version { self.new.tables.version ≡ self.old.tables.version }
         ensures same { OnOk result (self.new ≡ record self.old { is_spent = false }) }
+        ensures confined { D.told → IsConfined is_body (D.view dev.old) (D.view dev.new) }
         ensures closed { D.told → OnOk result (AreClosed (D.view dev.new).reads) }
         ensures erased { D.told → OnOk result ((n : ℕ) → 4 ≤ n → n ≤ 116 → (D.view dev.new).reads n
             ≡ zeros) }

@@ -10,8 +10,8 @@ ghost use Rattle.volume_laws.specs.Steps.{live_after};
 
 use block_alloc::LiveMap;
 use intent_journal::Batch;
-use pointer_table::{OutStep, PointerTable};
-use reclaim::Ahead;
+use pointer_table::PointerTable;
+use reclaim::{Ahead, OutStep};
 use ref_counts::RefCounts;
 
 /// Takes the pairs from a block to these targets away, and puts the sectors that they change into an empty batch.

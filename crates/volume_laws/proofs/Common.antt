@@ -45,7 +45,6 @@ pub use Rattle.image_world.proofs.WrittenLaws.{above_journal, written_stands, wr
 pub use Rattle.image_world.specs.Alike.{AreAlike, AreUnused}
 pub use Rattle.image_world.specs.Debt.{graph_in, owed}
 pub use Rattle.image_world.specs.Faults.{HasJournal, IsGood}
-pub use Rattle.image_world.specs.Fresh.{AreClosed}
 pub use Rattle.image_world.specs.Raw.{blank_of, data_on, zeros_of}
 unfoldable pub use Rattle.image_world.specs.Raw.{left_of, world_with}
 pub use Rattle.image_world.specs.Sound.{AreSound, HasTables}
@@ -61,7 +60,7 @@ pub use Rattle.intent_journal.proofs.Uses.{at_closed, at_kept, at_rested, at_val
 pub use Rattle.intent_journal.specs.Batch.{IsBatch, has_home, with_patch}
 pub use Rattle.intent_journal.specs.Crash.{IsAfter, IsBefore, IsBeforeOrAfter}
 pub use Rattle.intent_journal.specs.Home.{AgreeBut, home, is_journal, overlaid}
-pub use Rattle.intent_journal.specs.Records.{JournalRecord, patches_of}
+pub use Rattle.intent_journal.specs.Records.{JournalRecord, patches_of, AreClosed}
 pub use Rattle.intent_journal.specs.Ring.{IsRingAt, checkpoint_writes, commit_writes, committed, is_full_for}
 pub use Rattle.pointer_table.proofs.LoadingLaws.{stored_elsewhere}
 pub use Rattle.pointer_table.proofs.SlotLaws.{length-pairs_in_le, rising-pairs_in, slot_from_holds}
@@ -69,7 +68,7 @@ pub use Rattle.pointer_table.specs.Changes.{IsSlotSector, KeepsStored}
 pub use Rattle.pointer_table.specs.Sectors.{IsStored as AreSlots}
 pub use Rattle.pointer_table.specs.Slots.{pairs_in}
 pub use Rattle.pointer_table.specs.Table.{IsTable, MayBeHeld, Table as Pointers, pairs}
-pub use Rattle.pointer_table.specs.declared.out_step.OutStep.{OutStep}
+pub use Rattle.reclaim.specs.declared.out_step.OutStep.{OutStep}
 pub use Rattle.reclaim.specs.Ahead.{Hides, IsAdding, IsAheadOf, IsDeleting, IsGrowing, IsStepping, Kept, is_gone}
 pub use Rattle.ref_counts.proofs.StoredLaws.{same_sectors as same_counts}
 pub use Rattle.ref_counts.specs.Changes.{KeepsStored as KeepsCounts}

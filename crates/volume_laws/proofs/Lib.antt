@@ -32,4 +32,5 @@ pub mod OwedLaws
 pub mod ReadLaws
 pub mod ErasedLaws
 pub mod UpgradeLaws
+pub mod DigestLaws
 pub mod QuietLaws

@@ -1,6 +1,6 @@
 -- The next step of reclamation.
 use Rattle.std.specs.Prelude.{◌≡◌, ◌⊎◌, true, length}
-use Rattle.pointer_table.specs.declared.out_step.OutStep.{OutStep}
+use Rattle.reclaim.specs.declared.out_step.OutStep.{OutStep}
 use Rattle.reclaim.specs.Stepping.{MayStep}
 use Rattle.image_world.specs.Debt.{graph_in}
 use Rattle.image_world.specs.Tables.{Tables}

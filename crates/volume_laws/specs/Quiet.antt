@@ -1,9 +1,9 @@
 -- Nothing is left to be done on an image.
 use Rattle.std.specs.Prelude.{◌≡◌, false}
 use Rattle.image_layout.specs.Image.{Image}
-use Rattle.image_world.specs.Fresh.{AreClosed}
 use Rattle.image_world.specs.Tables.{tables_of}
 use Rattle.intent_journal.specs.Home.{home}
+use Rattle.intent_journal.specs.Records.{AreClosed}
 use Rattle.image_world.specs.Debt.{owed}
 
 -- all gates of the journal are closed, no sweep is open, and nothing is doomed

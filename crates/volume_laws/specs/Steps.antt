@@ -9,7 +9,7 @@ use Rattle.ref_counts.specs.Table.{Table as Counts}
 use Rattle.image_world.specs.Sound.{AreSound}
 use Rattle.image_world.specs.Tables.{Tables, pairs_of}
 use Rattle.block_alloc.specs.LiveMap.{LiveMap}
-use Rattle.pointer_table.specs.declared.out_step.OutStep.{OutStep}
+use Rattle.reclaim.specs.declared.out_step.OutStep.{OutStep}
 use Rattle.image_world.specs.Debt.{graph_in}
 use Rattle.image_world.specs.Turns.{Turns}
 

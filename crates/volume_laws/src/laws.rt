@@ -5,7 +5,7 @@ ghost use Rattle.image_layout.specs.declared.offset.Patch.{Patch};
 ghost use Rattle.image_world.specs.Tables.{Tables};
 ghost use Rattle.intent_journal.specs.Records.{JournalRecord};
 ghost use Rattle.intent_journal.specs.Ring.{committed, commit_writes, checkpoint_writes};
-ghost use Rattle.pointer_table.specs.declared.out_step.OutStep.{OutStep};
+ghost use Rattle.reclaim.specs.declared.out_step.OutStep.{OutStep};
 ghost use Rattle.volume_laws.specs.Graphs.{IsStepNext};
 ghost use Rattle.image_world.specs.Debt.{owed};
 ghost use Rattle.volume_laws.specs.Steps.{IsStepped};

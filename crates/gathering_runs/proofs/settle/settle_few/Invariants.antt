@@ -1,6 +1,6 @@
 use Rattle.std.proofs.Common.{◌≡◌, ◌≤◌, ◌+◌}
 use Rattle.serving.specs.Handling.{FitsDevice}
-use Rattle.gathering.specs.Gathered.{AreClosed}
+use Rattle.intent_journal.specs.Records.{AreClosed}
 use Rattle.gathering_runs.proofs.settle.settle_few.Given as goal
 
 abbrev pub invariant-loop-made : goal.invariant-loop-made

@@ -3,7 +3,7 @@ use Rattle.std.specs.Prelude.{Result, Ok, Err, OnErr}
 use Rattle.image_device.specs.Counts.{CountsFault, Rose}
 use Rattle.image_device.specs.Image.{Image}
 use Rattle.serving.specs.Voice.{spoken}
-use Rattle.gathering.specs.Gathered.{AreClosed, cleared, gathered_view}
+use Rattle.gathering.specs.Gathered.{cleared, gathered_view}
 use Rattle.gathering.proofs.Closed.{cleared_closed}
 use Rattle.gathering_runs.proofs.Carried.{to_next}
 use Rattle.gathering_runs.proofs.Grouped.{gathered_badly, gathered_well, left_flushed, left_given_up, sent_by_flush, went_flushed}
@@ -27,7 +27,7 @@ returns-in-Ok-clause-did g c told =
     let e2 = c.flush-inner.ensures in
     let r = c.settle_first-settled.result in
     let m = c.settle_first-settled.new.port in
-    let v = gathered_view start m.group.past.events m.faults m.put_faults m.writes in
+    let v = gathered_view start m.tried.events m.faults m.put_faults m.writes in
     let new = g.P.Device.view c.flush-inner.result.inner in
     let h0 = c.args.server.now in
     let h1 = c.settle_first-settled.new.server in
@@ -58,7 +58,7 @@ returns-in-Ok-clause-between g c told =
     let e2 = c.flush-inner.ensures in
     let r = c.settle_first-settled.result in
     let m = c.settle_first-settled.new.port in
-    let v = gathered_view start m.group.past.events m.faults m.put_faults m.writes in
+    let v = gathered_view start m.tried.events m.faults m.put_faults m.writes in
     let new = g.P.Device.view c.flush-inner.result.inner in
     let h1 = c.settle_first-settled.new.server in
     let whole = ok_is c.flush-inner.result.result _ c.in-Ok.is e2.whole in
@@ -80,7 +80,7 @@ returns-in-Err-clause-did g c told =
     let e2 = c.flush-inner.ensures in
     let r = c.settle_first-settled.result in
     let m = c.settle_first-settled.new.port in
-    let v = gathered_view start m.group.past.events m.faults m.put_faults m.writes in
+    let v = gathered_view start m.tried.events m.faults m.put_faults m.writes in
     let new = g.P.Device.view c.flush-inner.result.inner in
     let h0 = c.args.server.now in
     let h1 = c.settle_first-settled.new.server in

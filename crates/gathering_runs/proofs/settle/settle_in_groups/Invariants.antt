@@ -23,7 +23,7 @@ invariant-loop-disk g l =
     }
 
 abbrev pub ghosts-settle_group : goal.ghosts-settle_group
-ghosts-settle_group g a = record { start = g.P.Device.view a.disk.port }
+ghosts-settle_group g a = record { start = g.P.Device.view a.disk.port; homes = 0 }
 
 abbrev pub decreases-loop-disk : goal.decreases-loop-disk
 decreases-loop-disk g l = g.H.GroupHandler.owed l.server

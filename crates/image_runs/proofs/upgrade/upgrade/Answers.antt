@@ -8,7 +8,7 @@ use Rattle.image_runs.proofs.upgrade.upgrade.Goals as goal
 pub returns-in-Ok-clause-upgraded : goal.returns-in-Ok-clause-upgraded
 returns-in-Ok-clause-upgraded g c told =
     upgraded_there (g.D.Device.view c.args.dev.now) (g.D.Device.view c.open_volume.new.dev) (g.D.Device.view c.upgrade_at.new.dev) c.upgrade_at.new.volume c.upgrade_at.result
-    (c.in-Ok.ensures.read told) (c.in-Ok.ensures.done told) (c.upgrade_at.ensures.at told) (c.upgrade_at.ensures.done told) (c.upgrade_at.ensures.closed told) (c.upgrade_at.ensures.erased told)
+    (c.in-Ok.ensures.read told) (c.in-Ok.ensures.done told) (c.upgrade_at.ensures.at told) (c.upgrade_at.ensures.done told) (c.upgrade_at.ensures.closed told) (c.upgrade_at.ensures.erased told) (c.upgrade_at.ensures.digests told)
 
 pub returns-in-Ok-clause-any_moment : goal.returns-in-Ok-clause-any_moment
 returns-in-Ok-clause-any_moment g c told firm =

@@ -14,7 +14,7 @@ use Rattle.image_world.specs.Turns.{Turns}
 use Rattle.volume_laws.proofs.BlockLaws.{put_ok, length-with_patch}
 use Rattle.volume_laws.proofs.Freed.{freed_turn, allowed_inside}
 use Rattle.pointer_table.specs.Table.{Table as Pointers}
-use Rattle.pointer_table.specs.declared.out_step.OutStep.{OutStep}
+use Rattle.reclaim.specs.declared.out_step.OutStep.{OutStep}
 use Rattle.ref_counts.specs.Table.{Table as Counts}
 use Rattle.volume_laws.proofs.Taken.{one_turn}
 use Rattle.volume_changes.proofs.steps.put_step.Goals as goal

@@ -34,6 +34,8 @@ returns g c = λ kind session shown.
       paid = λ b. then_ok c.add_pointer.result (paid_more (batch_cost 2) (cost_of t q) old.volume new.volume v w (omega arith)) e.cost.paid;
       most = λ b. most_due n (cost_of t q) old.volume v w e.cost.uses (omega (arith, bounds));
       limit = λ b. at_most n (600 + 12 * owed old.volume.tables) v w e.cost.uses (omega (arith, bounds, known.ring));
+      new_paid = λ b. absurd (cc);
+      new_most = λ b. absurd (cc);
       sweep_paid = λ b. absurd (cc);
       swept = λ b. absurd (cc);
     } in

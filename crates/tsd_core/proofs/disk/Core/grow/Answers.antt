@@ -1,11 +1,12 @@
 use Rattle.std.proofs.Common.{◌≡◌, ℕ, List, ◌+◌, ◌*◌, ◌≤◌, sym, ◌∙◌, ap, subst, arith}
 use Rattle.std.specs.Prelude.{length}
-use Rattle.tsd_core.proofs.Common.{IsLawful, chosen, chosen_run, run_at, with_new_blocks, AreLike, with_sessions, told_by, world_on, owed, LeavesOwed, batch_cost, due, world_after, Core, IsCoreAt, cost_of, DoesRequest, IsKnown, IsCarriedOut, left_in, AreNumbers, chosen_like, chosen_run_like, chosen_are_free, chosen_run_is_free, dropped_each, HasBatches, HasNewBlocks}
+use Rattle.tsd_core.proofs.Common.{IsLawful, chosen, chosen_run, run_at, with_new_blocks, AreLike, with_sessions, told_by, world_on, owed, LeavesOwed, batch_cost, zeroed_cost, due, world_after, Core, IsCoreAt, cost_of, DoesRequest, IsKnown, IsCarriedOut, left_in, AreNumbers, chosen_like, chosen_run_like, chosen_are_free, chosen_run_is_free, dropped_each, HasBatches, HasNewBlocks}
 use Rattle.tsd_model.specs.declared.replies.Reply.TheVariants as reply
 use Rattle.tsd_model.specs.declared.requests.Request.TheVariants as ask
 use Rattle.tsd_core.proofs.FormLaws.{free_numbers}
 use Rattle.tsd_core.proofs.AtLaws.{at_volume, like_at}
-use Rattle.tsd_core.proofs.Likes.{like_as, sectors_of_blocks}
+use Rattle.tsd_core.proofs.Likes.{like_as, sectors_of_blocks, zeroed_more, due_more}
+use Rattle.tsd_core.proofs.Choosing.{few_chosen, few_in_run}
 use Rattle.tsd_core.proofs.Operations.{then_ok, if_ok, at_most, most_due, paid_more, carried_out, same_change, other_names}
 use Rattle.intent_journal.specs.Records.{JournalRecord}
 use Rattle.tsd_core.proofs.disk.Core.grow.Goals as goal
@@ -28,6 +29,7 @@ returns-clause-alloc g c = λ kind session shown h count picked.
     let fit = sectors_of_blocks old.volume.tables.geometry (length bs) lawful c.requires.new.few in
     let size = old.volume.tables.geometry.sectors * length bs in
     let bounds : size + batch_cost (3 * length bs) ≤ 460 = omega (arith, fit, c.requires.new.few) in
+    let few : length bs ≤ count = subst (λ (ns : List ℕ). length ns ≤ count) (sym pick) (few_chosen kind t h count) in
     let n : ℕ = due old.volume + (size + batch_cost (3 * length bs)) in
     let does : DoesRequest g.D.Device.told kind q old.volume new.volume v w c.allocate-outcome.result = record {
       like = then_ok c.allocate-outcome.result (λ (same : told_by new.volume ≡ with_new_blocks t c.args.source bs). like_as (told_by new.volume) (world_after kind t q) (same ∙ ap (with_new_blocks t c.args.source) pick)) e.told;
@@ -42,6 +44,8 @@ returns-clause-alloc g c = λ kind session shown h count picked.
       paid = λ b. then_ok c.allocate-outcome.result (paid_more (size + batch_cost (3 * length bs)) (cost_of t q) old.volume new.volume v w (omega (arith, bounds))) e.cost.paid;
       most = λ b. most_due n (cost_of t q) old.volume v w e.cost.uses (omega (arith, bounds));
       limit = λ b. at_most n (600 + 12 * owed old.volume.tables) v w e.cost.uses (omega (arith, bounds, known.ring));
+      new_paid = λ b. then_ok c.allocate-outcome.result (paid_more (size + batch_cost (3 * length bs)) (zeroed_cost old.volume.tables.geometry count) old.volume new.volume v w (zeroed_more old.volume.tables.geometry (length bs) count few)) e.cost.paid;
+      new_most = λ b. most_due n (zeroed_cost old.volume.tables.geometry count) old.volume v w e.cost.uses (due_more (due old.volume) (size + batch_cost (3 * length bs)) (zeroed_cost old.volume.tables.geometry count) (zeroed_more old.volume.tables.geometry (length bs) count few));
       sweep_paid = λ b. absurd (cc);
       swept = λ b. absurd (cc);
     } in
@@ -68,6 +72,7 @@ returns-clause-contig g c = λ kind session shown h count picked.
     let fit = sectors_of_blocks old.volume.tables.geometry (length bs) lawful c.requires.new.few in
     let size = old.volume.tables.geometry.sectors * length bs in
     let bounds : size + batch_cost (3 * length bs) ≤ 460 = omega (arith, fit, c.requires.new.few) in
+    let few : length bs ≤ count = subst (λ (ns : List ℕ). length ns ≤ count) (sym pick) (few_in_run (chosen_run kind t h count) count) in
     let n : ℕ = due old.volume + (size + batch_cost (3 * length bs)) in
     let does : DoesRequest g.D.Device.told kind q old.volume new.volume v w c.allocate-outcome.result = record {
       like = then_ok c.allocate-outcome.result (λ (same : told_by new.volume ≡ with_new_blocks t c.args.source bs). like_as (told_by new.volume) (world_after kind t q) (same ∙ ap (with_new_blocks t c.args.source) pick)) e.told;
@@ -82,6 +87,8 @@ returns-clause-contig g c = λ kind session shown h count picked.
       paid = λ b. then_ok c.allocate-outcome.result (paid_more (size + batch_cost (3 * length bs)) (cost_of t q) old.volume new.volume v w (omega (arith, bounds))) e.cost.paid;
       most = λ b. most_due n (cost_of t q) old.volume v w e.cost.uses (omega (arith, bounds));
       limit = λ b. at_most n (600 + 12 * owed old.volume.tables) v w e.cost.uses (omega (arith, bounds, known.ring));
+      new_paid = λ b. then_ok c.allocate-outcome.result (paid_more (size + batch_cost (3 * length bs)) (zeroed_cost old.volume.tables.geometry count) old.volume new.volume v w (zeroed_more old.volume.tables.geometry (length bs) count few)) e.cost.paid;
+      new_most = λ b. most_due n (zeroed_cost old.volume.tables.geometry count) old.volume v w e.cost.uses (due_more (due old.volume) (size + batch_cost (3 * length bs)) (zeroed_cost old.volume.tables.geometry count) (zeroed_more old.volume.tables.geometry (length bs) count few));
       sweep_paid = λ b. absurd (cc);
       swept = λ b. absurd (cc);
     } in

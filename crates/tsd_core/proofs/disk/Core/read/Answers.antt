@@ -34,6 +34,8 @@ returns g c = λ kind session shown.
       paid = λ b. then_ok c.read_block-outcome.result (λ (same : new.volume ≡ old.volume). subst (λ (x : Volume). IsPaid (cost_of t q) old.volume v x w) (sym same) (omega (arith, e.cost.uses.most))) e.same;
       most = λ b. most_due n (cost_of t q) old.volume v w e.cost.uses (omega (arith, bounds));
       limit = λ b. at_most n (600) v w e.cost.uses (omega (arith, bounds, known.ring));
+      new_paid = λ b. absurd (cc);
+      new_most = λ b. absurd (cc);
       sweep_paid = λ b. absurd (cc);
       swept = λ b. absurd (cc);
     } in

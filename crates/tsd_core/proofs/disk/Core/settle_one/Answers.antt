@@ -1,7 +1,8 @@
-use Rattle.std.proofs.Common.{◌≡◌, [], ◌<◌, ◌∙◌, sym, ap, subst}
-use Rattle.tsd_core.proofs.Common.{Ok, Err, IfOk, OnOk, either_same, told_by, world_on, Core, IsCoreAt, told_world, LeavesPart, behind, owed}
+use Rattle.std.proofs.Common.{◌≡◌, [], ◌+◌, ◌<◌, ◌≤◌, ◌∙◌, sym, ap, subst, arith}
+use Rattle.tsd_core.proofs.Common.{Ok, Err, IfOk, OnOk, either_same, told_by, world_on, Core, IsCoreAt, told_world, LeavesPart, behind, owed, checkpoint_writes, batch_cost}
 use Rattle.std.specs.Prelude.{Result, Bool, true, false}
-use Rattle.tsd_core.proofs.Settling.{ready_still, state_still}
+use Rattle.tsd_core.proofs.Settling.{ready_still, state_still, told_still}
+use Rattle.tsd_core.proofs.Operations.{then_ok}
 use Rattle.tsd_core.proofs.BehindLaws.{leaves_behind}
 use Rattle.tsd_core.proofs.disk.Core.settle_one.Goals as goal
 
@@ -44,3 +45,22 @@ returns-clause-behind g c told =
     let w = g.D.Device.view c.settle_one.new.dev in
     let size = c.self.inside.volume.tables.geometry in
     subst (λ (x : Core). LeavesPart (behind x.volume.tables.geometry) v w) c.self.view_is (leaves_behind c.settle_one.result size [] v w tt (c.settle_one.ensures.operation.data_kept told))
+
+pub returns-clause-told : goal.returns-clause-told
+returns-clause-told g c =
+    let new : Core = record { volume = c.settle_one.new.self; grants = c.self.inside.grants } in
+    then_ok c.settle_one.result
+    (λ (same : told_by new.volume ≡ told_by c.self.inside.volume). told_still c.args.self.now new (same ∙ ap told_world c.self.view_is) (ap (λ (x : Core). x.grants) c.self.view_is))
+    c.settle_one.ensures.told
+
+pub returns-clause-used : goal.returns-clause-used
+returns-clause-used g c =
+    let v = g.D.Device.view c.args.dev.now in
+    let w = g.D.Device.view c.settle_one.new.dev in
+    subst (λ (x : Core). OnOk c.settle_one.result (w.writes + checkpoint_writes c.settle_one.new.self.ring ≤ v.writes + checkpoint_writes x.volume.ring + batch_cost 33)) c.self.view_is c.settle_one.ensures.used
+
+pub returns-clause-most : goal.returns-clause-most
+returns-clause-most g c =
+    let v = g.D.Device.view c.args.dev.now in
+    let w = g.D.Device.view c.settle_one.new.dev in
+    subst (λ (x : Core). w.writes ≤ v.writes + checkpoint_writes x.volume.ring + batch_cost 33) c.self.view_is (omega (arith, c.settle_one.ensures.uses.most))

@@ -34,6 +34,8 @@ returns g c = λ kind session shown.
       paid = λ b. absurd (cc);
       most = λ b. absurd (cc);
       limit = λ b. absurd (cc);
+      new_paid = λ b. absurd (cc);
+      new_most = λ b. absurd (cc);
       sweep_paid = λ b. e.paid;
       swept = λ b. omega (arith, e.uses.most);
     } in

@@ -36,6 +36,8 @@ returns g c = λ kind session shown.
       paid = λ b. then_ok c.write_block.result (paid_more (batch_cost old.volume.tables.geometry.sectors) (cost_of t q) old.volume new.volume v w (omega (arith, bounds))) e.cost.paid;
       most = λ b. most_due n (cost_of t q) old.volume v w e.cost.uses (omega (arith, bounds));
       limit = λ b. at_most n (600) v w e.cost.uses (omega (arith, bounds, known.ring));
+      new_paid = λ b. absurd (cc);
+      new_most = λ b. absurd (cc);
       sweep_paid = λ b. absurd (cc);
       swept = λ b. absurd (cc);
     } in

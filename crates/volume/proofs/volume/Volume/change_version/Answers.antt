@@ -1,11 +1,16 @@
 use Rattle.std.proofs.Common.{arith}
-use Rattle.volume.proofs.Common.{batch_cost, owed, committed_op, committed_within, map, cases_eq, upgraded, upgraded_record, IsLawful, Geometry, IsHeaderReading, header_bytes, Store, caps_sector_bytes, AreKept, AreSound, Tables, Turns, Patch, Volume, tables_in, commits_once, any_bytes, IsOp, op_told}
-use Rattle.std.proofs.Common.{◌≡◌, ◌≤◌, inl, inr, List, length, refl, sym, ◌∙◌, ap, subst, Ok}
+use Rattle.volume.proofs.Common.{batch_cost, owed, committed_op, committed_within, map, cases_eq, upgraded, upgraded_record, IsLawful, Geometry, IsHeaderReading, header_bytes, Store, caps_sector_bytes, AreKept, AreSound, Tables, Turns, Patch, Volume, tables_in, commits_once, any_bytes, IsOp, op_told, home}
+use Rattle.std.proofs.Common.{◌≡◌, ◌≤◌, ℕ, inl, inr, List, length, refl, sym, ◌∙◌, ap, subst, Ok}
 use Rattle.tsd_model.specs.declared.records.Record.{Record}
 use Rattle.image_world.specs.Changes.{upgraded_tables}
 use Rattle.volume_laws.proofs.UpgradeLaws.{upgrade_turn, no_upgrade, upgraded_in, upgrade_op}
+use Rattle.volume_laws.proofs.DigestLaws.{digests_laid, same_laid}
 use Rattle.volume.proofs.volume.Volume.change_version.Given
 use Rattle.volume.proofs.volume.Volume.change_version.Goals as goal
+
+-- no version is both
+not_both : (version : ℕ) → version ≡ 1 → version ≡ 2 → ⊥
+not_both version one two = omega (arith, one, two)
 
 -- the volume then
 abbrev now : (g : Given.Over) → goal.After-self-2-1 g → Volume
@@ -60,3 +65,15 @@ returns-clause-none g c two =
     let empty = ap (λ (ps : List Patch). length ps) (c.put_upgrade.ensures.none version) in
     commits_once c.commit-outcome.result c.args.self.now (now g c) c.self.inside.ring (g.D.Device.view c.args.dev.now) (g.D.Device.view c.commit-outcome.new.dev) c.put_upgrade.new.batch 0 (omega (arith, empty)) (ap (λ (w : Volume). w.ring) c.self.view_is)
     c.commit-outcome.ensures.uses c.commit-outcome.ensures.records
+
+pub returns-clause-digests : goal.returns-clause-digests
+returns-clause-digests g c told one =
+    let i = c.self.inside in
+    let version = ap (λ (w : Volume). w.tables.version) c.self.view_is ∙ one in
+    digests_laid c.commit-outcome.result c.put_upgrade.new.batch (header_bytes (record { version = 2; geometry = i.header.geometry })) c.upgrade.new.self.records (home (g.D.Device.view c.args.dev.now).reads) (home (g.D.Device.view c.commit-outcome.new.dev).reads)
+    (c.put_upgrade.ensures.laid (λ two. absurd (not_both i.header.version version two))) (c.commit-outcome.ensures.done told)
+
+pub returns-clause-stays : goal.returns-clause-stays
+returns-clause-stays g c told two =
+    same_laid c.commit-outcome.result c.put_upgrade.new.batch (home (g.D.Device.view c.args.dev.now).reads) (home (g.D.Device.view c.commit-outcome.new.dev).reads)
+    (c.put_upgrade.ensures.none (ap (λ (w : Volume). w.tables.version) c.self.view_is ∙ two)) (c.commit-outcome.ensures.done told)

@@ -1,5 +1,6 @@
 use Rattle.std.proofs.Common.{◌≡◌, ◌+◌, [], ap, arith}
-use Rattle.volume.proofs.Common.{upgraded, checkpoint_writes, owed, Volume, batch_cost, then_kept, op_fails, within_then, within_fails, batch_of_none}
+use Rattle.volume.proofs.Common.{upgraded, checkpoint_writes, owed, Volume, batch_cost, then_kept, op_fails, within_then, within_fails, batch_of_none, home}
+use Rattle.volume_laws.proofs.DigestLaws.{digests_erased, all_stays}
 use Rattle.volume.proofs.volume.Volume.upgrade.Goals as goal
 
 pub returns-in_err-change_version-clause-cost : goal.returns-in_err-change_version-clause-cost
@@ -59,3 +60,16 @@ returns-clause-none g c two =
     let then = c.in_ok-empty_ring.ensures.cost.uses.most in
     let last = c.erase.ensures.cost.uses.most in
     omega (arith, few, ring, then, last)
+
+pub returns-clause-digests : goal.returns-clause-digests
+returns-clause-digests g c told one =
+    let view = g.D.Device.view in
+    digests_erased c.erase.result (home (view c.change_version.new.dev).reads) (view c.empty_ring.new.dev) (view c.erase.new.dev) (c.in_ok-empty_ring.ensures.placed told) (c.erase.ensures.confined told)
+    c.empty_ring.new.self c.erase.new.self c.change_version.new.self.tables.records (c.in_ok-change_version.ensures.digests told one)
+    (ap (λ (v : Volume). v.tables.records) c.in_ok-empty_ring.ensures.same) c.erase.ensures.same
+
+pub returns-clause-stays : goal.returns-clause-stays
+returns-clause-stays g c told two =
+    let view = g.D.Device.view in
+    all_stays c.erase.result (home (view c.args.dev.now).reads) (home (view c.change_version.new.dev).reads) (view c.empty_ring.new.dev) (view c.erase.new.dev)
+    (c.in_ok-change_version.ensures.stays told two) (c.in_ok-empty_ring.ensures.placed told) (c.erase.ensures.confined told)
