@@ -20,7 +20,7 @@ use Rattle.image_runs.specs.Server.{disk_work}
 use Rattle.gathering_runs.specs.Rounds.{RanByRounds}
 use Rattle.gathering_runs.specs.Run.{AskedInGroups}
 use Rattle.gathering_runs.specs.Sent.{SentInGroups}
-use Rattle.image_groups.specs.Waiting.{may_wait}
+use Rattle.image_groups.specs.Waiting.{MayWait}
 
 -- How a run over these requests ended. Where the disk was firm and stood for a world, a crash at any moment, opening
 -- included, left an image of the state after a prefix of the requests that holds each one of whose reply something was
@@ -41,7 +41,7 @@ pub record ImageRanByRounds (r : Status) (v : Voice) (p : Spelling Request) (kin
   pub opened : Mark
   pub of_port : port opened
   pub nothing_sent : opened.sent ≡ old.sent
-  pub rounds : RanByRounds r (disk_service v) disk_work may_wait port p limit (start_of kind old.reads) source opened
+  pub rounds : RanByRounds r (disk_service v) disk_work MayWait port p limit (start_of kind old.reads) source opened
       (mark new)
   pub nothing_left : (disk_work.debt opened.reads ≡ 0) ⊎ ((rounds.rounds ≡ []) × (rounds.turns ≡ []))
 

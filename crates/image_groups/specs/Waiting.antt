@@ -4,9 +4,9 @@ use Rattle.tsd_model.specs.declared.requests.Request.{Request}
 use Rattle.tsd_model.specs.declared.requests.Request.TheVariants as ask
 
 -- New blocks and a new pointer, whose room may be reclaimed first, and a sweep.
-abbrev pub may_wait : Request → Type 0
-may_wait (ask.Alloc s a shown h count) = ⊤
-may_wait (ask.Contig s a shown h count) = ⊤
-may_wait (ask.Create s a shown b) = ⊤
-may_wait (ask.Sweep s shown) = ⊤
-may_wait q = ⊥
+abbrev pub MayWait : Request → Type 0
+MayWait (ask.Alloc s a shown h count) = ⊤
+MayWait (ask.Contig s a shown h count) = ⊤
+MayWait (ask.Create s a shown b) = ⊤
+MayWait (ask.Sweep s shown) = ⊤
+MayWait q = ⊥

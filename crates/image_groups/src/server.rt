@@ -9,7 +9,7 @@ ghost use Rattle.image_runs.specs.Server.{disk_rules, disk_work, placed_on};
 ghost use Rattle.image_runs.specs.StandsLaws.{stands_here};
 ghost use Rattle.image_groups.specs.Carried.{behind_alike, core_carried, worlds_alike};
 ghost use Rattle.image_groups.specs.Owing.{core_due_none, core_owed_alike, core_owes, owed_by};
-ghost use Rattle.image_groups.specs.Waiting.{may_wait};
+ghost use Rattle.image_groups.specs.Waiting.{MayWait};
 
 use gathering_runs::GroupHandler;
 use image_device::{Device, Failed};
@@ -85,7 +85,7 @@ impl<'a> Handler for GroupServer<'a> {
 impl<'a> GroupHandler for GroupServer<'a> {
     ghost owed = { λ h. owed_by h.core.now };
 
-    ghost may_wait = { may_wait };
+    ghost may_wait = { MayWait };
 
     ghost owes = { λ h x held. core_owes h.core.now x held };
 
@@ -120,10 +120,10 @@ impl<'a> GroupHandler for GroupServer<'a> {
 
     fn settle_one<D: Device>(&mut self, dev: &mut D) -> Result<bool, Failed> {
         let done = self.core.settle_one(dev);
-        self.owes = match done {
-            Ok(some) => some && self.core.is_owed(),
-            Err(_) => true,
-        };
+        match done {
+            Ok(_) => self.owes = self.core.is_owed(),
+            Err(_) => {}
+        }
         done
     }
 
