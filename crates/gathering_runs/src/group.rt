@@ -54,7 +54,8 @@ pub(crate) fn serve_group<
         (P.view result.0.port) (request.old ∷ done))
         × (P.told → OnOk result.1 (LeavesBut (spoken H.rules R.voice) H.work
         (H.state server.old (cleared K.start.reads)) K.start.sent (request.old ∷ done)
-        (H.state server.new (cleared (P.view result.0.port).reads)) (P.view result.0.port).sent (H.owed server.old) (H.owed server.new) lacking.new)) }
+        (H.state server.new (cleared (P.view result.0.port).reads)) (P.view result.0.port).sent (H.owed server.old)
+        (H.owed server.new) lacking.new)) }
     ensures lacks { OnOk result.1 (lacking.new ≤ 4) }
     ensures writes { IsGroup (mark K.start) (mark (P.view result.0.port)) }
     ensures less { IfOk result.1 (λ waits. waits ≡ true → remaining intake.new < remaining intake.old) }
