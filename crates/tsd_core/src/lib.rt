@@ -13,6 +13,7 @@
 mod apply;
 mod blocks;
 mod carry;
+mod closing;
 mod disk;
 mod grow;
 mod laws;
