@@ -102,7 +102,7 @@ module _ (c : Core) (rs : List JournalRecord) (batch : List Patch) (v : View) (e
     now_stands = closed_alike (gone_on batch v.reads) w.reads (world_of (gone_on batch v.reads)) held_stands held_closed (record { valid = at_valid ringed; stands = λ n out. done n out ∙ placed n out })
 
     pub committed_at : IsInMemory c ring [] w
-    committed_at = record { firm = firm; ring = ringed; good = now_stands.good; fits = over.0; aside = cleared_aside c.volume.tables.geometry w.reads }
+    committed_at = record { firm = firm; ring_at = ringed; good = now_stands.good; fits = over.0; aside = cleared_aside c.volume.tables.geometry w.reads }
 
     pub committed_state : held_state c [] w ≡ held_state c batch v
     committed_state = over.1

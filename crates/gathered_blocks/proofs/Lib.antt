@@ -2,3 +2,4 @@ pub mod AskedLaws
 pub mod AskLeaves
 pub mod HoldLaws
 pub mod BoundLaws
+pub mod TaskLaws
