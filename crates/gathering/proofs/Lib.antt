@@ -3,7 +3,7 @@ mod Events
 mod Found
 mod Reading
 mod Wholes
-mod Resuming
+pub mod Resuming
 mod Flushing
 pub mod Merely
 pub mod Closed
