@@ -18,10 +18,10 @@ use Rattle.gathering.specs.Gathered.{gone_on}
 use Rattle.volume_laws.specs.Moments.{LeavesEither, StandsForEither}
 use Rattle.volume_laws.specs.Volume.{world_on}
 use Rattle.volume_laws.specs.Writes.{Works}
-use Rattle.tsd_core.specs.Core.{Core, IsCoreAt, IsCoreReady}
+use Rattle.tsd_core.specs.Core.{Core, IsCoreAt, IsCoreReady, state_on}
 use Rattle.tsd_core.specs.Work.{SameSize}
-use Rattle.gathered_blocks.specs.Held.{GoesOn, IsInMemory, StandsForAny}
-use Rattle.gathered_blocks.proofs.HoldLaws.{below_at}
+use Rattle.gathered_blocks.specs.Held.{GoesOn, IsInMemory, StandsForAny, held_state}
+use Rattle.gathered_blocks.proofs.HoldLaws.{below_at, below_base, below_state}
 
 -- the facts of the task
 pub record RanBelow {T : Type 0} (told : Type 0) (c0 c1 : Core) (u w : View) (next : World) (r : Result T Failed) : Type 0 where
@@ -71,3 +71,13 @@ module _ (told : Type 0) (c0 c1 : Core) (ring : List JournalRecord) (b0 b1 : Lis
     works = works_then v u w works ran.works;
     faults = subst (λ n. Rose n w.faults) same ran.faults;
   }
+
+pub below_world : {T : Type 0} (told : Type 0) (c0 c1 : Core) (u w : View) (next : World) (r : Result T Failed) → RanBelow told c0 c1 u w next r → told → OnOk r (world_of w.reads ≡ world_of (gone_on [] w.reads))
+below_world told c0 c1 u w next (Ok x) ran t = below_base c1 w (ran.at t) ran.empty (ran.closed t)
+below_world told c0 c1 u w next (Err e) ran t = tt
+
+pub below_given : {T : Type 0} (told : Type 0) (c0 c1 : Core) (b0 b1 : List Patch) (v u w : View) (next : World) (r : Result T Failed) → RanBelow told c0 c1 u w next r → b1 ≡ [] → (P : State → T → State → Type 0) → (t : told)
+    → state_on c0 u.reads ≡ held_state c0 b0 v → IfOk r (λ x. P (state_on c0 u.reads) x (state_on c1 w.reads)) → IfOk r (λ x. P (held_state c0 b0 v) x (held_state c1 b1 w))
+below_given told c0 c1 b0 b1 v u w next (Ok x) ran none P t same given =
+    subst (λ (s : State). P s x (held_state c1 b1 w)) same (subst (λ (s : State). P (state_on c0 u.reads) x s) (sym (ap (λ (b : List Patch). held_state c1 b w) none ∙ below_state c1 w (ran.at t) ran.empty (ran.closed t))) given)
+below_given told c0 c1 b0 b1 v u w next (Err e) ran none P t same given = tt
