@@ -18,7 +18,7 @@ use Rattle.intent_journal.specs.Home.{home, overlaid, is_journal, AgreeBut}
 use Rattle.intent_journal.specs.Records.{AreClosed, JournalRecord, open_records}
 use Rattle.intent_journal.specs.Ring.{IsRingAt}
 use Rattle.intent_journal.proofs.Overlays.{overlaid_alike}
-use Rattle.intent_journal.proofs.Uses.{at_kept, at_valid}
+use Rattle.intent_journal.proofs.Uses.{at_closed, at_kept, at_valid}
 use Rattle.image_world.specs.Behind.{behind}
 use Rattle.image_world.specs.Faults.{IsGood}
 use Rattle.image_world.specs.Stands.{Stands, world_of}
@@ -166,4 +166,60 @@ module _ (told : Type 0) (c : Core) (rs : List JournalRecord) (batch : List Patc
     behind = commit_aside;
     works = works;
     faults = same;
+  }
+
+-- ---- on the device itself
+
+module _ (c : Core) (rs : List JournalRecord) (v : View) (empty : c.volume.ring ≡ []) (at : IsInMemory c rs [] v) where
+  module _ (u : View) (firm : IsFirm u) (ringed : IsRingAt [] u) (done : AgreeBut is_journal (home v.reads) u.reads) where
+    emptied_closed : AreClosed u.reads
+    emptied_closed index less = ringed.others_closed index (omega arith) less
+
+    emptied_agrees : AgreeBut is_journal (cleared v.reads) u.reads
+    emptied_agrees n out = done n out ∙ sym (ap (λ b. cond b zeros (home v.reads n)) out)
+
+    emptied_over : FitsReads c u.reads × (state_on c u.reads ≡ state_on c (cleared v.reads))
+    emptied_over = fits_over c (cleared v.reads) u.reads at.fits (cleared_closed v.reads) emptied_closed emptied_agrees
+
+    pub emptied_at : IsFirm u × FitsReads c u.reads
+    emptied_at = (firm, emptied_over.0)
+
+    pub emptied_state : state_on c u.reads ≡ held_state c [] v
+    emptied_state = emptied_over.1
+
+-- a core at a device whose journal is closed
+module _ (c : Core) (w : View) (at : IsFirm w × FitsReads c w.reads) (empty : c.volume.ring ≡ []) (closed : AreClosed w.reads) where
+  below_over : FitsReads c (cleared w.reads) × (state_on c (cleared w.reads) ≡ state_on c w.reads)
+  below_over = fits_over c w.reads (cleared w.reads) at.1 closed (cleared_closed w.reads) (λ n out. ap (λ b. cond b zeros (home w.reads n)) out ∙ (λ i. closed_home w.reads closed i n))
+
+  pub below_at : IsInMemory c [] [] w
+  below_at = record { firm = at.0; ring_at = at_closed w closed (λ n inside. at.0 n); good = at.1.good; fits = below_over.0; aside = cleared_aside c.volume.tables.geometry w.reads }
+
+  pub below_state : held_state c [] w ≡ state_on c w.reads
+  below_state = below_over.1
+
+  pub below_base : world_of w.reads ≡ world_of (cleared w.reads)
+  below_base = ap (λ (s : State). s.world) (sym below_over.1)
+
+-- an emptied journal
+module _ (told : Type 0) (c : Core) (rs : List JournalRecord) (v u : View) (firm : told → IsFirm v) (good : told → IsGood v.reads) (leaves : told → LeavesOnly v u (λ x f. IsBefore v x × (f ≡ v.sent))) where
+  pub emptied_moments : (now next : World) → told → LeavesOnly v u (λ x f. StandsForAny (world_of v.reads) now next x × (f ≡ v.sent))
+  emptied_moments now next t = weakened v u (λ x f. IsBefore v x × (f ≡ v.sent)) (λ x f. StandsForAny (world_of v.reads) now next x × (f ≡ v.sent)) (leaves t) (λ x f left. (inl (before_stands v x (firm t) (good t) left.0), left.1))
+
+  pub emptied_aside : told → LeavesPart (behind c.volume.tables.geometry) v u
+  emptied_aside t = weakened v u (λ x f. IsBefore v x × (f ≡ v.sent)) (λ x f. behind c.volume.tables.geometry x ≡ behind c.volume.tables.geometry v.reads) (leaves t)
+      (λ x f left i n. before_outside v x (firm t) left.0 (total c.volume.tables.geometry + n) (above_journal (total c.volume.tables.geometry + n) (omega arith)) i)
+
+  pub empty_fails : {T : Type 0} (d : Core) (ring : List JournalRecord) (b0 b1 : List Patch) (next : World) → d ≡ record c { volume = record c.volume { is_spent = true } } → (told → u.sent ≡ v.sent) → Works v u → Rose v.faults u.faults
+      → GoesOn {T = T} told c d ring b0 b1 v u next (Err record {})
+  empty_fails d ring b0 b1 next is sent works rose = record {
+    ready = tt;
+    at = λ t. tt;
+    size = spent_size c d is;
+    spent = ap (λ (k : Core). k.volume.is_spent) is;
+    sent = sent;
+    any_moment = λ t. ∣ emptied_moments (world_of (gone_on b0 v.reads)) next t ∣₁;
+    behind = λ t. ∣ emptied_aside t ∣₁;
+    works = works;
+    faults = rose;
   }

@@ -5,3 +5,4 @@ pub mod HoldLaws
 pub mod BoundLaws
 pub mod TaskLaws
 pub mod PartGoes
+pub mod BelowGoes

@@ -13,7 +13,7 @@ ghost use Rattle.gathered_blocks.specs.Rooms.{gathered};
 
 use crate::room::AskRoom;
 use crate::task::Task;
-use gathering::{Base, Going, Part};
+use gathering::{Base, Going, Part, Room};
 use image_device::{Device, Failed};
 use intent_journal::Ring;
 use std::marker::Brand;
@@ -45,24 +45,52 @@ pub(crate) fn in_memory<P: Device, T: Task>(
     ensures ring { room.new.ring ≡ room.old.ring }
     ensures writes { (P.view dev.new).writes ≡ (P.view dev.old).writes }
 {
-    let below = Base {
-        dev,
-        room: room.room.take().unwrap(),
-    };
-    let (below, outcome) = in_part::<P, T, Brand>(core, below, &room.ring, task);
-    room.room = Some(below.room);
+    let kept = room.room.take().unwrap();
+    let (kept, outcome) = in_room(core, dev, kept, &room.ring, task);
+    room.room = Some(kept);
     outcome
+}
+
+/// The same with the batch in a room, which it gives back.
+fn in_room<P: Device, T: Task>(
+    core: &mut Core,
+    dev: &mut P,
+    kept: Room,
+    ring: &Ring,
+    task: &T,
+) -> (Room, Result<Reply, Failed>)
+    requires ready { IsReadyInMemory core.old }
+    requires at { P.told → IsInMemory core.old ring.now kept.batch (P.view dev.old) }
+    requires fits { (most : ℕ) × T.is_bound task.now core.old.volume most × (length kept.batch + most ≤ bodies) }
+    ensures goes_on { GoesOn P.told core.old core.new ring.now kept.batch result.0.batch (P.view dev.old)
+        (P.view dev.new) (T.next task.now (held_state core.old kept.batch (P.view dev.old))) result.1 }
+    ensures given { P.told → IfOk result.1 (λ r. T.given task.now (held_state core.old kept.batch (P.view dev.old)) r
+        (held_state core.new result.0.batch (P.view dev.new))) }
+    ensures told { IfOk result.1 (λ r. T.told_given task.now core.old r core.new) }
+    ensures reads { P.told → (P.view dev.new).reads ≡ (P.view dev.old).reads }
+    ensures writes { (P.view dev.new).writes ≡ (P.view dev.old).writes }
+{
+    let below = Below { dev };
+    let (_below, kept, outcome) = in_part::<P, T, Brand>(core, below, kept, ring, task);
+    (kept, outcome)
+}
+
+/// A device through a reference.
+#[derive(Drop)]
+pub(crate) struct Below<'a, P: Device> {
+    pub(crate) dev: &'a mut P,
 }
 
 /// The same over what the disk in memory stands on, which it gives back.
 fn in_part<'a, P: Device, T: Task, K: Going>(
     core: &mut Core,
-    below: Base<'a, P>,
+    below: Below<'a, P>,
+    kept: Room,
     ring: &Ring,
     task: &T,
-) -> (Base<'a, P>, Result<Reply, Failed>)
+) -> (Below<'a, P>, Room, Result<Reply, Failed>)
     requires device { below.dev.ghost_name ≡ K.device }
-    requires batch { below.room.batch ≡ K.batch }
+    requires batch { kept.batch ≡ K.batch }
     requires rests { P.told → HasRested K.start (P.view below.dev.now) }
     requires counts { Uses 0 K.start (P.view below.dev.now) }
     requires faults { (P.view below.dev.now).faults ≡ K.start.faults }
@@ -70,17 +98,22 @@ fn in_part<'a, P: Device, T: Task, K: Going>(
     requires at { P.told → IsInMemory core.old ring.now K.batch K.start }
     requires fits { (most : ℕ) × T.is_bound task.now core.old.volume most × (length K.batch + most ≤ bodies) }
     ensures device { result.0.dev.ghost_name ≡ K.device }
-    ensures goes_on { GoesOn P.told core.old core.new ring.now K.batch result.0.room.batch K.start
-        (P.view result.0.dev.now) (T.next task.now (held_state core.old K.batch K.start)) result.1 }
-    ensures given { P.told → IfOk result.1 (λ r. T.given task.now (held_state core.old K.batch K.start) r
-        (held_state core.new result.0.room.batch (P.view result.0.dev.now))) }
-    ensures told { IfOk result.1 (λ r. T.told_given task.now core.old r core.new) }
+    ensures goes_on { GoesOn P.told core.old core.new ring.now K.batch result.1.batch K.start
+        (P.view result.0.dev.now) (T.next task.now (held_state core.old K.batch K.start)) result.2 }
+    ensures given { P.told → IfOk result.2 (λ r. T.given task.now (held_state core.old K.batch K.start) r
+        (held_state core.new result.1.batch (P.view result.0.dev.now))) }
+    ensures told { IfOk result.2 (λ r. T.told_given task.now core.old r core.new) }
     ensures reads { P.told → (P.view result.0.dev.now).reads ≡ K.start.reads }
     ensures writes { (P.view result.0.dev.now).writes ≡ K.start.writes }
 {
-    let mut part = Part::<P, K>::new(below, ring);
+    let base = Base {
+        dev: below.dev,
+        room: kept,
+    };
+    let mut part = Part::<P, K>::new(base, ring);
     let outcome = task.run(core, &mut part);
-    (part.leave(), outcome)
+    let Base { dev, room } = part.leave();
+    (Below { dev }, room, outcome)
 }
 
 /// Does it on the device itself, with nothing gathered: the records of the journal are put in place before it and

@@ -19,9 +19,9 @@ returns-clause-goes_on g c =
     let p1 = part_view g.K.Going.start g.K.Going.batch q.past.events q.faults q.writes in
     let reads0 = ap (λ (l : List Event). (after l base).reads) c.new-part.ensures.past in
     let e = c.run-outcome.ensures in
-    let l = c.leave.ensures in
+    let l = c.leave-dev.ensures in
     let same = ap (λ (x : Image). state_on c.args.core.now x) reads0 in
-    part_goes g.P.Device.told c.args.core.now c.run-outcome.new.core c.args.ring.now g.K.Going.batch c.leave.result.room.batch g.K.Going.start (g.P.Device.view c.leave.result.dev.now) p0 p1 _ c.requires.fits.0
+    part_goes g.P.Device.told c.args.core.now c.run-outcome.new.core c.args.ring.now g.K.Going.batch c.leave-dev.result.room.batch g.K.Going.start (g.P.Device.view c.leave-dev.result.dev.now) p0 p1 _ c.requires.fits.0
     c.requires.at reads0 (ap (λ (l : List Event). length l) c.new-part.ensures.past) c.new-part.ensures.faults c.new-part.ensures.writes (λ t. part_sound g.K.Going.start g.K.Going.batch q.past.events q.faults q.writes (q.began_whole t) q.whole) c.requires.fits.2
     (record { reads = l.reads; loose = l.loose; sent = l.sent; any_moment = l.any_moment; counts = l.counts; holds = l.holds; is = l.is; failed = l.failed; unfailed = l.unfailed })
     c.run-outcome.result
@@ -47,9 +47,9 @@ returns-clause-given g c told =
     let p1 = part_view g.K.Going.start g.K.Going.batch q.past.events q.faults q.writes in
     let reads0 = ap (λ (l : List Event). (after l base).reads) c.new-part.ensures.past in
     let e = c.run-outcome.ensures in
-    let l = c.leave.ensures in
+    let l = c.leave-dev.ensures in
     let same = ap (λ (x : Image). state_on c.args.core.now x) reads0 in
-    part_given g.P.Device.told c.args.core.now c.run-outcome.new.core c.args.ring.now g.K.Going.batch c.leave.result.room.batch g.K.Going.start (g.P.Device.view c.leave.result.dev.now) p0 p1 _ c.requires.fits.0
+    part_given g.P.Device.told c.args.core.now c.run-outcome.new.core c.args.ring.now g.K.Going.batch c.leave-dev.result.room.batch g.K.Going.start (g.P.Device.view c.leave-dev.result.dev.now) p0 p1 _ c.requires.fits.0
     c.requires.at reads0 (ap (λ (l : List Event). length l) c.new-part.ensures.past) c.new-part.ensures.faults c.new-part.ensures.writes (λ t. part_sound g.K.Going.start g.K.Going.batch q.past.events q.faults q.writes (q.began_whole t) q.whole) c.requires.fits.2
     (record { reads = l.reads; loose = l.loose; sent = l.sent; any_moment = l.any_moment; counts = l.counts; holds = l.holds; is = l.is; failed = l.failed; unfailed = l.unfailed })
     (g.T.Task.given c.args.task.now) c.run-outcome.result
