@@ -1,5 +1,5 @@
 -- Names that were read ahead.
-use Rattle.std.proofs.Common.{◌≡◌, ℕ, false, List, [], ◌∷◌, refl, sym, ap, subst, Option, Some, None, Result, Ok, Err, slice_get, remove, IfSome, OnSome}
+use Rattle.std.proofs.Common.{◌≡◌, ℕ, false, List, [], ◌∷◌, refl, sym, subst, Option, Some, None, Ok, Err, slice_get, remove, IfSome, OnSome}
 use Rattle.shell_server.proofs.Common.{World, DeviceView, IsSound, firm_image, started, Answer, ShellAsk, FsRefusal, FilesView, TellsNext, Name, Core, behind_stays, IsLeftOf, shell_stands, AreReady, FitsShell, shell_state, shell_step, IsLooked}
 use Rattle.fs_walks.specs.Nexts.{AreBehind, TellsNames}
 

@@ -1,6 +1,6 @@
 -- An ask that changes the tree, carried out on the disk.
-use Rattle.std.proofs.Common.{◌≡◌, ◌≢◌, ◌⊎◌, inl, inr, ℕ, Bool, true, false, cond, List, [], ◌∷◌, ◌++◌, refl, sym, ◌∙◌, ap, subst}
-use Rattle.shell_server.proofs.Common.{Result, Ok, Err, IsTrue, IfErr, World, Rose, DeviceView, LeavesOnly, IsFirm, weakened, Image, Stands, world_of, line_feeds, Tree, nothing, is_there, done, refused, AskOutcome, OthersStay, tree_at, step_in, ShellAsk, FsRefusal, outside_twice, DiskView, IsValidNow, LeavesWorldsOnly, FilesView, IsEitherTree, LeavesTidyWorld, OnAnswer, unless_refused, Answers, answer_text, Core, FitsReads, KeepsBehind, IsImageOf, ShellState, AnswersByLine, IsKeptSince, IsLeftOf, heard, files_after, shell_step, tree_of, tree_in, tree_under, AreReady, FitsShell, shell_state, IsLeftBeforeOrAfter, IsCarried, IsOneLine, change_line, resting, IsTakenForTree, RestsIn, shell_rests}
+use Rattle.std.proofs.Common.{◌≡◌, ◌≢◌, inl, inr, ℕ, Bool, true, false, cond, [], ◌∷◌, ◌++◌, refl, sym, ◌∙◌, ap, subst}
+use Rattle.shell_server.proofs.Common.{Result, Ok, Err, IsTrue, IfErr, World, Rose, DeviceView, LeavesOnly, IsFirm, weakened, Image, Stands, world_of, line_feeds, nothing, is_there, done, refused, AskOutcome, OthersStay, step_in, ShellAsk, FsRefusal, outside_twice, DiskView, IsValidNow, LeavesWorldsOnly, FilesView, IsEitherTree, LeavesTidyWorld, OnAnswer, unless_refused, answer_text, Core, FitsReads, KeepsBehind, IsImageOf, ShellState, AnswersByLine, IsKeptSince, IsLeftOf, heard, files_after, shell_step, tree_of, tree_in, tree_under, AreReady, FitsShell, shell_state, IsLeftBeforeOrAfter, IsCarried, IsOneLine, change_line, resting, IsTakenForTree, RestsIn, shell_rests}
 use Rattle.std.specs.Prelude.{Some}
 use Rattle.tsd_core.specs.Core.{sessions_of}
 use Rattle.tsd_model.specs.Sessions.{Fits}

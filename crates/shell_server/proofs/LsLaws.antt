@@ -1,7 +1,7 @@
 -- The line of the names in a directory, name by name.
 use Rattle.std.proofs.Common.{◌≡◌, inl, inr, ℕ, ◌+◌, ◌-◌, ◌<◌, ◌≤◌, ◌==◌, Bool, true, false, not, cond, ◌&&◌, nat_lt, nat_le, List, [], ◌∷◌, ◌++◌, length, refl, sym, ◌∙◌, ap, subst, arith, append-nil, append_assoc, length-append, Option, Some, None}
 use Rattle.std.proofs.lemmas.Bool.{and_parts, and_from, or_cases, or_left, or_right, eq-eqb, eqb-true}
-use Rattle.shell_server.proofs.Common.{Image, nat_tests, find, flat_map, is_some, World, free_count, line_feeds, feeds-append, Name, Path, name_max, name_lt, is_name, is_name_byte, is_reserved, is_below_first_name, are_ascending, Tree, nothing, at, names_in, Answer, listed, refused, need_of, refusal, judged, step_in, tree_at, ShellAsk, FsRefusal, TellsNext, above, is_empty, answer_text, names_head, ShellState, AnswersByLine, IsInParts, RestsIn, files_after, heard, shell_step, tree_by, tree_in, tree_of, IsNameListing}
+use Rattle.shell_server.proofs.Common.{Image, nat_tests, find, flat_map, is_some, World, free_count, line_feeds, feeds-append, Name, Path, name_max, name_lt, is_name, is_name_byte, is_reserved, is_below_first_name, are_ascending, Tree, nothing, at, names_in, Answer, listed, refused, need_of, refusal, judged, step_in, ShellAsk, FsRefusal, TellsNext, above, is_empty, answer_text, names_head, ShellState, AnswersByLine, IsInParts, RestsIn, files_after, heard, shell_step, tree_by, tree_in, tree_of, IsNameListing}
 use Rattle.std.proofs.lemmas.Grind.{flat_map-append}
 use Rattle.std.specs.List.{list_all}
 use Rattle.tsd_model.specs.Valid.{IsValid}

@@ -1,6 +1,6 @@
 -- The step of an ask that changes the tree.
 use Rattle.std.proofs.Common.{◌≡◌, ◌≢◌, ◌⊎◌, inl, inr, ℕ, Bool, true, false, cond, List, [], ◌∷◌, ◌++◌, length, refl, sym, ◌∙◌, ap, subst}
-use Rattle.shell_server.proofs.Common.{IsTrue, World, free_count, Geometry, Name, Path, nothing, a_file, a_dir, Tree, at, bytes_in, is_there, with_at, Answer, done, refused, need_of, RoomNeed, refusal, first_of, not_mounted, lost_on_the_way, missing, no_file, dir_full, no_room, AskOutcome, empty_tree, change, judged, tree_at, step_in, ShellAsk, ShellKind, FsRefusal, FilesView, files_after, tree_under}
+use Rattle.shell_server.proofs.Common.{IsTrue, World, free_count, Geometry, Name, Path, nothing, a_file, a_dir, Tree, at, bytes_in, is_there, with_at, Answer, done, refused, need_of, RoomNeed, refusal, first_of, not_mounted, lost_on_the_way, missing, no_file, dir_full, no_room, AskOutcome, empty_tree, change, judged, step_in, ShellAsk, ShellKind, FsRefusal, FilesView, files_after, tree_under}
 use Rattle.std.specs.Prelude.{Option, Some, None}
 use Rattle.fs_trees.specs.declared.ask.ShellAsk.TheVariants as ask
 use Rattle.fs_trees.specs.declared.refusal.FsRefusal.TheVariants as no

@@ -21,8 +21,8 @@ is_change (ask.Rm path) = true
 is_change (ask.Copy path new) = true
 is_change q = false
 
--- As a file system promises of each: the answer and the tree are those of the step; a stop at any moment leaves the tree
--- before or the tree after, and only an empty tree is made where none is mounted.
+-- As a file system promises of each: the answer and the tree are those of the step; a stop at any moment leaves the
+-- tree before or the tree after. Where none is mounted, all but making an empty tree leave the world as it was.
 pub record IsChanged {X : Type 0} (told : Type 0) (f0 f1 : FilesView) (old new : DiskView) (q : ShellAsk)
     (result : Result X FsRefusal) : Type 0 where
   pub answer : told → Answers f0 old new q result (λ _ answer. answer ≡ done)

@@ -1,4 +1,4 @@
-use Rattle.std.proofs.Common.{◌≡◌, ◌≢◌, IfSome, cond, ◌+◌, ◌<◌, ◌≤◌, [], ◌∷◌, ◌++◌, length, refl, sym, ◌∙◌, ap, subst, arith, rules}
+use Rattle.std.proofs.Common.{◌≡◌, ◌≢◌, IfSome, cond, ◌+◌, ◌<◌, ◌≤◌, [], ◌∷◌, ◌++◌, length, sym, ◌∙◌, ap, subst, arith, rules}
 use Rattle.shell_server.proofs.Common.{Image, world_of, encode_lower, TellsPart, AnswersByLine, ShellState, shell_step, shell_rests, shell_state, behind_then}
 use Rattle.tsd_core.specs.Core.{sessions_of}
 use Rattle.shell_server.specs.Places.{disk_state}
