@@ -17,10 +17,10 @@ version_prop n = either_prop (Coded-set coded_ℕ n 1) (Coded-set coded_ℕ n 2)
 reading_prop : (bytes : List ℕ) (h : Header) → IsProp (IsHeaderReading bytes (Ok h))
 reading_prop bytes h = hlevel (props, version_prop, IsLawful-prop)
 
-good_prop : (x : Image) → IsProp (IsGood x)
+pub good_prop : (x : Image) → IsProp (IsGood x)
 good_prop x = hlevel (props, reading_prop)
 
-holds_prop : (c : Core) (x : Image) → IsProp (FitsReads c x)
+pub holds_prop : (c : Core) (x : Image) → IsProp (FitsReads c x)
 holds_prop c x = hlevel (props, good_prop)
 
 pub at_prop : (told : Type 0) (c : Core) (v : View) → IsProp (told → c.volume.is_spent ≡ false → IsCoreAt c v)

@@ -1,6 +1,6 @@
 -- The bytes that a batch has for a sector.
 use Rattle.std.proofs.Common.{◌≡◌, inl, inr, ℕ, suc, ◌<◌, ◌==◌, not, Bool, true, false, nat_lt, List, [], ◌∷◌, length, get_or, refl, sym, ◌∙◌, ap, arith, Option, Some, None, position}
-use Rattle.std.specs.Prelude.{IfNone}
+use Rattle.std.specs.Prelude.{IfNone, is_some}
 use Rattle.std.specs.List.{position_or_len}
 use Rattle.std.proofs.lemmas.Bool.{cases_Bool}
 use Rattle.std.proofs.lemmas.Bool.Decides.{nat_tests}
@@ -10,7 +10,7 @@ use Rattle.intent_journal.specs.Batch.{has_home, homes_of}
 use Rattle.intent_journal.specs.Home.{overlaid}
 use Rattle.intent_journal.proofs.Bools.{and_true_parts, not_true, equal_numbers}
 use Rattle.intent_journal.proofs.Overlays.{overlaid_missed, put_here}
-use Rattle.intent_journal.proofs.Puts.{put_new}
+use Rattle.intent_journal.proofs.Puts.{put_held, put_new}
 use Rattle.tsd_model.specs.World.{are_apart}
 
 abbrev pub is_at : ℕ → Patch → Bool
@@ -56,3 +56,11 @@ found_nowhere sector ps is x = overlaid_missed ps x sector (put_new (record { se
 pub if_none_then : {X P Q : Type 0} (r : Option X) → IfNone r P → (P → Q) → IfNone r Q
 if_none_then None p then = then p
 if_none_then (Some x) p then = tt
+
+-- a home that is found is held
+held_by : (sector : ℕ) (ps : List Patch) (o : Option ℕ) → position (is_at sector) ps ≡ o → is_some o ≡ true → has_home ps sector ≡ true
+held_by sector ps (Some i) is here = (put_held (record { sector = sector; bytes = [] }) ps i is).1
+held_by sector ps None is here = absurd (cc)
+
+pub found_held : (sector : ℕ) (ps : List Patch) (o : Option ℕ) → o ≡ position (is_at sector) ps → is_some o ≡ true → has_home ps sector ≡ true
+found_held sector ps o is here = held_by sector ps o (sym is) here

@@ -50,12 +50,3 @@ vector_has bytes less = vector_has_by bytes (nat_lt (length bytes) (2 ^ 63)) ref
 -- a piece was put last
 abbrev pub then_put : List Event → List ℕ → List Event
 then_put es bytes = es ++ Put (vector bytes) ∷ []
-
--- the writes of a batch
-abbrev pub writes_of : List Patch → List Event
-writes_of [] = []
-writes_of (p ∷ ps) = Write p.sector (boxed p.bytes) ∷ writes_of ps
-
--- a batch was written, and synced
-abbrev pub carried_on : List Patch → List Event
-carried_on ps = writes_of ps ++ Sync ∷ []

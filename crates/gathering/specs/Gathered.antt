@@ -1,6 +1,6 @@
 -- A gathering device: a disk in memory that begins as the real one reads, its journal closed, and to which since then
 -- only what its log tells was done.
-use Rattle.std.specs.Prelude.{ℕ, ◌-◌, ◌≡◌, Bool, true, false, cond, get_or, List, ◌++◌, Option, None, unwrap_or}
+use Rattle.std.specs.Prelude.{ℕ, ◌-◌, ◌≡◌, true, false, cond, get_or, List, ◌++◌, Option, None, unwrap_or}
 use Rattle.image_device.specs.declared.event.Event.{Event}
 use Rattle.image_device.specs.Image.{Image, IsSector, zeros}
 use Rattle.image_device.specs.View.{View, IsLeftNow, IsSound}
@@ -11,7 +11,6 @@ use Rattle.image_device.specs.MemStation.{history_view}
 use Rattle.image_layout.specs.declared.offset.Patch.{Patch}
 use Rattle.image_layout.specs.Ring.{ring_start}
 use Rattle.intent_journal.specs.Home.{home, overlaid, is_journal}
-use Rattle.intent_journal.specs.Homes.{is_lawful_home}
 use Rattle.std.proofs.Common.{refl}
 
 -- what an image stands for, with zeros in the sectors of the journal, so that no record is open
@@ -57,12 +56,6 @@ abbrev pub IsNet : List Event → List Patch → Type 0
 IsNet es batch =
     (s : HistoryState) (n : ℕ) → is_journal n ≡ false → (after es s).reads n ≡ overlaid batch s.reads n
 
--- These events come to this batch, which they wrote and synced.
-pub record ComesTo (es : List Event) (batch : List Patch) : Type 0 where
-  pub reads : (s : HistoryState) → (after es s).reads ≡ overlaid batch s.reads
-  pub firm : (s : HistoryState) (n : ℕ) → (after es s).loose n ≡ false
-  pub sent : (s : HistoryState) → (after es s).sent ≡ s.sent
-
 -- the bytes that the events put
 abbrev pub ArePut : List Event → List ℕ → Type 0
 ArePut es bytes = (s : HistoryState) → (after es s).sent ≡ s.sent ++ bytes
@@ -73,18 +66,3 @@ pub record HasRested (start now : View) : Type 0 where
   pub loose : now.loose ≡ start.loose
   pub sent : now.sent ≡ start.sent
   pub leaves : LeavesOnly start now (IsLeftNow start)
-
--- Both make the same of a disk that begins so, as far as it reads and what is sent. They may differ in what is loose.
-pub record AreAlike (s : HistoryState) (done tried : List Event) : Type 0 where
-  pub reads : (after tried s).reads ≡ (after done s).reads
-  pub sent : (after tried s).sent ≡ (after done s).sent
-
--- No batch may hold this sector, which is none of the journal's, and it is loose: a crash may leave any bytes in it.
-pub record IsAstray (loose : ℕ → Bool) (sector : ℕ) : Type 0 where
-  pub outside : is_journal sector ≡ false
-  pub unlawful : is_lawful_home sector ≡ false
-  pub loosened : loose sector ≡ true
-
--- A write to a sector that no batch may hold was tried, and a crash may leave any bytes there.
-abbrev pub HasStrayed : View → Type 0
-HasStrayed v = (sector : ℕ) × IsAstray v.loose sector

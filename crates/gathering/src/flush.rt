@@ -1,16 +1,15 @@
 // A batch and the bytes that wait for it, put on a real device.
-ghost use Rattle.std.specs.Prelude.{◌≡◌, ◌≤◌, ◌+◌, ◌++◌, length, OnOk, IfErr};
-ghost use Rattle.image_device.specs.Calls.{Uses};
-ghost use Rattle.image_device.specs.Counts.{CountsFault, Rose};
+ghost use Rattle.std.specs.Prelude.{◌≡◌, ◌≤◌, ◌+◌, ◌++◌, length, OnOk};
+ghost use Rattle.image_device.specs.Counts.{Rose};
 ghost use Rattle.image_device.specs.Runs.{IsFirm, LeavesOnly};
 ghost use Rattle.image_device.specs.View.{IsPart};
 ghost use Rattle.image_layout.specs.Ring.{bodies};
 ghost use Rattle.intent_journal.specs.Home.{home, overlaid, is_journal, AgreeBut};
 ghost use Rattle.intent_journal.specs.Ring.{IsRingAt};
-ghost use Rattle.intent_journal.specs.Crash.{IsBeforeOrAfter};
 ghost use Rattle.gathering.specs.Left.{most_writes, IsLeftByFlush};
 
-use image_device::{Port, put_all};
+use crate::room::commit_some;
+use image_device::{Failed, Port, put_all};
 use intent_journal::{Batch, Ring};
 
 /// Why a group wasn't ended.
@@ -24,6 +23,17 @@ pub enum FlushFault {
 
     /// There was no memory, or no room in the batch. Nothing of the group counts, and nothing was sent.
     Room,
+}
+
+impl From<Failed> for FlushFault {
+    ghost use Rattle.std.specs.Prelude.{◌≡◌};
+    ghost use Rattle.gathering.specs.declared.flush.FlushFault.TheVariants.{Device as DeviceFault};
+
+    ghost from_gives = { λ _ e. e ≡ DeviceFault };
+
+    fn from(_: Failed) -> FlushFault {
+        FlushFault::Device
+    }
 }
 
 /// Commits a batch, unless it is empty, and then sends these bytes.
@@ -61,31 +71,6 @@ pub(crate) fn flush_to<P: Port>(
     commit_some(inner, ring, batch)?;
     if put_all(inner, waiting).is_err() {
         return Err(FlushFault::Put);
-    }
-    Ok(())
-}
-
-/// Commits a batch, unless it is empty.
-fn commit_some<P: Port>(inner: &mut P, ring: &mut Ring, batch: &Batch) -> Result<(), FlushFault>
-    requires at { P.told → IsRingAt ring.old (P.view inner.old) }
-    requires firm { P.told → IsFirm (P.view inner.old) }
-    ensures done { P.told → OnOk result (AgreeBut is_journal (overlaid batch.now (home (P.view inner.old).reads))
-        (home (P.view inner.new).reads)) }
-    ensures at { P.told → OnOk result (IsRingAt ring.new (P.view inner.new)) }
-    ensures firm { P.told → OnOk result (IsFirm (P.view inner.new)) }
-    ensures sent { P.told → (P.view inner.new).sent ≡ (P.view inner.old).sent }
-    ensures any_moment { P.told → LeavesOnly (P.view inner.old) (P.view inner.new)
-        (λ x f. IsBeforeOrAfter batch.now (P.view inner.old) x × (f ≡ (P.view inner.old).sent)) }
-    ensures uses { Uses (most_writes (length batch.now)) (P.view inner.old) (P.view inner.new) }
-    ensures faults { CountsFault result (P.view inner.old).faults (P.view inner.new).faults }
-    ensures cause { IfErr result (λ e. e ≡ FlushFault.Device) }
-    ensures fits { length batch.now ≤ bodies }
-{
-    if batch.len() == 0 {
-        return Ok(());
-    }
-    if ring.commit(inner, batch).is_err() {
-        return Err(FlushFault::Device);
     }
     Ok(())
 }

@@ -1,21 +1,18 @@
 // A disk in memory over a real one.
-ghost use Rattle.std.specs.Prelude.{◌≡◌, ◌≤◌, ◌<◌, ◌+◌, ◌⊎◌, ℕ, true, false, length, Some, None};
-ghost use Rattle.image_layout.specs.Ring.{bodies};
+ghost use Rattle.std.specs.Prelude.{◌≡◌, ◌≤◌, ◌<◌, ◌+◌, ◌⊎◌, true, false, length};
 ghost use Rattle.image_device.specs.Calls.{Uses};
 ghost use Rattle.image_device.specs.Counts.{Rose};
-ghost use Rattle.image_device.specs.History.{after};
 ghost use Rattle.image_device.specs.View.{IsLeftNow};
 ghost use Rattle.image_device.specs.Runs.{IsFirm, LeavesOnly};
 ghost use Rattle.intent_journal.specs.Ring.{IsRingAt};
-ghost use Rattle.gathering.specs.Gathered.{begun_on, AreAlike, AreWhole, IsAstray};
+ghost use Rattle.gathering.specs.Gathered.{AreWhole};
 
 use crate::began::Began;
 use crate::flush::{FlushFault, flush_to};
 use crate::group::{Group, is_of_journal};
-use crate::past::Past;
 use crate::room::Room;
 use image_device::{Device, Failed, Port, WorkDone};
-use intent_journal::{Ring, is_lawful_home};
+use intent_journal::Ring;
 use std::marker::PhantomData;
 
 /// A disk in memory that begins as a real one reads, its journal closed. What is written, synced and put stays in
@@ -26,10 +23,6 @@ pub struct Gather<P: Port, K: Began> {
     /// The records that are on the real disk and not in place yet.
     ring: Ring,
     group: Group,
-    /// All that was done, and between it the writes to sectors that no batch may hold, as writes of what they hold.
-    tried: Past,
-    /// The last sector of that kind, behind whose write no sync is done.
-    stray: Option<u32>,
     faults: u64,
     put_faults: u64,
     writes: u64,
@@ -45,12 +38,7 @@ pub struct Gather<P: Port, K: Began> {
     ghost counts: { Uses 0 K.start (P.view inner) },
     ghost failed: { device_failed ≡ true → Rose K.start.faults (P.view inner).faults },
     ghost unfailed: { device_failed ≡ false → (P.view inner).faults ≡ K.start.faults },
-    ghost whole: { P.told → AreWhole K.start tried.events },
-    ghost alike: { AreAlike (begun_on K.start) group.past.events tried.events },
-    ghost few: { length group.batch ≤ K.homes + writes },
-    ghost astray: { (n : ℕ) → stray ≡ Some n
-        → IsAstray (after tried.events (begun_on K.start)).loose n },
-    ghost why: { device_failed ≡ false → stray ≡ None → 0 < faults → bodies < K.homes + writes },
+    ghost whole: { P.told → AreWhole K.start group.past.events },
 }
 
 /// What is left of a group: the device, its ring, the room for the next group, and how it ended.
@@ -64,8 +52,9 @@ pub struct Flushed<P: Port> {
 
 impl<P: Port, K: Began> Gather<P, K> {
     ghost use Rattle.std.specs.Prelude.{[], OnOk};
+    ghost use Rattle.image_layout.specs.Ring.{bodies};
     ghost use Rattle.intent_journal.specs.Home.{home, overlaid, is_journal, AgreeBut};
-    ghost use Rattle.gathering.specs.Gathered.{cleared, gone_on, HasRested, HasStrayed};
+    ghost use Rattle.gathering.specs.Gathered.{cleared, HasRested};
     ghost use Rattle.gathering.specs.Left.{most_writes, moment_of, IsLeftAtStart, IsLeftByGroup, IsSentBetween};
 
     /// Begins a group over a device that has rested since the start that proofs pick.
@@ -90,121 +79,12 @@ impl<P: Port, K: Began> Gather<P, K> {
             inner,
             ring,
             group: Group::new(room),
-            tried: Past::none(),
-            stray: None,
             faults: 0,
             put_faults: 0,
             writes: 0,
             device_failed: false,
             began: PhantomData,
         }
-    }
-
-    /// Goes on with a group that was left off, over a device that has rested since the start that proofs pick.
-    pub fn resume(inner: P, ring: Ring, room: Room) -> Gather<P, K>
-        requires rests { P.told → HasRested K.start (P.view inner) }
-        requires firm { P.told → IsFirm K.start }
-        requires counts { Uses 0 K.start (P.view inner) }
-        requires faults { (P.view inner).faults ≡ K.start.faults }
-        requires at { P.told → IsRingAt ring K.start }
-        requires few { length room.batch ≤ K.homes }
-        /// promise (with firm, at, sent): The disk in memory begins as the batch of that group makes what the real disk
-        /// stands for, its journal closed, nothing loose and nothing sent.
-        ensures reads { (⟦<Gather<P, K> as Device>⟧.view result).reads ≡ gone_on room.batch K.start.reads }
-        ensures firm { IsFirm (⟦<Gather<P, K> as Device>⟧.view result) }
-        ensures at { IsRingAt [] (⟦<Gather<P, K> as Device>⟧.view result) }
-        ensures sent { (⟦<Gather<P, K> as Device>⟧.view result).sent ≡ K.start.sent }
-        ensures faults { (⟦<Gather<P, K> as Device>⟧.view result).faults ≡ 0 }
-        ensures put_faults { (⟦<Gather<P, K> as Device>⟧.view result).put_faults ≡ 0 }
-        ensures writes { (⟦<Gather<P, K> as Device>⟧.view result).writes ≡ 0 }
-        ensures batch { result.group.batch ≡ room.batch }
-    {
-        let group = Group::resumed(room);
-        let tried = group.past.same();
-        Gather {
-            inner,
-            ring,
-            group,
-            tried,
-            stray: None,
-            faults: 0,
-            put_faults: 0,
-            writes: 0,
-            device_failed: false,
-            began: PhantomData,
-        }
-    }
-
-    /// Leaves a group off: nothing is committed, and nothing sent. Its batch stays in the room, for a group that goes
-    /// on with it; what was put is gone. The fault `Put` never comes.
-    pub fn suspend(self) -> Flushed<P>
-        /// promise (with at, reads, loose, sent, any_moment): What the disk in memory holds outside the journal is what
-        /// the batch in the room makes of what the real disk stands for, and that was only read: so a crash leaves what
-        /// it left at the start.
-        ensures holds { AgreeBut is_journal (⟦<Gather<P, K> as Device>⟧.view self).reads
-            (gone_on result.room.batch K.start.reads) }
-        ensures at { P.told → IsRingAt result.ring (P.view result.inner) }
-        ensures reads { P.told → (P.view result.inner).reads ≡ K.start.reads }
-        ensures loose { P.told → (P.view result.inner).loose ≡ K.start.loose }
-        ensures sent { P.told → (P.view result.inner).sent ≡ K.start.sent }
-        ensures any_moment { P.told → ∥ LeavesOnly K.start (P.view result.inner) (IsLeftNow K.start) ∥₁ }
-        ensures counts { Uses 0 K.start (P.view result.inner) }
-        /// promise (with device, room, no_device): Ok comes only where no call of the group failed, `Device` only where
-        /// the real disk's count of faults rose, and `Room` only where that count is as it was and a call failed.
-        ensures whole { OnOk result.result (((⟦<Gather<P, K> as Device>⟧.view self).faults ≡ 0)
-            × ((⟦<Gather<P, K> as Device>⟧.view self).put_faults ≡ 0)) }
-        ensures device { result.result ≡ Err FlushFault.Device → Rose K.start.faults (P.view result.inner).faults }
-        ensures room { result.result ≡ Err FlushFault.Room → (0 < (⟦<Gather<P, K> as Device>⟧.view self).faults)
-            ⊎ (0 < (⟦<Gather<P, K> as Device>⟧.view self).put_faults) }
-        /// promise: `Room` comes only where a put failed, where 113 homes are fewer than those at the beginning and one
-        /// for each write since, or where a write to a sector that no batch may hold was tried: it is loose then.
-        ensures room_why { result.result ≡ Err FlushFault.Room
-            → (0 < (⟦<Gather<P, K> as Device>⟧.view self).put_faults)
-            ⊎ ((bodies < K.homes + (⟦<Gather<P, K> as Device>⟧.view self).writes)
-            ⊎ HasStrayed (⟦<Gather<P, K> as Device>⟧.view self)) }
-        /// promise: The batch has no more homes than there were at the beginning and writes came since.
-        ensures few { length result.room.batch ≤ K.homes + (⟦<Gather<P, K> as Device>⟧.view self).writes }
-        ensures no_put { result.result ≡ Err FlushFault.Put → ⊥ }
-        ensures no_device { (result.result ≡ Err FlushFault.Device → ⊥)
-            → (P.view result.inner).faults ≡ K.start.faults }
-    {
-        let result = self.outcome();
-        let Gather {
-            inner,
-            ring,
-            group,
-            tried: _,
-            stray: _,
-            faults: _,
-            put_faults: _,
-            writes: _,
-            device_failed: _,
-            began: _,
-        } = self;
-        Flushed {
-            inner,
-            ring,
-            room: group.into_room(),
-            result,
-        }
-    }
-
-    /// Whether no call of the group failed, and else why.
-    fn outcome(&self) -> Result<(), FlushFault>
-        ensures whole { OnOk result ((self.now.device_failed ≡ false) × (self.now.faults ≡ 0)
-            × (self.now.put_faults ≡ 0)) }
-        ensures device { result ≡ Err FlushFault.Device → self.now.device_failed ≡ true }
-        ensures room { result ≡ Err FlushFault.Room → (self.now.device_failed ≡ false) × ((0 < self.now.faults)
-            ⊎ (0 < self.now.put_faults)) }
-        ensures no_put { result ≡ Err FlushFault.Put → ⊥ }
-    {
-        if self.device_failed {
-            return Err(FlushFault::Device);
-        }
-        if self.faults > 0 || self.put_faults > 0 {
-            return Err(FlushFault::Room);
-        }
-        Ok(())
     }
 
     /// How many sectors outside the journal were written, each counted once. There is room for 113.
@@ -276,12 +156,6 @@ impl<P: Port, K: Began> Gather<P, K> {
         ensures put { result.result ≡ Err FlushFault.Put → Rose K.start.put_faults (P.view result.inner).put_faults }
         ensures room { result.result ≡ Err FlushFault.Room → (0 < (⟦<Gather<P, K> as Device>⟧.view self).faults)
             ⊎ (0 < (⟦<Gather<P, K> as Device>⟧.view self).put_faults) }
-        /// promise: `Room` comes only where a put failed, where 113 homes are fewer than those at the beginning and one
-        /// for each write since, or where a write to a sector that no batch may hold was tried: it is loose then.
-        ensures room_why { result.result ≡ Err FlushFault.Room
-            → (0 < (⟦<Gather<P, K> as Device>⟧.view self).put_faults)
-            ⊎ ((bodies < K.homes + (⟦<Gather<P, K> as Device>⟧.view self).writes)
-            ⊎ HasStrayed (⟦<Gather<P, K> as Device>⟧.view self)) }
         ensures no_device { (result.result ≡ Err FlushFault.Device → ⊥)
             → (P.view result.inner).faults ≡ K.start.faults }
         ensures no_put { (result.result ≡ Err FlushFault.Put → ⊥)
@@ -296,8 +170,6 @@ impl<P: Port, K: Began> Gather<P, K> {
             inner,
             ring,
             group,
-            tried: _,
-            stray: _,
             faults,
             put_faults,
             writes: _,
@@ -342,10 +214,10 @@ impl<P: Port, K: Began> Device for Gather<P, K> {
 
     ghost told = { P.told };
 
-    ghost view = { λ m. gathered_view K.start m.tried.events m.faults m.put_faults m.writes };
+    ghost view = { λ m. gathered_view K.start m.group.past.events m.faults m.put_faults m.writes };
 
     ghost sound = { λ m told.
-        gathered_sound K.start m.tried.events m.faults m.put_faults m.writes (m.whole told) };
+        gathered_sound K.start m.group.past.events m.faults m.put_faults m.writes (m.whole told) };
 
     fn read(&mut self, sector: u32, into: &mut [u8; 512]) -> Result<(), Failed> {
         if let Some(bytes) = self.group.last_write(sector) {
@@ -366,28 +238,15 @@ impl<P: Port, K: Began> Device for Gather<P, K> {
 
     fn write(&mut self, sector: u32, from: &[u8; 512]) -> Result<(), Failed> {
         self.writes = self.writes.saturating_add(1);
-        let kept = self.group.write(sector, from);
-        // The call tells that the batch has at most 113 homes.
-        let _homes = self.group.batch.len();
-        if kept.is_err() {
+        if self.group.write(sector, from).is_err() {
             self.faults = self.faults.saturating_add(1);
-            if !is_lawful_home(sector) {
-                self.tried = self.tried.with_touch::<K>(sector);
-                self.stray = Some(sector);
-            }
             return Err(Failed);
         }
-        self.tried = self.tried.with_write(sector, from);
         Ok(())
     }
 
     fn sync(&mut self) -> Result<(), Failed> {
-        if self.stray.is_some() {
-            self.faults = self.faults.saturating_add(1);
-            return Err(Failed);
-        }
         self.group.sync();
-        self.tried = self.tried.with_sync();
         Ok(())
     }
 
@@ -402,7 +261,6 @@ impl<P: Port, K: Began> Port for Gather<P, K> {
             self.put_faults = self.put_faults.saturating_add(1);
             return Err(Failed);
         }
-        self.tried = self.tried.with_put(piece);
         Ok(piece.len())
     }
 }

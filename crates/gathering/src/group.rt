@@ -1,13 +1,12 @@
 // A group in memory: what was done to a disk since the group began, and what it comes to.
-ghost use Rattle.std.specs.Prelude.{◌≡◌, ◌⊎◌, ◌≤◌, ◌+◌, ◌++◌, [], ◌∷◌, true, false, length};
-ghost use Rattle.std.specs.Prelude.{OnOk, OnErr, IfSome, IfNone};
+ghost use Rattle.std.specs.Prelude.{◌≡◌, ◌⊎◌, ◌++◌, [], ◌∷◌, true, false, length, OnOk, OnErr, IfSome, IfNone};
 ghost use Rattle.image_device.specs.declared.event.Event.TheVariants.{Put, Sync, Write};
 ghost use Rattle.image_device.specs.History.{HistoryState, after};
 ghost use Rattle.image_layout.specs.Ring.{bodies};
 ghost use Rattle.intent_journal.specs.Batch.{has_home, with_patch, IsBatch};
 ghost use Rattle.intent_journal.specs.Home.{is_journal};
 ghost use Rattle.intent_journal.specs.Homes.{is_lawful_home};
-ghost use Rattle.gathering.specs.Gathered.{ArePut, AreLastOfJournal, ComesTo, IsNet};
+ghost use Rattle.gathering.specs.Gathered.{ArePut, AreLastOfJournal, IsNet};
 
 use crate::homes::Homes;
 use crate::journal::JournalSectors;
@@ -55,8 +54,7 @@ pub(crate) struct Group {
 impl Group {
     /// Nothing was done yet. What an earlier group left in the room is gone.
     pub(crate) fn new(room: Room) -> Group
-        ensures past { result.past.events ≡ [] }
-        ensures batch { result.batch ≡ [] }
+        ensures { result.past.events ≡ [] }
     {
         let Room {
             batch,
@@ -66,28 +64,6 @@ impl Group {
         } = room.cleared();
         Group {
             past: Past::of(&()),
-            homes,
-            journal,
-            batch,
-            waiting,
-        }
-    }
-
-    /// What the batch in the room does was done, and is on the disk in memory.
-    pub(crate) fn resumed(room: Room) -> Group
-        ensures past { ComesTo result.past.events room.batch }
-        ensures batch { result.batch ≡ room.batch }
-        ensures was { IsBatch room.batch }
-    {
-        let Room {
-            batch,
-            homes,
-            journal,
-            waiting,
-        } = room.with_batch_alone();
-        let _length = batch.len();
-        Group {
-            past: Past::of(&batch),
             homes,
             journal,
             batch,
@@ -117,7 +93,6 @@ impl Group {
         ensures same { OnErr result (self.new.past.events ≡ self.old.past.events) }
         ensures cause { OnErr result ((is_journal sector ≡ false) × ((is_lawful_home sector ≡ false)
             ⊎ ((has_home self.old.batch sector ≡ false) × (length self.old.batch ≡ bodies)))) }
-        ensures few { length self.new.batch ≤ length self.old.batch + 1 }
     {
         if is_of_journal(sector) {
             self.write_journal(sector, from);
@@ -129,9 +104,8 @@ impl Group {
     /// Keeps a write to the journal.
     fn write_journal(&mut self, sector: u32, from: &[u8; 512])
         requires { is_journal sector ≡ true }
-        ensures kept { (bytes : _) × (bytes.value ≡ from.now)
+        ensures { (bytes : _) × (bytes.value ≡ from.now)
             × (self.new.past.events ≡ self.old.past.events ++ Write sector bytes ∷ []) }
-        ensures batch { self.new.batch ≡ self.old.batch }
     {
         self.journal.put(sector, from);
         self.past = Past::of(&(&self.past, sector, from));
@@ -145,7 +119,6 @@ impl Group {
         ensures same { OnErr result (self.new.past.events ≡ self.old.past.events) }
         ensures cause { OnErr result ((is_lawful_home sector ≡ false)
             ⊎ ((has_home self.old.batch sector ≡ false) × (length self.old.batch ≡ bodies))) }
-        ensures few { length self.new.batch ≤ length self.old.batch + 1 }
     {
         keep_home(&mut self.batch, &mut self.homes, sector, from)?;
         self.past = Past::of(&(&self.past, sector, from));
@@ -154,8 +127,7 @@ impl Group {
 
     /// Keeps a sync.
     pub(crate) fn sync(&mut self)
-        ensures past { self.new.past.events ≡ self.old.past.events ++ Sync ∷ [] }
-        ensures batch { self.new.batch ≡ self.old.batch }
+        ensures { self.new.past.events ≡ self.old.past.events ++ Sync ∷ [] }
     {
         self.past = Past::of(&self.past);
     }
@@ -165,7 +137,6 @@ impl Group {
         ensures kept { OnOk result ((kept : _) × (kept.items ≡ piece.now)
             × (self.new.past.events ≡ self.old.past.events ++ Put kept ∷ [])) }
         ensures same { OnErr result (self.new.past.events ≡ self.old.past.events) }
-        ensures batch { self.new.batch ≡ self.old.batch }
     {
         self.waiting.extend_from_slice(piece)?;
         self.past = Past::of(&(&self.past, piece));
@@ -211,7 +182,6 @@ fn keep_home(
     ensures put { OnOk result (batch.new ≡ with_patch (record { sector = sector; bytes = from.now }) batch.old) }
     ensures was { OnOk result (IsBatch batch.old) }
     ensures unchanged { OnErr result (batch.new ≡ batch.old) }
-    ensures few { length batch.new ≤ length batch.old + 1 }
     ensures cause { OnErr result ((is_lawful_home sector ≡ false)
         ⊎ ((has_home batch.old sector ≡ false) × (length batch.old ≡ bodies))) }
 {

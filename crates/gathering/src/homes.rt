@@ -1,5 +1,5 @@
 // The last bytes of each home of a group, in memory that is taken once.
-ghost use Rattle.std.specs.Prelude.{◌≡◌, ◌<◌, ◌≤◌, ◌⊎◌, ◌==◌, ◌++◌, [], ◌∷◌, length, slice_set, true, position};
+ghost use Rattle.std.specs.Prelude.{◌≡◌, ◌<◌, ◌≤◌, ◌⊎◌, ◌==◌, ◌++◌, [], ◌∷◌, length, slice_set, true, false, position};
 ghost use Rattle.std.specs.Prelude.{IsTrue, IfOk, IfNone, IfSome};
 ghost use Rattle.std.specs.Vec.{vec_capacity};
 ghost use Rattle.image_device.specs.Image.{Image};
@@ -48,6 +48,15 @@ impl Homes {
             Some(index) => Some(&self.patches[index].bytes),
             None => None,
         }
+    }
+
+    /// Whether a home has a place, or there is one for it.
+    pub(crate) fn has_room_for(&self, sector: u32) -> bool
+        ensures has { result ≡ true → (has_home self.now.patches.items sector ≡ true)
+            ⊎ (length self.now.patches.items < bodies) }
+        ensures full { result ≡ false → bodies ≤ length self.now.patches.items }
+    {
+        index_of(self.patches.as_slice(), sector).is_some() || self.patches.len() < BODIES as usize
     }
 
     /// Gives a home new bytes, which take the place of those that it has.

@@ -23,10 +23,12 @@ mod gather;
 mod group;
 mod homes;
 mod journal;
+mod part;
 mod past;
 mod room;
 
 pub use began::Began;
 pub use flush::FlushFault;
 pub use gather::{Flushed, Gather};
+pub use part::{Base, Going, Part};
 pub use room::Room;

@@ -1,11 +1,19 @@
 // The memory of a group.
-ghost use Rattle.std.specs.Prelude.{◌≡◌, ◌≤◌, [], None, length, replicate, IfOk};
+ghost use Rattle.std.specs.Prelude.{◌≡◌, ◌≤◌, [], None, length, replicate, IfOk, OnOk};
+ghost use Rattle.image_device.specs.Calls.{Uses};
+ghost use Rattle.image_device.specs.Counts.{CountsFault};
+ghost use Rattle.image_device.specs.Runs.{IsFirm, LeavesOnly};
+ghost use Rattle.intent_journal.specs.Crash.{IsBeforeOrAfter};
+ghost use Rattle.intent_journal.specs.Home.{home, overlaid, is_journal, AgreeBut};
+ghost use Rattle.intent_journal.specs.Ring.{IsRingAt};
+ghost use Rattle.gathering.specs.Left.{most_writes};
 ghost use Rattle.image_layout.specs.Ring.{bodies};
 ghost use Rattle.gathering.specs.Gathered.{journal_size};
 
 use crate::homes::Homes;
 use crate::journal::JournalSectors;
-use intent_journal::Batch;
+use image_device::{Device, Failed};
+use intent_journal::{Batch, Ring};
 use std::alloc::Global;
 use tsd_model::NoMemory;
 
@@ -50,6 +58,33 @@ impl Room {
         self.batch.len() as usize
     }
 
+    /// Commits the batch in it, unless it is empty, and has nothing in it then. `Failed` comes only where the device's
+    /// count of faults rose.
+    pub fn commit<D: Device>(&mut self, dev: &mut D, ring: &mut Ring) -> Result<(), Failed>
+        requires at { D.told → IsRingAt ring.old (D.view dev.old) }
+        requires firm { D.told → IsFirm (D.view dev.old) }
+        /// promise (with at, firm, sent, empty): After Ok the device stands for what it did with the whole batch in
+        /// place, the ring is at it, and the room is empty.
+        ensures done { D.told → OnOk result (AgreeBut is_journal (overlaid self.old.batch (home (D.view dev.old).reads))
+            (home (D.view dev.new).reads)) }
+        ensures at { D.told → OnOk result (IsRingAt ring.new (D.view dev.new)) }
+        ensures firm { D.told → OnOk result (IsFirm (D.view dev.new)) }
+        ensures sent { D.told → (D.view dev.new).sent ≡ (D.view dev.old).sent }
+        ensures empty { OnOk result (self.new.batch ≡ []) }
+        /// promise: A crash at any moment leaves what the device stood for before, or that with the whole batch in place.
+        ensures any_moment { D.told → LeavesOnly (D.view dev.old) (D.view dev.new)
+            (λ x f. IsBeforeOrAfter self.old.batch (D.view dev.old) x × (f ≡ (D.view dev.old).sent)) }
+        /// promise (with bounded): No write for an empty batch, and else at most 123 more than it has homes: at most 236.
+        ensures uses { Uses (most_writes (length self.old.batch)) (D.view dev.old) (D.view dev.new) }
+        ensures bounded { most_writes (length self.old.batch) ≤ 236 }
+        ensures faults { CountsFault result (D.view dev.old).faults (D.view dev.new).faults }
+    {
+        commit_some(dev, ring, &self.batch)?;
+        self.batch.clear();
+        self.homes.clear();
+        Ok(())
+    }
+
     /// The same room, with nothing in it.
     pub(crate) fn cleared(self) -> Room
         ensures batch { result.batch ≡ [] }
@@ -76,4 +111,29 @@ impl Room {
         room.waiting.clear();
         room
     }
+}
+
+/// Commits a batch, unless it is empty.
+pub(crate) fn commit_some<D: Device>(
+    dev: &mut D,
+    ring: &mut Ring,
+    batch: &Batch,
+) -> Result<(), Failed>
+    requires at { D.told → IsRingAt ring.old (D.view dev.old) }
+    requires firm { D.told → IsFirm (D.view dev.old) }
+    ensures done { D.told → OnOk result (AgreeBut is_journal (overlaid batch.now (home (D.view dev.old).reads))
+        (home (D.view dev.new).reads)) }
+    ensures at { D.told → OnOk result (IsRingAt ring.new (D.view dev.new)) }
+    ensures firm { D.told → OnOk result (IsFirm (D.view dev.new)) }
+    ensures sent { D.told → (D.view dev.new).sent ≡ (D.view dev.old).sent }
+    ensures any_moment { D.told → LeavesOnly (D.view dev.old) (D.view dev.new)
+        (λ x f. IsBeforeOrAfter batch.now (D.view dev.old) x × (f ≡ (D.view dev.old).sent)) }
+    ensures uses { Uses (most_writes (length batch.now)) (D.view dev.old) (D.view dev.new) }
+    ensures fits { length batch.now ≤ bodies }
+    ensures faults { CountsFault result (D.view dev.old).faults (D.view dev.new).faults }
+{
+    if batch.len() == 0 {
+        return Ok(());
+    }
+    ring.commit(dev, batch)
 }

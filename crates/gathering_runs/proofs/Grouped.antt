@@ -1,5 +1,5 @@
 -- A group of requests, by what its flush leaves.
-use Rattle.std.proofs.Common.{◌≡◌, ◌⊎◌, ◌<◌, inl, inr, ⊎_elim, ℕ, Bool, List, [], ◌++◌, refl, sym, ◌∙◌, ap, subst, arith, append_assoc, append-nil}
+use Rattle.std.proofs.Common.{◌≡◌, ◌⊎◌, ◌<◌, inl, inr, ⊎_elim, ℕ, List, [], ◌++◌, refl, sym, ◌∙◌, ap, subst, arith, append_assoc, append-nil}
 use Rattle.std.specs.Prelude.{Result, Ok, Err, OnErr}
 use Rattle.image_device.specs.Counts.{Rose}
 use Rattle.image_device.specs.View.{View}
@@ -58,7 +58,7 @@ module _ {Q : Type 0} (k : Service Q) (part : Image → Image) (alike : (s : k.S
       left
 
 -- nothing failed, so all were carried out
-pub gathered_well : {E : Type 0} (r : Result Bool E) (f0 f p0 p : ℕ) → f0 ≡ 0 → p0 ≡ 0 → f ≡ 0 → p ≡ 0 → OnErr r (Rose f0 f ⊎ Rose p0 p) → (b : Bool) × (r ≡ Ok b)
+pub gathered_well : {T E : Type 0} (r : Result T E) (f0 f p0 p : ℕ) → f0 ≡ 0 → p0 ≡ 0 → f ≡ 0 → p ≡ 0 → OnErr r (Rose f0 f ⊎ Rose p0 p) → (b : T) × (r ≡ Ok b)
 gathered_well (Ok b) f0 f p0 p e0 d0 e d failed = (b, refl)
 gathered_well (Err x) f0 f p0 p e0 d0 e d failed = absurd (⊎_elim (λ rose. no_rise f0 f e0 e rose) (λ rose. no_rise p0 p d0 d rose) failed)
   where

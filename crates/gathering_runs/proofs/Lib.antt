@@ -2,6 +2,7 @@ mod Joined
 mod Handing
 mod Sent
 mod Turning
+mod Reclaiming
 mod ByTurns
 pub mod Rounds
 mod Grouped

@@ -1,6 +1,7 @@
 -- What the outcome of a call tells.
-use Rattle.std.proofs.Common.{◌≡◌, ◌⊎◌, inl, inr, ℕ, refl, subst}
+use Rattle.std.proofs.Common.{◌≡◌, ◌⊎◌, inl, inr, ℕ, refl, sym, ap, subst}
 use Rattle.std.specs.Prelude.{Result, Ok, Err, OnOk, OnErr, IfOk, IfErr}
+use Rattle.std.specs.Result.{result_unwrap_or}
 use Rattle.image_device.specs.Counts.{CountsFaultOf}
 
 pub ok_is : {T E P : Type 0} (r : Result T E) (x : T) → r ≡ Ok x → OnOk r P → P
@@ -33,3 +34,16 @@ ok_is_if P (Ok y) x is p = subst (λ z. P z) (ok_same y x is) p
     ok_same : {T E : Type 0} (a b : T) → ◌≡◌ {A = Result T E} (Ok a) (Ok b) → a ≡ b
     ok_same a b same = cc
 ok_is_if P (Err e) x is p = absurd (cc)
+
+-- what is taken out of a call that went well
+pub ok_by : {T E : Type 0} (r : Result T E) (b u other : T) → r ≡ Ok b → u ≡ result_unwrap_or r other → r ≡ Ok u
+ok_by (Ok x) b u other is value = ap (λ y. Ok y) (sym value)
+ok_by (Err e) b u other is value = absurd (cc)
+
+pub on_ok : {T E P R : Type 0} (r : Result T E) → (P → R) → OnOk r P → OnOk r R
+on_ok (Ok x) f p = f p
+on_ok (Err e) f p = tt
+
+pub if_ok_then : {T E : Type 0} {P R : T → Type 0} (r : Result T E) → ((x : T) → P x → R x) → IfOk r P → IfOk r R
+if_ok_then (Ok x) f p = f x p
+if_ok_then (Err e) f p = tt

@@ -12,9 +12,10 @@ use Rattle.serving.specs.Runs.{Run}
 use Rattle.serving.specs.Service.{Service}
 use Rattle.serving.specs.Work.{WorkCount}
 use Rattle.serving.specs.declared.intake.Intake.{Intake}
-use Rattle.gathering_runs.specs.ByTurns.{all_of, ByTurns, IsDirect, IsTurn}
+use Rattle.gathering_runs.specs.ByTurns.{all_of, ByTurns, IsDirect, IsFinished, IsTurn}
 use Rattle.gathering_runs.specs.Rounds.{AreAll, ByRounds, IsNear, RanByRounds, Round}
 use Rattle.gathering_runs.proofs.ByTurns.{AllTurns}
+use Rattle.gathering_runs.proofs.Reclaiming.{reclaims_over}
 
 pub take_none : (n : ℕ) → take {A = ℕ} n [] ≡ []
 take_none zero = refl
@@ -83,55 +84,58 @@ module _ {Q : Type 0} (p : Spelling Q) where
         inl (by.these ∙ ap p.requests (sym (append-nil by.x) ∙ ap (λ l. by.x ++ l) (sym (read e)) ∙ by.parts))
   ])
 
-module _ {Q : Type 0} (k : Service Q) (w : WorkCount Q k.States) (port : Mark → Type 0) (p : Spelling Q) (limit : ℕ) where
-  pub one_round_more : (rounds : List (Round Q)) (r : Round Q) (s m t : k.States) (came0 came : List ℕ) (qs0 qs : List Q) (old mid new : Mark) → ByRounds k w port p limit s came0 qs0 rounds m came qs old mid → IsNear p limit came qs r.more → ByTurns k w port m r.turns t mid new
-      → AreAll p limit (came ++ r.more) (qs ++ all_of r.turns) → ByRounds k w port p limit s came0 qs0 (rounds ++ r ∷ []) t (came ++ r.more) (qs ++ all_of r.turns) old new
+module _ {Q : Type 0} (k : Service Q) (w : WorkCount Q k.States) (waits : Q → Type 0) (port : Mark → Type 0) (p : Spelling Q) (limit : ℕ) where
+  pub one_round_more : (rounds : List (Round Q)) (r : Round Q) (s m t : k.States) (came0 came : List ℕ) (qs0 qs : List Q) (old mid new : Mark) → ByRounds k w waits port p limit s came0 qs0 rounds m came qs old mid → IsNear p limit came qs r.more → ByTurns k w waits port m r.turns t mid new
+      → AreAll p limit (came ++ r.more) (qs ++ all_of r.turns) → ByRounds k w waits port p limit s came0 qs0 (rounds ++ r ∷ []) t (came ++ r.more) (qs ++ all_of r.turns) old new
   one_round_more [] r s m t came0 came qs0 qs old mid new a near turns all =
-      let step : (c : List ℕ) (l : List Q) → came ≡ c → qs ≡ l → (z : k.States) → m ≡ z → (o : Mark) → mid ≡ o → ByRounds k w port p limit z c l (r ∷ []) t (came ++ r.more) (qs ++ all_of r.turns) o new = here in
+      let step : (c : List ℕ) (l : List Q) → came ≡ c → qs ≡ l → (z : k.States) → m ≡ z → (o : Mark) → mid ≡ o → ByRounds k w waits port p limit z c l (r ∷ []) t (came ++ r.more) (qs ++ all_of r.turns) o new = here in
       step came0 qs0 (sym a.1) (sym a.2) s (sym a.0) old a.3
     where
-      base : ByRounds k w port p limit m came qs (r ∷ []) t (came ++ r.more) (qs ++ all_of r.turns) mid new
+      base : ByRounds k w waits port p limit m came qs (r ∷ []) t (came ++ r.more) (qs ++ all_of r.turns) mid new
       base = (t, new, near, turns, all, (refl, refl, refl, refl))
 
-      here : (c : List ℕ) (l : List Q) → came ≡ c → qs ≡ l → (z : k.States) → m ≡ z → (o : Mark) → mid ≡ o → ByRounds k w port p limit z c l (r ∷ []) t (came ++ r.more) (qs ++ all_of r.turns) o new
+      here : (c : List ℕ) (l : List Q) → came ≡ c → qs ≡ l → (z : k.States) → m ≡ z → (o : Mark) → mid ≡ o → ByRounds k w waits port p limit z c l (r ∷ []) t (came ++ r.more) (qs ++ all_of r.turns) o new
       here c l ec el z ez o eo =
-          subst (λ (y : List ℕ). ByRounds k w port p limit z y l (r ∷ []) t (came ++ r.more) (qs ++ all_of r.turns) o new) ec
-          (subst (λ (y : List Q). ByRounds k w port p limit z came y (r ∷ []) t (came ++ r.more) (qs ++ all_of r.turns) o new) el
-          (subst (λ (y : k.States). ByRounds k w port p limit y came qs (r ∷ []) t (came ++ r.more) (qs ++ all_of r.turns) o new) ez
-          (subst (λ (y : Mark). ByRounds k w port p limit m came qs (r ∷ []) t (came ++ r.more) (qs ++ all_of r.turns) y new) eo base)))
+          subst (λ (y : List ℕ). ByRounds k w waits port p limit z y l (r ∷ []) t (came ++ r.more) (qs ++ all_of r.turns) o new) ec
+          (subst (λ (y : List Q). ByRounds k w waits port p limit z came y (r ∷ []) t (came ++ r.more) (qs ++ all_of r.turns) o new) el
+          (subst (λ (y : k.States). ByRounds k w waits port p limit y came qs (r ∷ []) t (came ++ r.more) (qs ++ all_of r.turns) o new) ez
+          (subst (λ (y : Mark). ByRounds k w waits port p limit m came qs (r ∷ []) t (came ++ r.more) (qs ++ all_of r.turns) y new) eo base)))
   one_round_more (o ∷ rounds) r s m t came0 came qs0 qs old mid new a near turns all =
       (a.0, a.1, a.2, a.3, a.4, one_round_more rounds r a.0 m t (came0 ++ o.more) came (qs0 ++ all_of o.turns) qs a.1 mid new a.5 near turns all)
 
   -- so far, from the moment at which the journal was empty
-  pub record SoFar (s t : k.States) (came : List ℕ) (qs : List Q) (sent : List ℕ) (new : Mark) : Type 0 where
+  pub record SoFar (s t : k.States) (came : List ℕ) (qs : List Q) (sent : List ℕ) (debt : ℕ) (new : Mark) : Type 0 where
     pub begun : Mark
     pub of_port : port begun
     pub nothing_sent : begun.sent ≡ sent
+    pub no_more_left : w.debt begun.reads ≤ debt
     pub rounds : List (Round Q)
-    pub each : ByRounds k w port p limit s [] [] rounds t came qs begun new
+    pub each : ByRounds k w waits port p limit s [] [] rounds t came qs begun new
 
-  pub so_far_none : (s t : k.States) (sent : List ℕ) (new : Mark) → port new → new.sent ≡ sent → s ≡ t → SoFar s t [] [] sent new
-  so_far_none s t sent new here same state = record { begun = new; of_port = here; nothing_sent = same; rounds = []; each = (state, refl, refl, refl) }
+  pub so_far_none : (s t : k.States) (sent : List ℕ) (debt : ℕ) (new : Mark) → port new → new.sent ≡ sent → w.debt new.reads ≤ debt → s ≡ t → SoFar s t [] [] sent debt new
+  so_far_none s t sent debt new here same left state = record { begun = new; of_port = here; nothing_sent = same; no_more_left = left; rounds = []; each = (state, refl, refl, refl) }
 
-  pub so_far_more : (s m t : k.States) (came more : List ℕ) (qs qs_more : List Q) (sent : List ℕ) (mid new : Mark) → SoFar s m came qs sent mid → IsNear p limit came qs more → AllTurns k w port m t qs_more mid new → AreAll p limit (came ++ more) (qs ++ qs_more)
-      → SoFar s t (came ++ more) (qs ++ qs_more) sent new
-  so_far_more s m t came more qs qs_more sent mid new a near turns all = record {
+  pub so_far_more : (s m t : k.States) (came more : List ℕ) (qs qs_more : List Q) (sent : List ℕ) (debt : ℕ) (mid new : Mark) → SoFar s m came qs sent debt mid → IsNear p limit came qs more → AllTurns k w waits port m t qs_more mid new → AreAll p limit (came ++ more) (qs ++ qs_more)
+      → SoFar s t (came ++ more) (qs ++ qs_more) sent debt new
+  so_far_more s m t came more qs qs_more sent debt mid new a near turns all = record {
     begun = a.begun;
     of_port = a.of_port;
     nothing_sent = a.nothing_sent;
+    no_more_left = a.no_more_left;
     rounds = a.rounds ++ (record { more = more; turns = turns.turns }) ∷ [];
-    each = subst (λ l. ByRounds k w port p limit s [] [] (a.rounds ++ (record { more = more; turns = turns.turns }) ∷ []) t (came ++ more) (qs ++ l) a.begun new) turns.all
+    each = subst (λ l. ByRounds k w waits port p limit s [] [] (a.rounds ++ (record { more = more; turns = turns.turns }) ∷ []) t (came ++ more) (qs ++ l) a.begun new) turns.all
         (one_round_more a.rounds (record { more = more; turns = turns.turns }) s m t [] came [] qs a.begun mid new a.each near turns.each
         (subst (λ l. AreAll p limit (came ++ more) (qs ++ l)) (sym turns.all) all));
   }
 
   -- a run that ended so
-  pub ran_by_rounds : (r : Status) (s t last : k.States) (source : Taking) (came more : List ℕ) (qs : List Q) (turns : List (List Q)) (old mid stopped new : Mark) → SoFar s t came qs old.sent mid → source.came (came ++ more) → IsNear p limit came qs more
-      → ByTurns k w port t turns last mid stopped → (IsCutShort r → new ≡ mid) → RanByRounds r k w port p limit s source old new
-  ran_by_rounds r s t last source came more qs turns old mid stopped new a came_in near behind as_it_was = record {
+  pub ran_by_rounds : (r : Status) (s t last : k.States) (source : Taking) (came more : List ℕ) (qs : List Q) (turns : List (List Q)) (old mid stopped new : Mark) → SoFar s t came qs old.sent (w.debt old.reads) mid → source.came (came ++ more) → IsNear p limit came qs more
+      → ByTurns k w waits port t turns last mid stopped → (IsCutShort r → new ≡ mid) → (r ≡ status.Done → IsFinished w port stopped new) → RanByRounds r k w waits port p limit s source old new
+  ran_by_rounds r s t last source came more qs turns old mid stopped new a came_in near behind as_it_was done = record {
     begun = a.begun;
     of_port = a.of_port;
     nothing_sent = a.nothing_sent;
+    no_more_left = a.no_more_left;
     rounds = a.rounds;
     state = t;
     came = came;
@@ -146,6 +150,7 @@ module _ {Q : Type 0} (k : Service Q) (w : WorkCount Q k.States) (port : Mark �
     stopped = stopped;
     behind = behind;
     as_it_was = as_it_was;
+    done = done;
   }
 
 -- no request leads to no other state
@@ -154,11 +159,12 @@ run_none k s t [] run = run
 run_none k s t (a ∷ xs) run = absurd run
 
 -- the same of another port of which all of it is seen
-module _ {Q : Type 0} (k : Service Q) (w : WorkCount Q k.States) (A B : Mark → Type 0) (over : (m : Mark) → A m → B m) where
-  direct_over : (s : k.States) (qs : List Q) (old new : Mark) → IsDirect k w A s qs old new → IsDirect k w B s qs old new
+module _ {Q : Type 0} (k : Service Q) (w : WorkCount Q k.States) (waits : Q → Type 0) (A B : Mark → Type 0) (over : (m : Mark) → A m → B m) where
+  direct_over : (s : k.States) (qs : List Q) (old new : Mark) → IsDirect k w waits A s qs old new → IsDirect k w waits B s qs old new
   direct_over s qs old new d = record {
     request = d.request;
     one = d.one;
+    may_wait = d.may_wait;
     emptied = d.emptied;
     of_port = over d.emptied d.of_port;
     nothing_sent = d.nothing_sent;
@@ -166,27 +172,53 @@ module _ {Q : Type 0} (k : Service Q) (w : WorkCount Q k.States) (A B : Mark →
     replied = record { replied = d.replied.replied; of_port = over d.replied.replied d.replied.of_port; sent = d.replied.sent; before = d.replied.before };
   }
 
-  turn_over : (s : k.States) (qs : List Q) (t : k.States) (old new : Mark) → IsTurn k w A s qs t old new → IsTurn k w B s qs t old new
+  turn_over : (s : k.States) (qs : List Q) (t : k.States) (old new : Mark) → IsTurn k w waits A s qs t old new → IsTurn k w waits B s qs t old new
   turn_over s qs t old new turn = record {
-    of_port = over new turn.of_port;
-    served = turn.served;
-    work = elim turn.work [ inl group ↦ inl group | inr direct ↦ inr (direct_over s qs old new direct) ];
+    first = turn.first;
+    more = turn.more;
+    some = turn.some;
+    before = turn.before;
+    begun = turn.begun;
+    settled = reclaims_over w A B over turn.before old turn.begun turn.settled;
+    may_wait = turn.may_wait;
+    answered = turn.answered;
+    answers = record {
+      of_port = over turn.answered turn.answers.of_port;
+      served = turn.answers.served;
+      work = elim turn.answers.work [ inl group ↦ inl group | inr direct ↦ inr (direct_over s qs turn.begun turn.answered direct) ];
+    };
+    behind = turn.behind;
+    few_behind = turn.few_behind;
+    caught_up = reclaims_over w A B over turn.behind turn.answered new turn.caught_up;
+    left = turn.left;
   }
 
-  turns_over : (turns : List (List Q)) (s t : k.States) (old new : Mark) → ByTurns k w A s turns t old new → ByTurns k w B s turns t old new
+  finished_over : (old new : Mark) → IsFinished w A old new → IsFinished w B old new
+  finished_over old new f = record {
+    groups = f.groups;
+    settled = f.settled;
+    reclaimed = reclaims_over w A B over f.groups old f.settled f.reclaimed;
+    nothing_left = f.nothing_left;
+    nothing_sent = f.nothing_sent;
+    writes = f.writes;
+    still_nothing = f.still_nothing;
+  }
+
+  turns_over : (turns : List (List Q)) (s t : k.States) (old new : Mark) → ByTurns k w waits A s turns t old new → ByTurns k w waits B s turns t old new
   turns_over [] s t old new a = a
   turns_over (qs ∷ turns) s t old new a = (a.0, a.1, turn_over s qs a.0 old a.1 a.2, turns_over turns a.0 t a.1 new a.3)
 
-  rounds_over : (p : Spelling Q) (limit : ℕ) (rounds : List (Round Q)) (s t : k.States) (came0 came : List ℕ) (qs0 qs : List Q) (old new : Mark) → ByRounds k w A p limit s came0 qs0 rounds t came qs old new → ByRounds k w B p limit s came0 qs0 rounds t came qs old new
+  rounds_over : (p : Spelling Q) (limit : ℕ) (rounds : List (Round Q)) (s t : k.States) (came0 came : List ℕ) (qs0 qs : List Q) (old new : Mark) → ByRounds k w waits A p limit s came0 qs0 rounds t came qs old new → ByRounds k w waits B p limit s came0 qs0 rounds t came qs old new
   rounds_over p limit [] s t came0 came qs0 qs old new a = a
   rounds_over p limit (r ∷ rounds) s t came0 came qs0 qs old new a =
       (a.0, a.1, a.2, turns_over r.turns s a.0 old a.1 a.3, a.4, rounds_over p limit rounds a.0 t (came0 ++ r.more) came (qs0 ++ all_of r.turns) qs a.1 new a.5)
 
-  pub ran_over : (r : Status) (p : Spelling Q) (limit : ℕ) (s : k.States) (source : Taking) (old new : Mark) → RanByRounds r k w A p limit s source old new → RanByRounds r k w B p limit s source old new
+  pub ran_over : (r : Status) (p : Spelling Q) (limit : ℕ) (s : k.States) (source : Taking) (old new : Mark) → RanByRounds r k w waits A p limit s source old new → RanByRounds r k w waits B p limit s source old new
   ran_over r p limit s source old new a = record {
     begun = a.begun;
     of_port = over a.begun a.of_port;
     nothing_sent = a.nothing_sent;
+    no_more_left = a.no_more_left;
     rounds = a.rounds;
     state = a.state;
     came = a.came;
@@ -201,4 +233,5 @@ module _ {Q : Type 0} (k : Service Q) (w : WorkCount Q k.States) (A B : Mark →
     stopped = a.stopped;
     behind = turns_over a.turns a.state a.last a.rested a.stopped a.behind;
     as_it_was = a.as_it_was;
+    done = λ is. finished_over a.stopped new (a.done is);
   }

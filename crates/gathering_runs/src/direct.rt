@@ -1,5 +1,5 @@
 // A request that no batch holds.
-ghost use Rattle.std.specs.Prelude.{◌≡◌, ◌∷◌, [], OnOk, IfErr};
+ghost use Rattle.std.specs.Prelude.{◌≡◌, ◌≤◌, ◌+◌, ◌-◌, ◌∷◌, [], OnOk, IfErr};
 ghost use Rattle.image_device.specs.Calls.{Uses};
 ghost use Rattle.image_device.specs.Counts.{CountsFault, CountsFaultOf};
 ghost use Rattle.image_device.specs.Runs.{IsFirm, LeavesOnly};
@@ -11,7 +11,7 @@ ghost use Rattle.gathering.specs.Gathered.{cleared};
 ghost use Rattle.serving.specs.Handling.{FitsDevice};
 ghost use Rattle.serving.specs.Prompt.{IsOfPort, mark};
 ghost use Rattle.serving.specs.Voice.{spoken};
-ghost use Rattle.gathering_runs.specs.ByTurns.{AnswersByTurns, IsReplied};
+ghost use Rattle.gathering_runs.specs.ByTurns.{IsReplied, IsTurn};
 ghost use Rattle.gathering_runs.specs.Turns.{StandsBetween, StopsBy, Turned};
 
 use crate::group::Disk;
@@ -29,15 +29,16 @@ pub(crate) fn serve_direct<P: Port, R: Protocol<Request = Request> + Replies, H:
     disk: &mut Disk<P>,
 ) -> Result<(), Status>
     requires ready { H.is_ready server.old }
+    requires waits { H.may_wait request.now }
     requires between { P.told → StandsBetween (H.holds server.old) disk.old.ring (P.view disk.old.port) }
     ensures did { P.told → Turned result (spoken H.rules R.voice) (H.aside server.old)
         (H.state server.old (cleared (P.view disk.old.port).reads))
         (H.state server.new (cleared (P.view disk.new.port).reads)) (P.view disk.old.port) (P.view disk.new.port)
         (request.now ∷ []) }
-    ensures turns { P.told → AnswersByTurns result (spoken H.rules R.voice) H.work (IsOfPort P.view)
-        (H.state server.old (cleared (P.view disk.old.port).reads))
-        (H.state server.new (cleared (P.view disk.new.port).reads)) (request.now ∷ []) (mark (P.view disk.old.port))
-        (mark (P.view disk.new.port)) }
+    ensures turn { P.told → OnOk result (IsTurn (spoken H.rules R.voice) H.work H.may_wait (IsOfPort P.view)
+        (H.state server.old (cleared (P.view disk.old.port).reads)) (request.now ∷ [])
+        (H.state server.new (cleared (P.view disk.new.port).reads)) (mark (P.view disk.old.port))
+        (mark (P.view disk.new.port))) }
     ensures aside { H.aside server.new ≡ H.aside server.old }
     ensures ready { OnOk result (H.is_ready server.new) }
     ensures between { P.told → OnOk result (StandsBetween (H.holds server.new) disk.new.ring (P.view disk.new.port)) }
@@ -84,6 +85,8 @@ fn answer<P: Port, R: Protocol<Request = Request> + Replies, H: GroupHandler>(
         (P.view port.new) (request.now ∷ []) }
     ensures prompt { P.told → OnOk result (IsReplied H.work (IsOfPort P.view)
         (H.state server.old (P.view port.old).reads) request.now (mark (P.view port.old)) (mark (P.view port.new))) }
+    ensures left { P.told → H.work.bounded request.now → OnOk result (H.owed server.new ≤ H.owed server.old
+        + H.work.made (H.state server.old (P.view port.old).reads) request.now - 4) }
     ensures aside { H.aside server.new ≡ H.aside server.old }
     ensures ready { OnOk result (H.is_ready server.new) }
     ensures at { P.told → OnOk result (FitsDevice (H.holds server.new) (P.view port.new)) }

@@ -1,12 +1,12 @@
 // Requests carried out on a disk in memory.
-ghost use Rattle.std.specs.Prelude.{◌≡◌, ◌<◌, ◌≤◌, ◌++◌, ◌⊎◌, ◌∷◌, [], ℕ, List, Ok, OnOk, OnErr, IfOk};
+ghost use Rattle.std.specs.Prelude.{◌≡◌, ◌<◌, ◌≤◌, ◌+◌, ◌-◌, ◌++◌, ◌⊎◌, ◌∷◌, [], ℕ, List, Ok, OnOk, OnErr, IfOk};
 ghost use Rattle.std.specs.Prelude.{true, false, unwrap_or};
 ghost use Rattle.image_device.specs.Counts.{Rose};
 ghost use Rattle.intent_journal.specs.Records.{AreClosed};
 ghost use Rattle.serving.specs.Goes.{remaining, unread};
 ghost use Rattle.serving.specs.Handling.{FitsDevice};
-ghost use Rattle.serving.specs.Runs.{Served};
 ghost use Rattle.serving.specs.Voice.{spoken};
+ghost use Rattle.gathering_runs.specs.ByTurns.{LeavesBut};
 ghost use Rattle.gathering_runs.specs.Turns.{HandsOut, waits_by};
 ghost use Rattle.tsd_model.specs.declared.requests.Request.{Request as Asked};
 
@@ -17,26 +17,30 @@ use image_device::{Failed, Port};
 use serving::{Intake, Protocol, Replies};
 use tsd_model::{Reply, Request};
 
-/// How many steps of reclamation are made behind a request at most.
+/// How many steps of what is left to be done are made behind a request at most.
 const STEPS: u32 = 4;
 
-/// Carries out the request that stands in the room, and then those behind it that lie there, as long as they fit;
-/// whether one waits in the room then. `Failed` comes only where a count rose.
+/// Carries out the request that stands in the room, and then those behind it that lie there, as long as they fit, and
+/// the steps behind them; whether one waits in the room then, and how many steps behind the last one lack. `Failed`
+/// comes only where a count rose.
 pub(crate) fn gather<R: Protocol<Request = Request> + Replies, H: GroupHandler, G: Port + HasRoom>(
     server: &mut H,
     protocol: &mut R,
     intake: &mut Intake,
     request: &mut Request,
     port: &mut G,
+    lacking: &mut u32,
 ) -> Result<bool, Failed>
     requires ready { H.is_ready server.old }
     requires at { G.told → FitsDevice (H.holds server.old) (G.view port.old) }
     // Behind the first request these were handed out and answered, or the last of them failed.
     ensures did { (done : List Asked) × HandsOut R.spelling (λ x. R.was_fed x protocol.old)
         (λ x. R.was_fed x protocol.new) intake.old intake.new (done ++ waits_by result request.new)
-        × (G.told → OnOk result (Served (spoken H.rules R.voice) (H.state server.old (G.view port.old).reads)
-        (G.view port.old).sent (request.old ∷ done) (H.state server.new (G.view port.new).reads)
-        (G.view port.new).sent)) }
+        × (G.told → OnOk result (LeavesBut (spoken H.rules R.voice) H.work
+        (H.state server.old (G.view port.old).reads) (G.view port.old).sent (request.old ∷ done)
+        (H.state server.new (G.view port.new).reads) (G.view port.new).sent (H.owed server.old) (H.owed server.new)
+        lacking.new)) }
+    ensures lacks { OnOk result (lacking.new ≤ 4) }
     ensures less { IfOk result (λ waits. waits ≡ true → remaining intake.new < remaining intake.old) }
     // Where none waits, all bytes that were taken are read.
     ensures read { IfOk result (λ waits. waits ≡ false → intake.old.over ≡ false → unread intake.new ≡ []) }
@@ -51,11 +55,15 @@ pub(crate) fn gather<R: Protocol<Request = Request> + Replies, H: GroupHandler, 
         ⊎ Rose (G.view port.old).put_faults (G.view port.new).put_faults) }
 {
     loop {
-        if carry_out::<R, H, G>(server, port, request).is_err() {
-            return Err(Failed);
+        match carry_out::<R, H, G>(server, port, request) {
+            Ok(lack) => *lacking = lack,
+            Err(_) => return Err(Failed),
         }
         if !intake.next_held(protocol, request) {
             return Ok(false);
+        }
+        if *lacking > 0 {
+            return Ok(true);
         }
         if !port.has_room(server.homes(request)) {
             return Ok(true);
@@ -63,17 +71,21 @@ pub(crate) fn gather<R: Protocol<Request = Request> + Replies, H: GroupHandler, 
     }
 }
 
-/// Carries out a request, and puts its reply. The journal is closed behind it. `Failed` comes only where a count rose.
+/// Carries out a request, puts its reply, and makes four steps of what is left to be done, as far as they fit; how many
+/// of them lack. The journal is closed behind it. `Failed` comes only where a count rose.
 fn carry_out<R: Protocol<Request = Request> + Replies, H: GroupHandler, G: Port + HasRoom>(
     server: &mut H,
     port: &mut G,
     request: &Request,
-) -> Result<(), Failed>
+) -> Result<u32, Failed>
     requires ready { H.is_ready server.old }
     requires at { G.told → FitsDevice (H.holds server.old) (G.view port.old) }
     ensures answered { G.told → OnOk result ((answer : List ℕ) × (spoken H.rules R.voice).gives
         (H.state server.old (G.view port.old).reads) request.now answer (H.state server.new (G.view port.new).reads)
         × ((G.view port.new).sent ≡ (G.view port.old).sent ++ answer)) }
+    ensures left { G.told → H.work.bounded request.now → IfOk result (λ lack. H.owed server.new ≤ H.owed server.old
+        + H.work.made (H.state server.old (G.view port.old).reads) request.now - 4 + lack) }
+    ensures lacks { IfOk result (λ lack. lack ≤ 4) }
     ensures aside { H.aside server.new ≡ H.aside server.old }
     ensures ready { OnOk result (H.is_ready server.new) }
     ensures at { G.told → OnOk result (FitsDevice (H.holds server.new) (G.view port.new)) }
@@ -89,8 +101,5 @@ fn carry_out<R: Protocol<Request = Request> + Replies, H: GroupHandler, G: Port 
     server.apply(port, request, &mut reply)?;
     R::put_reply(port, &reply)?;
     server.empty_ring(port)?;
-    match settle_few(server, port, STEPS) {
-        Ok(_) => Ok(()),
-        Err(failed) => Err(failed),
-    }
+    settle_few(server, port, STEPS)
 }

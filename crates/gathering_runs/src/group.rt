@@ -4,9 +4,9 @@ ghost use Rattle.image_device.specs.Calls.{Uses};
 ghost use Rattle.image_device.specs.Counts.{CountsFaultOf};
 ghost use Rattle.gathering.specs.Gathered.{cleared, HasRested};
 ghost use Rattle.serving.specs.Goes.{remaining, unread};
-ghost use Rattle.serving.specs.Prompt.{IsOfPort, mark};
+ghost use Rattle.serving.specs.Prompt.{mark};
 ghost use Rattle.serving.specs.Voice.{spoken};
-ghost use Rattle.gathering_runs.specs.ByTurns.{AnswersByTurns};
+ghost use Rattle.gathering_runs.specs.ByTurns.{IsGroup, LeavesBut};
 ghost use Rattle.gathering_runs.specs.Turns.{HandsOut, StandsBetween, StopsBy, Turned, waits_by, status_by};
 ghost use Rattle.tsd_model.specs.declared.requests.Request.{Request as Asked};
 
@@ -28,7 +28,7 @@ pub(crate) struct Disk<P: Port> {
 }
 
 /// Carries out requests as one group, from the one that stands in the room on, and commits them; whether a request
-/// waits in the room then.
+/// waits in the room then, and how many steps of what is left to be done lack behind the last one.
 pub(crate) fn serve_group<
     P: Port,
     R: Protocol<Request = Request> + Replies,
@@ -40,6 +40,7 @@ pub(crate) fn serve_group<
     intake: &mut Intake,
     request: &mut Request,
     disk: Disk<P>,
+    lacking: &mut u32,
 ) -> (Disk<P>, Result<bool, Status>)
     requires rests { P.told → HasRested K.start (P.view disk.port) }
     requires counts { Uses 0 K.start (P.view disk.port) }
@@ -51,9 +52,11 @@ pub(crate) fn serve_group<
         × (P.told → Turned result.1 (spoken H.rules R.voice) (H.aside server.old)
         (H.state server.old (cleared K.start.reads)) (H.state server.new (cleared (P.view result.0.port).reads)) K.start
         (P.view result.0.port) (request.old ∷ done))
-        × (P.told → AnswersByTurns result.1 (spoken H.rules R.voice) H.work (IsOfPort P.view)
-        (H.state server.old (cleared K.start.reads)) (H.state server.new (cleared (P.view result.0.port).reads))
-        (request.old ∷ done) (mark K.start) (mark (P.view result.0.port))) }
+        × (P.told → OnOk result.1 (LeavesBut (spoken H.rules R.voice) H.work (H.state server.old (cleared K.start.reads))
+        K.start.sent (request.old ∷ done) (H.state server.new (cleared (P.view result.0.port).reads))
+        (P.view result.0.port).sent (H.owed server.old) (H.owed server.new) lacking.new)) }
+    ensures lacks { OnOk result.1 (lacking.new ≤ 4) }
+    ensures writes { IsGroup (mark K.start) (mark (P.view result.0.port)) }
     ensures less { IfOk result.1 (λ waits. waits ≡ true → remaining intake.new < remaining intake.old) }
     // Where none waits, all bytes that were taken are read.
     ensures read { IfOk result.1 (λ waits. waits ≡ false → intake.old.over ≡ false → unread intake.new ≡ []) }
@@ -68,7 +71,14 @@ pub(crate) fn serve_group<
 {
     let Disk { port, ring, room } = disk;
     let mut gathering = Gather::<P, K>::new(port, ring, room);
-    let gathered = gather::<R, H, Gather<P, K>>(server, protocol, intake, request, &mut gathering);
+    let gathered = gather::<R, H, Gather<P, K>>(
+        server,
+        protocol,
+        intake,
+        request,
+        &mut gathering,
+        lacking,
+    );
     let Flushed {
         inner,
         ring,

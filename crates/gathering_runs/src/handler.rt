@@ -1,6 +1,6 @@
 //! What carries out requests in groups.
 
-ghost use Rattle.std.specs.Prelude.{◌≡◌, OnOk, OnErr};
+ghost use Rattle.std.specs.Prelude.{◌≡◌, ◌<◌, ◌↔◌, ℕ, IsTrue, true, false, OnOk, OnErr, IfOk};
 ghost use Rattle.image_device.specs.Counts.{CountsFault};
 ghost use Rattle.image_device.specs.Image.{Image};
 ghost use Rattle.image_device.specs.Runs.{LeavesOnly, LeavesPart};
@@ -8,6 +8,7 @@ ghost use Rattle.intent_journal.specs.Home.{home, is_journal, AgreeBut};
 ghost use Rattle.intent_journal.specs.Records.{AreClosed};
 ghost use Rattle.gathering.specs.Left.{IsHomeOf};
 ghost use Rattle.serving.specs.Handling.{FitsDevice, CountsRise};
+ghost use Rattle.tsd_model.specs.declared.requests.Request.{Request as Asked};
 
 use image_device::{Device, Failed};
 use serving::Handler;
@@ -15,9 +16,21 @@ use tsd_model::Request;
 
 /// A handler whose disk may be another one in the next group: one that stands for the same, its journal closed.
 pub trait GroupHandler: Handler {
+    /// How much is left to be done.
+    ghost owed: { Self → ℕ };
+
+    /// Which requests may have to wait for what is left to be done.
+    ghost may_wait: { Asked → Type 0 };
+
     /// How many homes a request may have at most, with no step of reclamation behind it. It decides only when a group
-    /// ends, and no clause says it.
-    fn homes(&self, request: &Request) -> usize;
+    /// ends; only a request that may have to wait has more than a batch holds.
+    fn homes(&self, request: &Request) -> usize
+        ensures { 113 < result → Self.may_wait request.now };
+
+    /// Whether something is left to be done.
+    fn is_owed(&self) -> bool
+        requires { Self.is_ready self.now }
+        ensures { IsTrue result ↔ (0 < Self.owed self.now) };
 
     /// Does one step of what is left to be done, if one is left; whether it did. The state stays. `Failed` comes only
     /// where `faults` rose, and it is spent then; else they are as they were.
@@ -29,6 +42,8 @@ pub trait GroupHandler: Handler {
         ensures at { D.told → OnOk result (FitsDevice (Self.holds self.new) (D.view dev.new)) }
         ensures state { D.told → OnOk result (Self.state self.new (D.view dev.new).reads ≡ Self.state self.old
             (D.view dev.old).reads) }
+        ensures lowered { IfOk result (λ some. some ≡ true → Self.owed self.new < Self.owed self.old) }
+        ensures none { IfOk result (λ some. some ≡ false → Self.owed self.new ≡ 0) }
         ensures sent { D.told → (D.view dev.new).sent ≡ (D.view dev.old).sent }
         ensures any_moment { D.told → LeavesOnly (D.view dev.old) (D.view dev.new)
             (λ x f. Self.rules.stands (Self.state self.old (D.view dev.old).reads) x × (f ≡ (D.view dev.old).sent)) }
@@ -47,6 +62,7 @@ pub trait GroupHandler: Handler {
         ensures closed { D.told → OnOk result (AreClosed (D.view dev.new).reads) }
         ensures state { D.told → OnOk result (Self.state self.new (D.view dev.new).reads ≡ Self.state self.old
             (D.view dev.old).reads) }
+        ensures owes { OnOk result (Self.owed self.new ≡ Self.owed self.old) }
         ensures sent { D.told → (D.view dev.new).sent ≡ (D.view dev.old).sent }
         ensures any_moment { D.told → LeavesOnly (D.view dev.old) (D.view dev.new)
             (λ x f. Self.rules.stands (Self.state self.old (D.view dev.old).reads) x × (f ≡ (D.view dev.old).sent)) }
@@ -65,4 +81,14 @@ pub trait GroupHandler: Handler {
 
     /// What no request touches of it is the same.
     ghost aside_alike: { (h : Self) (x y : Image) → IsHomeOf (home x) y → Self.aside h y ≡ Self.aside h x };
+
+    /// What is left to be done is counted on a disk that it fits.
+    ghost owes: { (h : Self) (x : Image) → Self.holds h x → Self.work.debt x ≡ Self.owed h };
+
+    /// An image whose home is that of a disk that it fits has as much left to be done.
+    ghost owed_alike: { (h : Self) (x y : Image) → Self.holds h x → IsHomeOf (home x) y
+        → Self.work.debt y ≡ Self.work.debt x };
+
+    /// Where nothing is left to be done and the journal is closed, no write is due.
+    ghost due_none: { (h : Self) (x : Image) → Self.holds h x → AreClosed x → Self.owed h ≡ 0 → Self.due h x ≡ 0 };
 }

@@ -12,10 +12,17 @@ const WAITING_MAX: usize = 64 * 1024;
 pub(crate) trait HasRoom {
     /// Whether so many homes more fit, and replies may wait.
     fn has_room(&self, homes: usize) -> bool;
+
+    /// Whether so many homes more fit.
+    fn fits(&self, homes: usize) -> bool;
 }
 
 impl<P: Port, K: Began> HasRoom for Gather<P, K> {
     fn has_room(&self, homes: usize) -> bool {
-        self.waiting() < WAITING_MAX && homes <= HOMES_MAX.saturating_sub(self.homes())
+        self.waiting() < WAITING_MAX && self.fits(homes)
+    }
+
+    fn fits(&self, homes: usize) -> bool {
+        homes <= HOMES_MAX.saturating_sub(self.homes())
     }
 }

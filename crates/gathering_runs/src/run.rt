@@ -1,12 +1,13 @@
 //! The loop over an input.
 
-ghost use Rattle.std.specs.Prelude.{◌≡◌, ◌≢◌, ◌≤◌, [], OnOk, IfOk, IfErr};
+ghost use Rattle.std.specs.Prelude.{◌≡◌, ◌≢◌, ◌≤◌, ◌+◌, [], OnOk, IfOk, IfErr};
 ghost use Rattle.image_device.specs.Counts.{CountsFaultOf, Rose};
 ghost use Rattle.gathering.specs.Gathered.{cleared};
 ghost use Rattle.serving.specs.Handling.{FitsDevice};
 ghost use Rattle.serving.specs.Prompt.{IsOfPort, mark};
 ghost use Rattle.serving.specs.Ran.{EndsOnce, moments, taking};
 ghost use Rattle.serving.specs.Voice.{spoken};
+ghost use Rattle.gathering_runs.specs.ByTurns.{IsFinished};
 ghost use Rattle.gathering_runs.specs.Rounds.{RanByRounds};
 ghost use Rattle.gathering_runs.specs.Run.{RanInGroups};
 ghost use Rattle.gathering_runs.specs.Turns.{StandsBetween, StopsBy, Turned};
@@ -61,10 +62,15 @@ pub fn serve_in_groups<
         (taking S.told S.taken S.left_bytes S.ended source.old source.new) (moments P.told P.view port result.0) }
     // Round by round: no request that is whole waits while more input is taken.
     /// promise: **Round by round**: bytes came, and then all requests were answered by turns, and their replies sent,
-    /// that were whole in what had come. A turn is a group, with at most 236 writes from its first call to its last
-    /// reply, or a request on the device itself. Of what comes in a round but the last 65,536 bytes make one request
-    /// whole at most. Where the input was cut short, nothing was written or sent behind the last round.
-    ensures rounds { P.told → RanByRounds result.1 (spoken H.rules R.voice) H.work (IsOfPort P.view) R.spelling limit
+    /// that were whole in what had come. A turn answers one request at least: it is a group, with at most 236 writes
+    /// from its first call to its last reply, or a request on the device itself. Behind a turn no more is left to be
+    /// reclaimed than where each of its requests is served alone, with four steps behind it, where none is a sweep.
+    /// Groups that only reclaim send nothing, and each lowers what is left: before a turn only where its first request
+    /// may have to wait for them, behind a turn four at most, and in the end until nothing is left. Of what comes in a
+    /// round but the last 65,536 bytes make one request whole at most. Where the input was cut short, nothing was
+    /// written or sent behind the last round.
+    ensures rounds { P.told → RanByRounds result.1 (spoken H.rules R.voice) H.work H.may_wait (IsOfPort P.view) R.spelling
+        limit
         (H.state server.old (P.view port).reads)
         (taking S.told S.taken S.left_bytes S.ended source.old source.new) (mark (P.view port))
         (mark (P.view result.0)) }
@@ -135,6 +141,7 @@ fn begin<P: Port, R: Protocol<Request = Request> + Replies, H: GroupHandler>(
         (H.state server.old (P.view port.old).reads) (H.state server.new (cleared (P.view port.new).reads))
         (P.view port.old) (P.view port.new) [] }
     ensures sent { P.told → (P.view port.new).sent ≡ (P.view port.old).sent }
+    ensures owes { OnOk result (H.owed server.new ≡ H.owed server.old) }
     ensures aside { H.aside server.new ≡ H.aside server.old }
     ensures ready { OnOk result (H.is_ready server.new) }
     ensures between { P.told → IfOk result (λ rooms. StandsBetween (H.holds server.new) rooms.0 (P.view port.new)) }
@@ -167,6 +174,8 @@ fn finish<P: Port, R: Protocol<Request = Request> + Replies, H: GroupHandler>(
     ensures did { P.told → Turned result.1 (spoken H.rules R.voice) (H.aside server.old)
         (H.state server.old (cleared (P.view disk.port).reads)) (H.state server.new (P.view result.0.port).reads)
         (P.view disk.port) (P.view result.0.port) [] }
+    ensures finished { P.told → OnOk result.1 (IsFinished H.work (IsOfPort P.view) (mark (P.view disk.port))
+        (mark (P.view result.0.port))) }
     ensures aside { H.aside server.new ≡ H.aside server.old }
     ensures at { P.told → OnOk result.1 (FitsDevice (H.holds server.new) (P.view result.0.port)) }
     ensures closed { P.told → OnOk result.1 (H.is_closed (P.view result.0.port).reads) }
@@ -176,7 +185,7 @@ fn finish<P: Port, R: Protocol<Request = Request> + Replies, H: GroupHandler>(
     ensures put_fault { CountsFaultOf Status.PutFault result.1 (P.view disk.port).put_faults
         (P.view result.0.port).put_faults }
 {
-    let (left, settled) = settle_in_groups::<P, R, H>(server, disk);
+    let (left, settled) = settle_in_groups::<P, R, H>(server, disk, true, 0);
     match settled {
         Ok(()) => {
             let mut disk = left;
@@ -187,16 +196,20 @@ fn finish<P: Port, R: Protocol<Request = Request> + Replies, H: GroupHandler>(
     }
 }
 
-/// Puts all records of the journal in place, on the device itself; where something is left to be done, it does that.
+/// Puts all records of the journal in place, on the device itself, where nothing is left to be done.
 fn close<P: Port, R: Protocol<Request = Request> + Replies, H: GroupHandler>(
     server: &mut H,
     disk: &mut Disk<P>,
 ) -> Result<(), Status>
     requires ready { H.is_ready server.old }
     requires between { P.told → StandsBetween (H.holds server.old) disk.old.ring (P.view disk.old.port) }
+    requires settled { H.owed server.old ≡ 0 }
     ensures did { P.told → Turned result (spoken H.rules R.voice) (H.aside server.old)
         (H.state server.old (cleared (P.view disk.old.port).reads)) (H.state server.new (P.view disk.new.port).reads)
         (P.view disk.old.port) (P.view disk.new.port) [] }
+    ensures sent { P.told → OnOk result ((P.view disk.new.port).sent ≡ (P.view disk.old.port).sent) }
+    ensures writes { P.told → OnOk result ((P.view disk.new.port).writes ≤ (P.view disk.old.port).writes + 121) }
+    ensures none { P.told → OnOk result (H.work.debt (P.view disk.new.port).reads ≡ 0) }
     ensures aside { H.aside server.new ≡ H.aside server.old }
     ensures at { P.told → OnOk result (FitsDevice (H.holds server.new) (P.view disk.new.port)) }
     ensures closed { P.told → OnOk result (H.is_closed (P.view disk.new.port).reads) }

@@ -143,3 +143,7 @@ judged_groups image status.NoMemory p limit bytes ended qs h good = tt
 judged_groups image (status.NotImage reason) p limit bytes ended qs h good = absurd h
 judged_groups image status.Usage p limit bytes ended qs h good = absurd h
 judged_groups image (status.RootDenied level) p limit bytes ended qs h good = absurd h
+
+-- what couldn't be opened isn't done
+pub not_unopened : (r : Status) → IsUnopened r → r ≡ status.Done → ⊥
+not_unopened r why is = subst IsUnopened is why

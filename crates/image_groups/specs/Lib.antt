@@ -1,2 +1,4 @@
 pub mod Carried
+pub mod Owing
 pub mod Served
+pub mod Waiting

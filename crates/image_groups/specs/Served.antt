@@ -1,5 +1,5 @@
 -- What a run over an image did that was served in groups.
-use Rattle.std.specs.Prelude.{◌≡◌, ◌⊎◌, ℕ, List}
+use Rattle.std.specs.Prelude.{◌≡◌, ◌⊎◌, ℕ, List, []}
 use Rattle.tsd_model.specs.World.{World}
 use Rattle.tsd_model.specs.declared.requests.PlaceKind.{PlaceKind}
 use Rattle.tsd_model.specs.declared.requests.Request.{Request}
@@ -20,6 +20,7 @@ use Rattle.image_runs.specs.Server.{disk_work}
 use Rattle.gathering_runs.specs.Rounds.{RanByRounds}
 use Rattle.gathering_runs.specs.Run.{AskedInGroups}
 use Rattle.gathering_runs.specs.Sent.{SentInGroups}
+use Rattle.image_groups.specs.Waiting.{MayWait}
 
 -- How a run over these requests ended. Where the disk was firm and stood for a world, a crash at any moment, opening
 -- included, left an image of the state after a prefix of the requests that holds each one of whose reply something was
@@ -34,13 +35,15 @@ pub record GroupsEnd (r : Status) (v : Voice) (kind : PlaceKind) (old new : View
       × Served (disk_service v) (start_of kind old.reads) old.sent asked final new.sent × IsAtEase new final.state.world
 
 -- How promptly a run answered that ended so: from a moment at which the image was opened, with nothing sent, round by
--- round.
+-- round. Nothing was left to be reclaimed at that moment, or nothing was answered.
 pub record ImageRanByRounds (r : Status) (v : Voice) (p : Spelling Request) (kind : PlaceKind) (port : Mark → Type 0)
     (limit : ℕ) (source : Taking) (old new : View) : Type 0 where
   pub opened : Mark
   pub of_port : port opened
   pub nothing_sent : opened.sent ≡ old.sent
-  pub rounds : RanByRounds r (disk_service v) disk_work port p limit (start_of kind old.reads) source opened (mark new)
+  pub rounds : RanByRounds r (disk_service v) disk_work MayWait port p limit (start_of kind old.reads) source opened
+      (mark new)
+  pub nothing_left : (disk_work.debt opened.reads ≡ 0) ⊎ ((rounds.rounds ≡ []) × (rounds.turns ≡ []))
 
 -- Bytes that came in, the requests that were asked by them, and how the run over these ended, where the port tells.
 pub record ImageRanInGroups (r : Status) (v : Voice) (p : Spelling Request) (kind : PlaceKind) (limit : ℕ)

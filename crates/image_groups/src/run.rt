@@ -45,8 +45,8 @@ pub fn serve_image_in_groups<S: Source, P: Port, R: Protocol<Request = Request> 
     ensures ran { ImageRanInGroups result.1 R.voice R.spelling placement.now.kind limit
         (taking S.told S.taken S.left_bytes S.ended source.old source.new) (moments P.told P.view port result.0) }
     // Round by round: no request that is whole waits while more input is taken.
-    /// promise: What `serve_in_groups` says of its rounds, from a moment at which the image was opened and nothing was
-    /// sent.
+    /// promise: What `serve_in_groups` says of its rounds, from a moment at which the image was opened, nothing was
+    /// sent, and nothing was left to be reclaimed.
     ensures rounds { P.told → ImageRanByRounds result.1 R.voice R.spelling placement.now.kind (IsOfPort P.view) limit
         (taking S.told S.taken S.left_bytes S.ended source.old source.new) (P.view port) (P.view result.0) }
     // Where the image fails one of the tests that need no write, nothing is written, and the disk reads as before;

@@ -8,6 +8,8 @@ ghost use Rattle.volume_laws.specs.Writes.{due};
 ghost use Rattle.image_runs.specs.Server.{disk_rules, disk_work, placed_on};
 ghost use Rattle.image_runs.specs.StandsLaws.{stands_here};
 ghost use Rattle.image_groups.specs.Carried.{behind_alike, core_carried, worlds_alike};
+ghost use Rattle.image_groups.specs.Owing.{core_due_none, core_owed_alike, core_owes, owed_by};
+ghost use Rattle.image_groups.specs.Waiting.{MayWait};
 
 use gathering_runs::GroupHandler;
 use image_device::{Device, Failed};
@@ -70,7 +72,9 @@ impl<'a> Handler for GroupServer<'a> {
     }
 
     fn settle_some<D: Device>(&mut self, dev: &mut D) -> Result<bool, Failed> {
-        self.core.settle_some(dev)
+        let more = self.core.settle_some(dev);
+        self.owes = !matches!(more, Ok(false));
+        more
     }
 
     fn close<D: Device>(&mut self, dev: &mut D) -> Result<(), Failed> {
@@ -79,6 +83,16 @@ impl<'a> Handler for GroupServer<'a> {
 }
 
 impl<'a> GroupHandler for GroupServer<'a> {
+    ghost owed = { λ h. owed_by h.core.now };
+
+    ghost may_wait = { MayWait };
+
+    ghost owes = { λ h x held. core_owes h.core.now x held };
+
+    ghost owed_alike = { λ h x y held home. core_owed_alike h.core.now x y held home };
+
+    ghost due_none = { λ h x held closed none. core_due_none h.core.now x held closed none };
+
     ghost carried = { λ h x y held closed shut agrees.
         core_carried h.placement.now.kind h.core.now x y held closed shut agrees };
 
@@ -100,9 +114,16 @@ impl<'a> GroupHandler for GroupServer<'a> {
         }
     }
 
+    fn is_owed(&self) -> bool {
+        self.core.is_owed()
+    }
+
     fn settle_one<D: Device>(&mut self, dev: &mut D) -> Result<bool, Failed> {
         let done = self.core.settle_one(dev);
-        self.owes = !matches!(done, Ok(false));
+        match done {
+            Ok(_) => self.owes = self.core.is_owed(),
+            Err(_) => {}
+        }
         done
     }
 

@@ -21,8 +21,8 @@ pub record IsUpgradeOf (image x : Image) : Type 0 where
   pub stands : Stands x (upgraded (world_of image))
 
 -- Nothing is loose, the disk stands for the upgraded world, all gates of the journal are closed, and the sectors in
--- which it held earlier capabilities read as zeros. Where the image kept capabilities, the sectors of records hold their
--- digests and nothing else.
+-- which it held earlier capabilities read as zeros. Where the image kept capabilities, the sectors of records hold
+-- their digests and nothing else.
 pub record IsUpgraded (image : Image) (v : View) : Type 0 where
   pub firm : IsFirm v
   pub upgrade : IsUpgradeOf image v.reads

@@ -72,8 +72,8 @@ module _ (start : World) (f g : FilesView) (l m : ℕ × ℕ) (kind placement : 
         size t fine = size_stays c0 c1 v.reads w.reads (fits t) (core_at t fine).1 aside.size
 
         ready_by : (r : Result X FsRefusal) → OnAnswer r (Stays old new) → OnAnswer r (new.spent ≡ false) → MatchResult r (λ x. g ≡ mounted_now f) (λ e. g ≡ unmounted_now f) → OnAnswer r (AreReady g c1)
-        ready_by (Ok x) s u on = (subst (λ (h : FilesView). AreReady h c1) (sym on) (record { core = core_ready u.0; client = client_so true (client_still f l m kind placement c0 c1 v w s.0 runs.counts ready.client) }), tt)
-        ready_by (Err e) s u off = (tt, λ other. subst (λ (h : FilesView). AreReady h c1) (sym off) (record { core = core_ready (u.1 other); client = client_so false (client_still f l m kind placement c0 c1 v w (s.1 other) runs.counts ready.client) }))
+        ready_by (Ok x) s u on = (subst (λ (h : FilesView). AreReady h c1) (sym on) (record { core = core_ready u.0; client = client_so true (client_still f c0 c1 s.0.records runs.counts.version runs.counts.geometry s.0.sessions ready.client) }), tt)
+        ready_by (Err e) s u off = (tt, λ other. subst (λ (h : FilesView). AreReady h c1) (sym off) (record { core = core_ready (u.1 other); client = client_so false (client_still f c0 c1 (s.1 other).records runs.counts.version runs.counts.geometry (s.1 other).sessions ready.client) }))
 
         at_by : told → (r : Result X FsRefusal) → FindsTree f old new r → OnAnswer r (IsValidNow new) → MatchResult r (λ x. g ≡ mounted_now f) (λ e. g ≡ unmounted_now f) → OnAnswer r (new.spent ≡ false)
             → OnAnswer r (((n : ℕ) → w.loose n ≡ false) × FitsShell (world_of v.reads) g c1 w.reads)

@@ -3,7 +3,7 @@ use Rattle.std.proofs.Common.{◌≡◌, ◌≢◌, inl, ℕ, List, [], ◌∷�
 use Rattle.shell_server.proofs.Common.{Result, Ok, Err, OnOk, IfErr, World, CountsFaultOf, View, LeavesOnly, joined, weakened, world_of, line_feeds, Answer, refused, ShellAsk, FsRefusal, FilesView, answer_text, Status, IsInAnswer, LeftBy, Core, behind_then, RestsIn, shell_rests, ShellState, AnswersByLine, files_after, heard, shell_service, shell_step, tree_in, shell_state, IsLeftBeforeOrAfter, IsCarried, IsLooked, IsServed}
 use Rattle.fs_trees.specs.declared.refusal.FsRefusal.TheVariants as no
 use Rattle.tsd_words.specs.declared.status.Status.TheVariants as status
-use Rattle.shell_server.proofs.ChangeLaws.{judged_refused}
+use Rattle.shell_server.proofs.StepLaws.{judged_refused}
 use Rattle.shell_server.proofs.KeptLaws.{same_taken}
 
 module _ {X Y : Type 0} (told : Type 0) (start : World) (q : ShellAsk) (f0 f1 f2 : FilesView) (c0 c1 c2 : Core) (v w z : View) (of_answer : X → Answer → Type 0) where

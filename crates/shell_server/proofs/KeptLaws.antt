@@ -2,28 +2,32 @@
 use Rattle.std.proofs.Common.{◌≡◌, ◌⊎◌, inl, inr, ℕ, true, false, ◌<◌, nat_lt, List, length, refl, sym, ◌∙◌, ap, subst}
 use Rattle.std.proofs.lemmas.Bool.{and_parts}
 use Rattle.std.specs.Prelude.{Option, Some, None, is_none, is_some}
-use Rattle.shell_server.proofs.Common.{IsTrue, slice_get, World, Geometry, PlaceKind, DeviceView, Image, world_of, Counts, ShellAsk, Stays, FilesView, Core, FitsReads, core_view, IsClient, IsKeptSince, IsTakenForTree, OthersStay, ShellState, Tree, nothing, a_file, a_dir, is_there}
+use Rattle.shell_server.proofs.Common.{IsTrue, slice_get, World, Geometry, Image, world_of, ShellAsk, FilesView, files_after, Core, FitsReads, IsClient, IsKeptSince, IsTakenForTree, OthersStay, ShellState, Tree, nothing, a_file, a_dir, is_there}
 use Rattle.image_world.specs.Tables.{Tables, tables_of}
 use Rattle.image_world.proofs.WorldLaws.{told_like}
 use Rattle.intent_journal.specs.Home.{home}
-use Rattle.tsd_core.specs.Core.{told_world}
+use Rattle.tsd_core.specs.Core.{sessions_of, told_world}
+use Rattle.tsd_model.specs.Sessions.{is_open}
 use Rattle.tsd_model.specs.World.{contents}
 use Rattle.volume_laws.proofs.QuestionLaws.{told_size}
 use Rattle.tsd_model.specs.Records.{kept_of}
 use Rattle.tsd_model.specs.Attained.{record_level}
 use Rattle.tsd_model.specs.declared.records.Record.{Record}
+use Rattle.shell_server.proofs.StepLaws.{after_make}
 
--- a call of a file system leaves it so
-pub client_still : (f : FilesView) (l m : ℕ × ℕ) (kind placement : PlaceKind) (c0 c1 : Core) (v w : DeviceView) → Stays (core_view l kind c0 v) (core_view m placement c1 w) → Counts (core_view l kind c0 v) (core_view m placement c1 w) → IsClient f c0 → IsClient f c1
-client_still f l m kind placement c0 c1 v w stays counts was =
-    let old = core_view l kind c0 v in
-    let new = core_view m placement c1 w in
-    record {
-      number = was.number;
-      begun = subst (λ b. IsTrue b) (sym (stays.sessions f.session)) was.begun;
-      primary = subst (λ (g : Geometry). f.root < g.primaries) (sym counts.geometry) was.primary;
-      attains = ap (λ (rs : List Record). record_level (slice_get rs f.root) (kept_of new.version f.cap)) stays.records ∙ (ap (λ (n : ℕ). record_level (slice_get old.records f.root) (kept_of n f.cap)) counts.version ∙ was.attains);
-    }
+-- it is so as long as the records, the numbers and the open sessions stay
+pub client_still : (f : FilesView) (c0 c1 : Core) → (told_world c1).records ≡ (told_world c0).records → (told_world c1).version ≡ (told_world c0).version → (told_world c1).geometry ≡ (told_world c0).geometry
+    → ((s : ℕ) → is_open (sessions_of c1) s ≡ is_open (sessions_of c0) s) → IsClient f c0 → IsClient f c1
+client_still f c0 c1 records version size sessions was = record {
+  number = was.number;
+  begun = subst (λ b. IsTrue b) (sym (sessions f.session)) was.begun;
+  primary = subst (λ (g : Geometry). f.root < g.primaries) (sym size) was.primary;
+  attains = ap (λ (rs : List Record). record_level (slice_get rs f.root) (kept_of (told_world c1).version f.cap)) records ∙ (ap (λ (n : ℕ). record_level (slice_get (told_world c0).records f.root) (kept_of n f.cap)) version ∙ was.attains);
+}
+
+-- mounting an empty tree leaves it so
+pub client_after : (f : FilesView) (q : ShellAsk) (c : Core) → IsClient f c → IsClient (files_after f q) c
+client_after f q c k = subst (λ h. IsClient h c) (sym (after_make f q)) (record { number = k.number; begun = k.begun; primary = k.primary; attains = k.attains })
 
 -- ---- trees
 

@@ -4,12 +4,11 @@ pub mod CatLaws
 pub mod ChangeLaws
 pub mod Examples
 pub mod LookLaws
-pub mod MakeLaws
 pub mod SendLaws
 pub mod SpeakLaws
+pub mod StepLaws
 pub mod ToldLaws
 pub mod LsLaws
-pub mod CopyLaws
 pub mod FreeLaws
 pub mod KeptLaws
 pub mod AheadLaws

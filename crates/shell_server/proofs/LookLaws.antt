@@ -43,7 +43,7 @@ module _ (start : World) (f : FilesView) (q a : ShellAsk) (hears : heard f.kind 
   }
     where
       ready_now : Stays old new → new.spent ≡ false → AreReady f c1
-      ready_now still fine = record { core = core_ready fine; client = client_still f l m kind placement c0 c1 v w still counts ready.client }
+      ready_now still fine = record { core = core_ready fine; client = client_still f c0 c1 still.records counts.version counts.geometry still.sessions ready.client }
 
       ready_by : (r : Result X FsRefusal) → OnAnswer r (Stays old new) → OnAnswer r (new.spent ≡ false) → OnAnswer r (AreReady f c1)
       ready_by (Ok x) s u = (ready_now s.0 u.0, tt)

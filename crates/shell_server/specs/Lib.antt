@@ -5,6 +5,7 @@ pub mod LineLaws
 pub mod Kept
 pub mod Start
 pub mod Carried
+pub mod Changed
 pub mod Speaking
 pub mod Told
 pub mod Places

@@ -1,19 +1,20 @@
 //! One ask, answered.
 
-ghost use Rattle.std.specs.Prelude.{◌≡◌, true, IsTrue};
+ghost use Rattle.std.specs.Prelude.{◌≡◌, IsTrue};
 ghost use Rattle.std.specs.List.{list_all};
 ghost use Rattle.fs_trees.specs.Names.{is_name, is_path};
 ghost use Rattle.fs_trees.specs.declared.ask.ShellAsk.TheVariants as ask;
 ghost use Rattle.serving.specs.Handling.{FitsDevice};
 ghost use Rattle.shell_server.specs.Carried.{IsServed};
-ghost use Rattle.fs_port.specs.Files.{TellsSize, has_dirs};
+ghost use Rattle.shell_server.specs.Changed.{is_change};
+ghost use Rattle.fs_port.specs.Files.{TellsSize};
 ghost use Rattle.shell_server.specs.Kept.{AreReady, FitsShell, shell_state};
-ghost use Rattle.shell_server.specs.Shell.{heard, shell_step};
+ghost use Rattle.shell_server.specs.Shell.{heard, is_heard, shell_step};
 
+use crate::changes::change_on;
 use crate::free::answer_df;
 use crate::listing::answer_ls;
 use crate::look::{part_on, size_on};
-use crate::put::{append_on, copy_on, make_dir_on, make_on, put_on, remove_on};
 use crate::send::{send_bad, send_change, send_end, send_text};
 use crate::started::Started;
 use core_blocks::Placing;
@@ -29,119 +30,26 @@ use tsd_core::Core;
 use tsd_model::Data;
 use tsd_words::Status;
 
-/// Puts a file and sends the answer whole.
-pub fn answer_put<F: Files, P: Port, L: Placing, K: Started>(
+/// Carries out an ask that changes the tree, and sends the answer whole.
+pub fn answer_change<F: Files, P: Port, L: Placing, K: Started>(
     files: &mut F,
     core: &mut Core,
     placement: &L,
     port: &mut P,
-    path: &Path,
-    bytes: &Data,
+    request: &ShellAsk,
 ) -> Result<(), Status>
+    requires changes { IsTrue (is_change request.now) }
+    requires heard { IsTrue (is_heard (F.view files.old).kind request.now) }
     requires ready { AreReady (F.view files.old) core.old }
     requires at { P.told → FitsDevice (FitsShell K.start (F.view files.old) core.old) (P.view port.old) }
-    requires named { IsTrue (is_path path.now) }
-    ensures { IsServed P.told K.start (ask.Put path.now bytes.now) (F.view files.old) (F.view files.new) core.old
-        core.new (P.view port.old) (P.view port.new) result }
-{
-    let outcome = put_on::<F, P, L, K>(files, core, placement, port, path, bytes);
-    send_change(port, outcome)
-}
-
-/// Adds to a file and sends the answer whole.
-pub fn answer_append<F: Files, P: Port, L: Placing, K: Started>(
-    files: &mut F,
-    core: &mut Core,
-    placement: &L,
-    port: &mut P,
-    path: &Path,
-    bytes: &Data,
-) -> Result<(), Status>
-    requires ready { AreReady (F.view files.old) core.old }
-    requires at { P.told → FitsDevice (FitsShell K.start (F.view files.old) core.old) (P.view port.old) }
-    requires named { IsTrue (is_path path.now) }
-    ensures { IsServed P.told K.start (ask.Append path.now bytes.now) (F.view files.old) (F.view files.new) core.old
-        core.new (P.view port.old) (P.view port.new) result }
-{
-    let outcome = append_on::<F, P, L, K>(files, core, placement, port, path, bytes);
-    send_change(port, outcome)
-}
-
-/// Makes a directory and sends the answer whole.
-pub fn answer_make_dir<F: Files, P: Port, L: Placing, K: Started>(
-    files: &mut F,
-    core: &mut Core,
-    placement: &L,
-    port: &mut P,
-    path: &Path,
-) -> Result<(), Status>
-    requires ready { AreReady (F.view files.old) core.old }
-    requires at { P.told → FitsDevice (FitsShell K.start (F.view files.old) core.old) (P.view port.old) }
-    requires dirs { has_dirs (F.view files.old).kind ≡ true }
-    requires named { IsTrue (is_path path.now) }
-    ensures { IsServed P.told K.start (ask.MakeDir path.now) (F.view files.old) (F.view files.new) core.old core.new
+    ensures { IsServed P.told K.start request.now (F.view files.old) (F.view files.new) core.old core.new
         (P.view port.old) (P.view port.new) result }
 {
-    let outcome = make_dir_on::<F, P, L, K>(files, core, placement, port, path);
+    let outcome = change_on::<F, P, L, K>(files, core, placement, port, request);
     send_change(port, outcome)
 }
 
-/// Makes a new file of the bytes of another and sends the answer whole.
-pub fn answer_copy<F: Files, P: Port, L: Placing, K: Started>(
-    files: &mut F,
-    core: &mut Core,
-    placement: &L,
-    port: &mut P,
-    path: &Path,
-    new: &Path,
-) -> Result<(), Status>
-    requires ready { AreReady (F.view files.old) core.old }
-    requires at { P.told → FitsDevice (FitsShell K.start (F.view files.old) core.old) (P.view port.old) }
-    requires dirs { has_dirs (F.view files.old).kind ≡ true }
-    requires named { IsTrue (is_path path.now) }
-    requires new_named { IsTrue (is_path new.now) }
-    ensures { IsServed P.told K.start (ask.Copy path.now new.now) (F.view files.old) (F.view files.new) core.old
-        core.new (P.view port.old) (P.view port.new) result }
-{
-    let outcome = copy_on::<F, P, L, K>(files, core, placement, port, path, new);
-    send_change(port, outcome)
-}
-
-/// Takes away what stands at a path and sends the answer whole.
-pub fn answer_remove<F: Files, P: Port, L: Placing, K: Started>(
-    files: &mut F,
-    core: &mut Core,
-    placement: &L,
-    port: &mut P,
-    path: &Path,
-) -> Result<(), Status>
-    requires ready { AreReady (F.view files.old) core.old }
-    requires at { P.told → FitsDevice (FitsShell K.start (F.view files.old) core.old) (P.view port.old) }
-    requires named { IsTrue (is_path path.now) }
-    ensures { IsServed P.told K.start (ask.Rm path.now) (F.view files.old) (F.view files.new) core.old core.new
-        (P.view port.old) (P.view port.new) result }
-{
-    let outcome = remove_on::<F, P, L, K>(files, core, placement, port, path);
-    send_change(port, outcome)
-}
-
-/// Makes an empty tree in place of what is there and sends the answer whole.
-pub fn answer_make<F: Files, P: Port, L: Placing, K: Started>(
-    files: &mut F,
-    core: &mut Core,
-    placement: &L,
-    port: &mut P,
-) -> Result<(), Status>
-    requires ready { AreReady (F.view files.old) core.old }
-    requires at { P.told → FitsDevice (FitsShell K.start (F.view files.old) core.old) (P.view port.old) }
-    ensures { IsServed P.told K.start ask.Make (F.view files.old) (F.view files.new) core.old core.new
-        (P.view port.old) (P.view port.new) result }
-{
-    let outcome = make_on::<F, P, L, K>(files, core, placement, port);
-    send_change(port, outcome)
-}
-
-/// AnswersByLine what isn't heard.
+/// Tells that an ask isn't heard: it counts as one that asks nothing.
 pub fn answer_bad<F: Files, P: Port, L: Placing, K: Started>(
     files: &mut F,
     core: &mut Core,
@@ -220,7 +128,7 @@ fn send_file<F: Walks, P: Port, L: Placing, K: Started>(
     send_end(port)
 }
 
-/// AnswersByLine an ask whole.
+/// Carries out an ask and sends its answer whole.
 pub fn answer_ask<F: Walks, P: Port, L: Placing, K: Started>(
     files: &mut F,
     core: &mut Core,
@@ -233,59 +141,31 @@ pub fn answer_ask<F: Walks, P: Port, L: Placing, K: Started>(
     ensures { IsServed P.told K.start request.now (F.view files.old) (F.view files.new) core.old core.new
         (P.view port.old) (P.view port.new) result }
 {
+    if !is_heard(files, request) {
+        return answer_bad::<F, P, L, K>(files, core, placement, port, request);
+    }
     match request {
         ShellAsk::Bad => answer_bad::<F, P, L, K>(files, core, placement, port, request),
-        ShellAsk::Put { path, bytes } => {
-            if is_path(path) {
-                answer_put::<F, P, L, K>(files, core, placement, port, path, bytes)
-            } else {
-                answer_bad::<F, P, L, K>(files, core, placement, port, request)
-            }
-        }
-        ShellAsk::Append { path, bytes } => {
-            if is_path(path) {
-                answer_append::<F, P, L, K>(files, core, placement, port, path, bytes)
-            } else {
-                answer_bad::<F, P, L, K>(files, core, placement, port, request)
-            }
-        }
-        ShellAsk::MakeDir { path } => {
-            if files.has_dirs() && is_path(path) {
-                answer_make_dir::<F, P, L, K>(files, core, placement, port, path)
-            } else {
-                answer_bad::<F, P, L, K>(files, core, placement, port, request)
-            }
-        }
-        ShellAsk::Make => answer_make::<F, P, L, K>(files, core, placement, port),
-        ShellAsk::Rm { path } => {
-            if is_path(path) {
-                answer_remove::<F, P, L, K>(files, core, placement, port, path)
-            } else {
-                answer_bad::<F, P, L, K>(files, core, placement, port, request)
-            }
-        }
-        ShellAsk::Cat { path } => {
-            if is_path(path) {
-                answer_cat::<F, P, L, K>(files, core, placement, port, path)
-            } else {
-                answer_bad::<F, P, L, K>(files, core, placement, port, request)
-            }
-        }
-        ShellAsk::Ls { path } => {
-            if is_path(path) {
-                answer_ls::<F, P, L, K>(files, core, placement, port, path)
-            } else {
-                answer_bad::<F, P, L, K>(files, core, placement, port, request)
-            }
-        }
-        ShellAsk::Copy { path, new } => {
-            if files.has_dirs() && is_path(path) && is_path(new) {
-                answer_copy::<F, P, L, K>(files, core, placement, port, path, new)
-            } else {
-                answer_bad::<F, P, L, K>(files, core, placement, port, request)
-            }
-        }
+        ShellAsk::Cat { path } => answer_cat::<F, P, L, K>(files, core, placement, port, path),
+        ShellAsk::Ls { path } => answer_ls::<F, P, L, K>(files, core, placement, port, path),
         ShellAsk::Df => answer_df::<F, P, L, K>(files, core, placement, port),
+        _ => answer_change::<F, P, L, K>(files, core, placement, port, request),
+    }
+}
+
+/// Whether its paths are paths, and the layout has it.
+fn is_heard<F: Files>(files: &F, request: &ShellAsk) -> bool
+    ensures { result ≡ is_heard (F.view files.now).kind request.now }
+{
+    match request {
+        ShellAsk::Put { path, .. }
+        | ShellAsk::Append { path, .. }
+        | ShellAsk::Cat { path }
+        | ShellAsk::Ls { path }
+        | ShellAsk::Rm { path } => is_path(path),
+        ShellAsk::MakeDir { path } => files.has_dirs() && is_path(path),
+        ShellAsk::Copy { path, new } => files.has_dirs() && is_path(path) && is_path(new),
+        ShellAsk::Bad | ShellAsk::Make | ShellAsk::Df => true,
     }
 }
 

@@ -4,7 +4,7 @@
 //! system promises, `shell_text` reads asks and prints answers, and `serving` is the loop.
 //!
 //! - `lines`, `server`, `run`: lines as asks of a layout, the shell as a server of these, and the loop.
-//! - `put`, `look`, `free`: one ask on the disk, with nothing sent yet.
+//! - `changes`, `look`, `free`: one ask on the disk, with nothing sent yet.
 //! - `answer`, `listing`, `send`: the answers as they are sent; the bytes of a file and the names of a directory go in
 //!   parts.
 //! - `started`: the world in which a run began, which proofs pick.
@@ -16,27 +16,24 @@
 #![tactic(auto)]
 
 mod answer;
+mod changes;
 mod free;
 mod laws;
 mod lines;
 mod listing;
 mod look;
-mod put;
 mod run;
 mod send;
 mod server;
 mod started;
 
-pub use answer::{
-    answer_append, answer_ask, answer_bad, answer_cat, answer_copy, answer_make, answer_make_dir,
-    answer_put, answer_remove,
-};
+pub use answer::{answer_ask, answer_bad, answer_cat, answer_change};
+pub use changes::{change, change_on};
 pub use free::{answer_df, free_on};
 pub use laws::answers_tell_the_tree;
 pub use lines::{ChainLayout, InodeLayout, ShellLines, TreeLayout};
 pub use listing::answer_ls;
 pub use look::{next_on, part_on, size_on};
-pub use put::{append_on, copy_on, make_dir_on, make_on, put_on, remove_on};
 pub use run::serve_shell;
 pub use send::send_change;
 pub use server::ShellServer;

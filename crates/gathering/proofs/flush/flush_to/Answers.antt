@@ -18,11 +18,11 @@ returns-then-is_err-clause-put_sent g c told is =
 pub returns-then-is_err-clause-any_moment : goal.returns-then-is_err-clause-any_moment
 returns-then-is_err-clause-any_moment g c told =
     let view = g.P.Device.view in
-    flushed c.commit_some.new.ring c.args.batch.now c.args.waiting.now (view c.args.inner.now) (view c.commit_some.new.inner) (view c.put_all.new.port) (c.commit_some.ensures.any_moment told)
+    flushed c.commit_some.new.ring c.args.batch.now c.args.waiting.now (view c.args.inner.now) (view c.commit_some.new.dev) (view c.put_all.new.port) (c.commit_some.ensures.any_moment told)
     (c.in_ok-commit_some.ensures.at told) (c.in_ok-commit_some.ensures.firm told) (c.in_ok-commit_some.ensures.done told) (c.commit_some.ensures.sent told) (c.put_all.ensures.any_moment told)
 
 pub returns-clause-any_moment : goal.returns-clause-any_moment
 returns-clause-any_moment g c told =
     let view = g.P.Device.view in
-    flushed c.commit_some.new.ring c.args.batch.now c.args.waiting.now (view c.args.inner.now) (view c.commit_some.new.inner) (view c.put_all.new.port) (c.commit_some.ensures.any_moment told)
+    flushed c.commit_some.new.ring c.args.batch.now c.args.waiting.now (view c.args.inner.now) (view c.commit_some.new.dev) (view c.put_all.new.port) (c.commit_some.ensures.any_moment told)
     (c.in_ok-commit_some.ensures.at told) (c.in_ok-commit_some.ensures.firm told) (c.in_ok-commit_some.ensures.done told) (c.commit_some.ensures.sent told) (c.put_all.ensures.any_moment told)

@@ -1,4 +1,6 @@
-use Rattle.std.proofs.Common.{◌∷◌, [], refl, sym, ◌∙◌, ap, arith}
+use Rattle.std.proofs.Common.{◌∷◌, [], ◌≡◌, ◌≤◌, ◌+◌, ◌-◌, ℕ, OnOk, refl, sym, ◌∙◌, ap, arith}
+use Rattle.image_device.specs.Image.{Image}
+use Rattle.image_device.proofs.Moments.{ends_in}
 use Rattle.image_device.proofs.Outcomes.{unless_err}
 use Rattle.tsd_words.specs.declared.status.Status.TheVariants as status
 use Rattle.serving.specs.Voice.{spoken}
@@ -99,3 +101,21 @@ returns-clause-prompt g c told = record {
       let few = c.in-Ok.ensures.before told bounded in
       omega (arith, same, few);
 }
+
+pub returns-clause-left : goal.returns-clause-left
+returns-clause-left g c told bounded =
+    let debt = g.H.Handler.work.debt in
+    let h0 = c.args.server.now in
+    let h1 = c.apply.new.self in
+    let h2 = c.settle_some.new.self in
+    let v0 = g.P.Device.view c.args.port.now in
+    let v1 = g.P.Device.view c.apply.new.dev in
+    let v2 = g.P.Device.view c.put_reply.new.port in
+    let v3 = g.P.Device.view c.settle_some.new.dev in
+    let first = g.met.H.GroupHandler.owes h0 v0.reads (c.requires.at told).1 in
+    let then = g.met.H.GroupHandler.owes h2 v3.reads (unless_err c.settle_some.result c.is_err-2.result c.if-is_err-2.false c.is_err-2.ensures.value (c.settle_some.ensures.at told)).1 in
+    let made = (ends_in v0 v1 _ (g.met.P.Device.sound c.apply.new.dev told) (c.apply.ensures.debt told bounded)).0 in
+    let same = ap debt (c.put_reply.ensures.reads told) in
+    let less = unless_err c.settle_some.result c.is_err-2.result c.if-is_err-2.false c.is_err-2.ensures.value (c.settle_some.ensures.less told) in
+    let kept = unless_err c.empty_ring.result c.is_err-3.result c.if-is_err-3.false c.is_err-3.ensures.value c.empty_ring.ensures.owes in
+    omega (arith, first, then, made, same, less, kept)

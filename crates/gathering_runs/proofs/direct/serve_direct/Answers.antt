@@ -1,4 +1,5 @@
-use Rattle.std.proofs.Common.{◌∷◌, [], OnOk, refl}
+use Rattle.std.proofs.Common.{◌∷◌, [], OnOk, refl, sym, arith}
+use Rattle.std.proofs.lemmas.List.Elements.{All-head}
 use Rattle.std.specs.Prelude.{Result, Ok, Err}
 use Rattle.image_device.proofs.Outcomes.{unless_err}
 use Rattle.tsd_words.specs.declared.status.Status.TheVariants as status
@@ -8,13 +9,18 @@ use Rattle.gathering_runs.proofs.Carried.{between, from_cleared, placed_home, ri
 use Rattle.gathering_runs.proofs.OnDevice.{left_in_place, went_in_place}
 use Rattle.gathering_runs.proofs.Sent.{sent_none}
 use Rattle.serving.specs.Prompt.{IsOfPort, mark}
-use Rattle.gathering_runs.proofs.ByTurns.{direct_turn, turns_none}
+use Rattle.gathering_runs.proofs.ByTurns.{turn_of_direct}
+use Rattle.gathering_runs.proofs.Reclaiming.{one_left, owed_between}
 use Rattle.gathering_runs.proofs.Turning.{turned_err, turned_then, turned_to}
 use Rattle.gathering_runs.proofs.direct.serve_direct.Goals as goal
 
 both_ok : {T E A B P : Type 0} (r : Result T E) → (A → B → P) → OnOk r A → OnOk r B → OnOk r P
 both_ok (Ok x) f a b = f a b
 both_ok (Err e) f a b = tt
+
+all_ok : {T E A B C D F L P : Type 0} (r : Result T E) → OnOk r A → OnOk r B → OnOk r C → OnOk r D → (F → OnOk r L) → (A → B → C → D → (F → L) → P) → OnOk r P
+all_ok (Ok x) a b c d f made = made a b c d f
+all_ok (Err e) a b c d f made = tt
 
 pub returns-then-is_err-clause-did : goal.returns-then-is_err-clause-did
 returns-then-is_err-clause-did g c told =
@@ -56,19 +62,24 @@ returns-clause-between g c told =
     let none = unless_err c.empty_journal.result c.is_err.result c.if-is_err.false c.is_err.ensures.value c.empty_journal.ensures.empty in
     both_ok c.answer.result (λ at shut. between (g.H.Handler.holds h2) (g.H.Handler.state h2) (g.met.H.GroupHandler.carried h2) c.empty_journal.new.ring v2 none at.0 at.1 shut) (c.answer.ensures.at told) (c.answer.ensures.closed told)
 
-pub returns-then-is_err-clause-turns : goal.returns-then-is_err-clause-turns
-returns-then-is_err-clause-turns g c told = turns_none (spoken g.H.Handler.rules g.R.Replies.voice) g.H.Handler.work (IsOfPort g.P.Device.view) _ _ _ (c.args.request.now ∷ []) _ _
-
-pub returns-clause-turns : goal.returns-clause-turns
-returns-clause-turns g c told =
+pub returns-clause-turn : goal.returns-clause-turn
+returns-clause-turn g c told =
     let k = spoken g.H.Handler.rules g.R.Replies.voice in
+    let w = g.H.Handler.work in
     let h = c.args.server.now in
     let v0 = g.P.Device.view c.args.disk.now.port in
     let v1 = g.P.Device.view c.empty_journal.new.port in
     let v2 = g.P.Device.view c.answer.new.port in
+    let h2 = c.answer.new.server in
     let b = c.requires.between told in
     let closed = ring_closed v1 (unless_err c.empty_journal.result c.is_err.result c.if-is_err.false c.is_err.ensures.value (c.empty_journal.ensures.at told)) in
     let done = unless_err c.empty_journal.result c.is_err.result c.if-is_err.false c.is_err.ensures.value (c.empty_journal.ensures.done told) in
     let over = from_cleared (g.H.Handler.holds h) (g.H.Handler.state h) (g.met.H.GroupHandler.carried h) v0.reads v1.reads b.held closed done in
-    direct_turn k g.H.Handler.work (IsOfPort g.P.Device.view) c.answer.result (g.H.Handler.state h (cleared v0.reads)) (g.H.Handler.state h v1.reads) (g.H.Handler.state c.answer.new.server (cleared v2.reads)) c.args.request.now (mark v0) (mark v1) (mark v2)
-    (c.empty_journal.new.port, refl) (c.empty_journal.ensures.sent told) c.empty_journal.ensures.uses.most over.1 (c.answer.new.port, refl) (returns-clause-did g c told).served (c.answer.ensures.prompt told)
+    let before = owed_between (g.H.Handler.holds h) w.debt (g.H.GroupHandler.owed h) (g.met.H.GroupHandler.owes h) (g.met.H.GroupHandler.owed_alike h) _ v0 b in
+    all_ok c.answer.result (c.answer.ensures.at told) (c.answer.ensures.closed told) (c.answer.ensures.did told).served (c.answer.ensures.prompt told) (λ bounded. c.answer.ensures.left told bounded)
+    (λ at shut served replied left.
+    let behind = g.met.H.GroupHandler.owes h2 v2.reads at.1 in
+    turn_of_direct k w g.H.GroupHandler.may_wait (IsOfPort g.P.Device.view) (g.H.Handler.state h (cleared v0.reads)) (g.H.Handler.state h v1.reads) (g.H.Handler.state h2 v2.reads) (g.H.Handler.state h2 (cleared v2.reads)) c.args.request.now (mark v0) (mark v1) (mark v2)
+    c.requires.waits (c.empty_journal.new.port, refl) (c.empty_journal.ensures.sent told) c.empty_journal.ensures.uses.most (c.answer.new.port, refl) replied
+    (record { served = served; few = λ all. let h = left (All-head w.bounded c.args.request.now [] all) in let e = one_left k w _ _ _ _ c.args.request.now served (w.debt v0.reads) in omega (arith, h, e, before, behind) })
+    over.1 (sym (to_cleared (g.H.Handler.holds h2) (g.H.Handler.state h2) (g.met.H.GroupHandler.carried h2) v2.reads at.1 shut).1))

@@ -1,6 +1,5 @@
 use Rattle.std.proofs.Common.{◌≡◌, ◌⊎◌, ◌∷◌, ◌++◌, [], inl, inr, Bool, false, refl, sym, ◌∙◌, ap, subst, append-nil}
-use Rattle.std.specs.Prelude.{Result, Ok, Err, OnOk, OnErr}
-use Rattle.std.specs.Result.{result_unwrap_or}
+use Rattle.std.specs.Prelude.{Ok, Err}
 use Rattle.serving.specs.Voice.{spoken}
 use Rattle.gathering.specs.Gathered.{cleared, gathered_view}
 use Rattle.gathering_runs.specs.Turns.{HandsOut, status_by, waits_by}
@@ -8,28 +7,11 @@ use Rattle.gathering_runs.proofs.Carried.{to_next}
 use Rattle.gathering_runs.proofs.Grouped.{gathered_badly, gathered_well, left_flushed, left_given_up, sent_by_flush, went_flushed}
 use Rattle.gathering_runs.specs.Sent.{IsSentBy}
 use Rattle.gathering_runs.proofs.Sent.{sent_given_up, sent_none, unsent_by}
-use Rattle.serving.specs.Prompt.{IsOfPort, mark}
 use Rattle.serving.specs.Goes.{unread}
-use Rattle.gathering_runs.proofs.ByTurns.{one_turn, turns_none, turns_ok}
-use Rattle.gathering_runs.proofs.Outcome.{ok_is_if}
+use Rattle.gathering_runs.proofs.Reclaiming.{leaves_flushed}
+use Rattle.gathering_runs.proofs.Outcome.{err_is, ok_by, ok_is, ok_is_if, ok_or_err}
 use Rattle.gathering_runs.proofs.Turning.{turned_err, turned_ok}
 use Rattle.gathering_runs.proofs.group.serve_group.Goals as goal
-
-ok_is : {T E P : Type 0} (r : Result T E) (x : T) → r ≡ Ok x → OnOk r P → P
-ok_is (Ok y) x is p = p
-ok_is (Err e) x is p = absurd (cc)
-
-err_is : {T E P : Type 0} (r : Result T E) (x : E) → r ≡ Err x → OnErr r P → P
-err_is (Ok y) x is p = absurd (cc)
-err_is (Err e) x is p = p
-
-ok_or_err : {T E : Type 0} (r : Result T E) → ((x : T) × (r ≡ Ok x)) ⊎ ((x : E) × (r ≡ Err x))
-ok_or_err (Ok y) = inl (y, refl)
-ok_or_err (Err e) = inr (e, refl)
-
-ok_by : {E : Type 0} (r : Result Bool E) (b u : Bool) → r ≡ Ok b → u ≡ result_unwrap_or r false → r ≡ Ok u
-ok_by (Ok x) b u is value = ap (λ (y : Bool). Ok y) (sym value)
-ok_by (Err e) b u is value = absurd (cc)
 
 pub returns-in-Ok-clause-did : goal.returns-in-Ok-clause-did
 returns-in-Ok-clause-did g c =
@@ -38,7 +20,7 @@ returns-in-Ok-clause-did g c =
     let e1 = c.gather-gathered.ensures in
     let e2 = c.flush-inner.ensures in
     let m = c.gather-gathered.new.port in
-    let v = gathered_view start m.tried.events m.faults m.put_faults m.writes in
+    let v = gathered_view start m.group.past.events m.faults m.put_faults m.writes in
     let new = g.P.Device.view c.flush-inner.result.inner in
     let h0 = c.args.server.now in
     let h1 = c.gather-gathered.new.server in
@@ -48,19 +30,25 @@ returns-in-Ok-clause-did g c =
     let next = c.gather-gathered.new.request in
     let whole = ok_is c.flush-inner.result.result _ c.in-Ok.is e2.whole in
     let well = gathered_well c.gather-gathered.result _ _ _ _ e0.faults e0.put_faults whole.0 whole.1 e1.failed in
-    let was = ok_by c.gather-gathered.result well.0 c.unwrap_or.result well.1 c.unwrap_or.ensures in
+    let was = ok_by c.gather-gathered.result well.0 c.unwrap_or.result false well.1 c.unwrap_or.ensures in
     let went_so = λ (told : g.P.Device.told).
     let at = ok_is c.gather-gathered.result _ well.1 (e1.at told) in
     let closed = ok_is c.gather-gathered.result _ well.1 (e1.closed told) in
     let flushed = ok_is c.flush-inner.result.result _ c.in-Ok.is (e2.done told) in
     let over = to_next (g.H.Handler.holds h1) (g.H.Handler.state h1) (g.met.H.GroupHandler.carried h1) v.reads new.reads at.1 closed flushed in
     went_flushed k (g.H.Handler.aside h0) start v new (λ s x y has. g.met.H.GroupHandler.alike s x y has) (λ x y has. g.met.H.GroupHandler.aside_alike h0 x y has) (g.H.Handler.state h0 (cleared start.reads)) (g.met.H.Handler.stands_now h0 (cleared start.reads) (c.requires.between told).held) (q ∷ done) []
-    (g.H.Handler.state h1 v.reads) _ e0.reads _ e0.sent _ (ap (λ x. g.H.Handler.state h0 x) e0.reads) (ok_is c.gather-gathered.result _ well.1 (e1.did.2 told)) (g.met.H.Handler.stands_now h1 v.reads at.1) closed (ok_is c.gather-gathered.result _ well.1 (e1.part told))
+    (g.H.Handler.state h1 v.reads) _ e0.reads _ e0.sent _ (ap (λ x. g.H.Handler.state h0 x) e0.reads) (ok_is c.gather-gathered.result _ well.1 (e1.did.2 told)).served (g.met.H.Handler.stands_now h1 v.reads at.1) closed (ok_is c.gather-gathered.result _ well.1 (e1.part told))
     (g.H.Handler.state h1 (cleared new.reads)) c.flush-inner.result.ring refl (e2.any_moment told) flushed (ok_is c.flush-inner.result.result _ c.in-Ok.is (e2.at told)) (ok_is c.flush-inner.result.result _ c.in-Ok.is (e2.sent told)) over.1 in (
       done,
       subst (λ r. HandsOut g.R.Protocol.spelling (λ x. g.R.Protocol.was_fed x c.args.protocol.now) (λ x. g.R.Protocol.was_fed x c.gather-gathered.new.protocol) c.args.intake.now c.gather-gathered.new.intake (done ++ waits_by r next)) was e1.did.1,
       λ told. turned_ok k (g.H.Handler.aside h0) _ _ _ start new (q ∷ done) (went_so told),
-      λ told. turns_ok k g.H.Handler.work (IsOfPort g.P.Device.view) _ _ _ (q ∷ done) (mark start) (mark new) (one_turn k g.H.Handler.work (IsOfPort g.P.Device.view) _ _ (q ∷ done) (mark start) (mark new) (c.flush-inner.result.inner, refl) (went_so told).served (inl e2.bounded)),
+      λ told.
+          let at = ok_is c.gather-gathered.result _ well.1 (e1.at told) in
+          let closed = ok_is c.gather-gathered.result _ well.1 (e1.closed told) in
+          let flushed = ok_is c.flush-inner.result.result _ c.in-Ok.is (e2.done told) in
+          let over = to_next (g.H.Handler.holds h1) (g.H.Handler.state h1) (g.met.H.GroupHandler.carried h1) v.reads new.reads at.1 closed flushed in
+          leaves_flushed k g.H.Handler.work _ (g.H.Handler.state h0 (cleared start.reads)) (g.H.Handler.state h1 v.reads) (g.H.Handler.state h1 (cleared new.reads)) _ start.sent v.sent new.sent (q ∷ done) (g.H.GroupHandler.owed h0) (g.H.GroupHandler.owed h1) c.gather-gathered.new.lacking
+          (ok_is c.gather-gathered.result _ well.1 (e1.did.2 told)) (ap (λ x. g.H.Handler.state h0 x) e0.reads) (sym over.1) e0.sent (sym (ok_is c.flush-inner.result.result _ c.in-Ok.is (e2.sent told))),
     )
 
 pub returns-in-Ok-clause-between : goal.returns-in-Ok-clause-between
@@ -70,7 +58,7 @@ returns-in-Ok-clause-between g c told =
     let e1 = c.gather-gathered.ensures in
     let e2 = c.flush-inner.ensures in
     let m = c.gather-gathered.new.port in
-    let v = gathered_view start m.tried.events m.faults m.put_faults m.writes in
+    let v = gathered_view start m.group.past.events m.faults m.put_faults m.writes in
     let new = g.P.Device.view c.flush-inner.result.inner in
     let h1 = c.gather-gathered.new.server in
     let whole = ok_is c.flush-inner.result.result _ c.in-Ok.is e2.whole in
@@ -91,7 +79,7 @@ returns-in-Err-clause-did g c =
     let e1 = c.gather-gathered.ensures in
     let e2 = c.flush-inner.ensures in
     let m = c.gather-gathered.new.port in
-    let v = gathered_view start m.tried.events m.faults m.put_faults m.writes in
+    let v = gathered_view start m.group.past.events m.faults m.put_faults m.writes in
     let new = g.P.Device.view c.flush-inner.result.inner in
     let h0 = c.args.server.now in
     let h1 = c.gather-gathered.new.server in
@@ -110,7 +98,7 @@ returns-in-Err-clause-did g c =
           (elim (ok_or_err c.gather-gathered.result) [
             | inl ok ↦
                 sent_by_flush k (g.H.Handler.aside h0) start v new (λ u x y has. g.met.H.GroupHandler.alike u x y has) (λ x y has. g.met.H.GroupHandler.aside_alike h0 x y has) s held (q ∷ done) more
-                (g.H.Handler.state h1 v.reads) _ e0.reads _ e0.sent _ (ap (λ x. g.H.Handler.state h0 x) e0.reads) (ok_is c.gather-gathered.result _ ok.1 (e1.did.2 told)) (g.met.H.Handler.stands_now h1 v.reads (ok_is c.gather-gathered.result _ ok.1 (e1.at told)).1) (ok_is c.gather-gathered.result _ ok.1 (e1.closed told)) (ok_is c.gather-gathered.result _ ok.1 (e1.part told))
+                (g.H.Handler.state h1 v.reads) _ e0.reads _ e0.sent _ (ap (λ x. g.H.Handler.state h0 x) e0.reads) (ok_is c.gather-gathered.result _ ok.1 (e1.did.2 told)).served (g.met.H.Handler.stands_now h1 v.reads (ok_is c.gather-gathered.result _ ok.1 (e1.at told)).1) (ok_is c.gather-gathered.result _ ok.1 (e1.closed told)) (ok_is c.gather-gathered.result _ ok.1 (e1.part told))
                 c.in-Err.fault (unsent_by c.flush-inner.result.result c.in-Err.fault c.in-Err.is (e2.unsent told)) (λ put. e2.put_sent told (c.in-Err.is ∙ ap (λ x. Err x) put))
             | inr bad ↦
                 sent_none k (status_by c.in-Err.fault) s start.sent new.sent (q ∷ (done ++ more)) (sent_given_up start new (g.met.P.Device.sound c.flush-inner.result.inner told)
@@ -119,12 +107,12 @@ returns-in-Err-clause-did g c =
           (elim (ok_or_err c.gather-gathered.result) [
             | inl ok ↦
                 left_flushed k (g.H.Handler.aside h0) start v new (λ u x y has. g.met.H.GroupHandler.alike u x y has) (λ x y has. g.met.H.GroupHandler.aside_alike h0 x y has) s held (q ∷ done) more
-                (g.H.Handler.state h1 v.reads) _ e0.reads _ e0.sent _ (ap (λ x. g.H.Handler.state h0 x) e0.reads) (ok_is c.gather-gathered.result _ ok.1 (e1.did.2 told)) (g.met.H.Handler.stands_now h1 v.reads (ok_is c.gather-gathered.result _ ok.1 (e1.at told)).1) (ok_is c.gather-gathered.result _ ok.1 (e1.closed told)) (ok_is c.gather-gathered.result _ ok.1 (e1.part told)) (e2.any_moment told)
+                (g.H.Handler.state h1 v.reads) _ e0.reads _ e0.sent _ (ap (λ x. g.H.Handler.state h0 x) e0.reads) (ok_is c.gather-gathered.result _ ok.1 (e1.did.2 told)).served (g.met.H.Handler.stands_now h1 v.reads (ok_is c.gather-gathered.result _ ok.1 (e1.at told)).1) (ok_is c.gather-gathered.result _ ok.1 (e1.closed told)) (ok_is c.gather-gathered.result _ ok.1 (e1.part told)) (e2.any_moment told)
             | inr bad ↦
                 left_given_up k (g.H.Handler.aside h0) start v new (λ u x y has. g.met.H.GroupHandler.alike u x y has) (λ x y has. g.met.H.GroupHandler.aside_alike h0 x y has) s held (q ∷ done) more
                 (e2.given_up told (gathered_badly _ _ _ _ e0.faults e0.put_faults (err_is c.gather-gathered.result _ bad.1 e1.failed)))
           ]),
-      λ told. turns_none k g.H.Handler.work (IsOfPort g.P.Device.view) _ _ _ (q ∷ (done ++ more)) _ _,
+      λ told. tt,
     )
 
 pub returns-in-Ok-clause-read : goal.returns-in-Ok-clause-read
@@ -133,5 +121,13 @@ returns-in-Ok-clause-read g c =
     let e1 = c.gather-gathered.ensures in
     let whole = ok_is c.flush-inner.result.result _ c.in-Ok.is c.flush-inner.ensures.whole in
     let well = gathered_well c.gather-gathered.result _ _ _ _ e0.faults e0.put_faults whole.0 whole.1 e1.failed in
-    let was = ok_by c.gather-gathered.result well.0 c.unwrap_or.result well.1 c.unwrap_or.ensures in
+    let was = ok_by c.gather-gathered.result well.0 c.unwrap_or.result false well.1 c.unwrap_or.ensures in
     ok_is_if (λ waits. waits ≡ false → c.args.intake.now.over ≡ false → unread c.gather-gathered.new.intake ≡ []) c.gather-gathered.result c.unwrap_or.result was e1.read
+
+pub returns-in-Ok-clause-lacks : goal.returns-in-Ok-clause-lacks
+returns-in-Ok-clause-lacks g c =
+    let e0 = c.new-gathering.ensures in
+    let e1 = c.gather-gathered.ensures in
+    let whole = ok_is c.flush-inner.result.result _ c.in-Ok.is c.flush-inner.ensures.whole in
+    let well = gathered_well c.gather-gathered.result _ _ _ _ e0.faults e0.put_faults whole.0 whole.1 e1.failed in
+    ok_is c.gather-gathered.result _ well.1 e1.lacks

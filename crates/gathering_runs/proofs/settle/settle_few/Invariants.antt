@@ -1,10 +1,10 @@
-use Rattle.std.proofs.Common.{◌≡◌}
+use Rattle.std.proofs.Common.{◌≡◌, ◌≤◌, ◌+◌}
 use Rattle.serving.specs.Handling.{FitsDevice}
 use Rattle.intent_journal.specs.Records.{AreClosed}
 use Rattle.gathering_runs.proofs.settle.settle_few.Given as goal
 
-abbrev pub invariant-loop-step : goal.invariant-loop-step
-invariant-loop-step g l =
+abbrev pub invariant-loop-made : goal.invariant-loop-made
+invariant-loop-made g l =
     let view = g.G.Device.view in
     let start = view l.initial.port in
     record {
@@ -17,4 +17,6 @@ invariant-loop-step g l =
       part : g.G.Device.told → g.H.Handler.aside l.initial.server (view l.port).reads ≡ g.H.Handler.aside l.initial.server start.reads;
       faults : (view l.port).faults ≡ start.faults;
       put_faults : (view l.port).put_faults ≡ start.put_faults;
+      -- each step lowered what is left
+      less : g.H.GroupHandler.owed l.server + l.made ≤ g.H.GroupHandler.owed l.initial.server;
     }

@@ -13,7 +13,7 @@ use Rattle.serving.specs.Goes.{unread}
 use Rattle.gathering_runs.proofs.Outcome.{counts_ok, ok_is, ok_is_if}
 use Rattle.serving.specs.Prompt.{IsOfPort, mark}
 use Rattle.gathering_runs.specs.ByTurns.{AnswersByTurns}
-use Rattle.gathering_runs.proofs.ByTurns.{AllTurns, all_then, all_turns, no_turns, turns_ok, turns_stopped}
+use Rattle.gathering_runs.proofs.ByTurns.{AllTurns, no_turns, turn_then, turns_err, turns_ok}
 use Rattle.gathering_runs.proofs.Turning.{Went, left_then, sent_turned, turned_err, turned_ok, went, went_between, went_then}
 use Rattle.gathering_runs.proofs.turns.serve_in_hand.Goals as goal
 
@@ -33,7 +33,7 @@ loop-disk-init g c = record {
     λ told.
         let b = c.requires.between told in
         went_between (spoken g.H.Handler.rules g.R.Replies.voice) (g.H.Handler.aside c.args.server.now) (λ s x y has. g.met.H.GroupHandler.alike s x y has) _ (g.P.Device.view c.args.disk.port) c.args.disk.ring (g.met.P.Device.sound c.args.disk.port told) b.firm b.ring_at (g.met.H.Handler.stands_now c.args.server.now _ b.held),
-    λ told. no_turns (spoken g.H.Handler.rules g.R.Replies.voice) g.H.Handler.work (IsOfPort g.P.Device.view) _ _ _ _ refl refl,
+    λ told. no_turns (spoken g.H.Handler.rules g.R.Replies.voice) g.H.Handler.work g.H.GroupHandler.may_wait (IsOfPort g.P.Device.view) _ _ _ _ refl refl,
   );
 }
 
@@ -69,8 +69,8 @@ loop-disk-preserved g c =
             (went k (g.H.Handler.aside c.args.server.now) r true _ _ _ _ (c.loop-disk.request ∷ did.0) ok
             (subst (λ (p : Image → Image). Turned r k p (g.H.Handler.state c.loop-disk.server (cleared (g.P.Device.view c.loop-disk.disk.port).reads)) (g.H.Handler.state c.serve_turn-left.new.server (cleared (g.P.Device.view c.serve_turn-left.result.0.port).reads)) (g.P.Device.view c.loop-disk.disk.port) (g.P.Device.view c.serve_turn-left.result.0.port) (c.loop-disk.request ∷ did.0)) i.aside (did.2 told))),
         λ told.
-            all_then k g.H.Handler.work (IsOfPort g.P.Device.view) (g.H.Handler.state c.args.server.now (cleared (g.P.Device.view c.args.disk.port).reads)) (g.H.Handler.state c.loop-disk.server (cleared (g.P.Device.view c.loop-disk.disk.port).reads)) (g.H.Handler.state c.serve_turn-left.new.server (cleared (g.P.Device.view c.serve_turn-left.result.0.port).reads)) was.0 (c.loop-disk.request ∷ did.0) (mark (g.P.Device.view c.args.disk.port)) (mark (g.P.Device.view c.loop-disk.disk.port)) (mark (g.P.Device.view c.serve_turn-left.result.0.port)) (was.5 told)
-            (all_turns k g.H.Handler.work (IsOfPort g.P.Device.view) r true _ _ (c.loop-disk.request ∷ did.0) _ _ ok (did.3 told)),
+            turn_then k g.H.Handler.work g.H.GroupHandler.may_wait (IsOfPort g.P.Device.view) (g.H.Handler.state c.args.server.now (cleared (g.P.Device.view c.args.disk.port).reads)) (g.H.Handler.state c.loop-disk.server (cleared (g.P.Device.view c.loop-disk.disk.port).reads)) (g.H.Handler.state c.serve_turn-left.new.server (cleared (g.P.Device.view c.serve_turn-left.result.0.port).reads)) was.0 (c.loop-disk.request ∷ did.0) (mark (g.P.Device.view c.args.disk.port)) (mark (g.P.Device.view c.loop-disk.disk.port)) (mark (g.P.Device.view c.serve_turn-left.result.0.port)) (was.5 told)
+            (ok_is r true ok (did.3 told)),
       );
     }
 
@@ -106,9 +106,9 @@ returns-in-Ok-false-clause-did g c =
           (went_then k part s0 s1 s2 v0 v1 v2 was.0 (q ∷ did.0) (was.4 told)
           (went k part r false s1 s2 v1 v2 (q ∷ did.0) ok (subst (λ (p : Image → Image). Turned r k p s1 s2 v1 v2 (q ∷ did.0)) i.aside (did.2 told))))),
       λ told.
-          turns_ok k g.H.Handler.work (IsOfPort g.P.Device.view) tt s0 s2 (c.args.request.now ∷ (was.1 ++ did.0)) (mark v0) (mark v2)
-          (subst (λ l. AllTurns k g.H.Handler.work (IsOfPort g.P.Device.view) s0 s2 l (mark v0) (mark v2)) (sym (behind_first c.args.request.now q was.1 was.0 did.0 was.2))
-          (all_then k g.H.Handler.work (IsOfPort g.P.Device.view) s0 s1 s2 was.0 (q ∷ did.0) (mark v0) (mark v1) (mark v2) (was.5 told) (all_turns k g.H.Handler.work (IsOfPort g.P.Device.view) r false s1 s2 (q ∷ did.0) (mark v1) (mark v2) ok (did.3 told)))),
+          turns_ok k g.H.Handler.work g.H.GroupHandler.may_wait (IsOfPort g.P.Device.view) tt s0 s2 (c.args.request.now ∷ (was.1 ++ did.0)) (mark v0) (mark v2)
+          (subst (λ l. AllTurns k g.H.Handler.work g.H.GroupHandler.may_wait (IsOfPort g.P.Device.view) s0 s2 l (mark v0) (mark v2)) (sym (behind_first c.args.request.now q was.1 was.0 did.0 was.2))
+          (turn_then k g.H.Handler.work g.H.GroupHandler.may_wait (IsOfPort g.P.Device.view) s0 s1 s2 was.0 (q ∷ did.0) (mark v0) (mark v1) (mark v2) (was.5 told) (ok_is r false ok (did.3 told)))),
     )
 
 pub returns-in-Err-clause-did : goal.returns-in-Err-clause-did
@@ -143,8 +143,8 @@ returns-in-Err-clause-did g c =
           (subst (λ l. ∥ LeavesOnly v0 v2 (IsLeftByRun k part s0 v0 l) ∥₁) (sym (behind_first c.args.request.now q was.1 was.0 did.0 was.2))
           (left_then k part s0 s1 v0 v1 v2 was.0 (q ∷ did.0) (was.4 told) (subst (λ (p : Image → Image). Turned r k p s1 s2 v1 v2 (q ∷ did.0)) i.aside (did.2 told)).any_moment)),
       λ told.
-          subst (λ l. AnswersByTurns {T = Unit {0}} (Err c.in-Err.why) k g.H.Handler.work (IsOfPort g.P.Device.view) s0 s2 l (mark v0) (mark v2)) (sym (behind_first c.args.request.now q was.1 was.0 did.0 was.2))
-          (turns_stopped k g.H.Handler.work (IsOfPort g.P.Device.view) r c.in-Err.why s0 s1 s2 was.0 (q ∷ did.0) (mark v0) (mark v1) (mark v2) c.in-Err.is (was.5 told) (did.3 told)),
+          subst (λ l. AnswersByTurns {T = Unit {0}} (Err c.in-Err.why) k g.H.Handler.work g.H.GroupHandler.may_wait (IsOfPort g.P.Device.view) s0 s2 l (mark v0) (mark v2)) (sym (behind_first c.args.request.now q was.1 was.0 did.0 was.2))
+          (turns_err k g.H.Handler.work g.H.GroupHandler.may_wait (IsOfPort g.P.Device.view) c.in-Err.why s0 s1 s2 was.0 (q ∷ did.0) (mark v0) (mark v1) (mark v2) (was.5 told)),
     )
 
 pub returns-in-Ok-false-clause-read : goal.returns-in-Ok-false-clause-read

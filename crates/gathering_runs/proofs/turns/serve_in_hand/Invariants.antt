@@ -23,7 +23,7 @@ invariant-loop-disk g l =
       goes : (gone more : List Request) × (l.initial.request ∷ more ≡ gone ++ l.request ∷ [])
           × HandsOut g.R.Protocol.spelling (λ x. g.R.Protocol.was_fed x l.initial.protocol) (λ x. g.R.Protocol.was_fed x l.protocol) l.initial.intake l.intake more
           × (g.P.Device.told → Went (spoken g.H.Handler.rules g.R.Replies.voice) (g.H.Handler.aside l.initial.server) (g.H.Handler.state l.initial.server (cleared start.reads)) (g.H.Handler.state l.server (cleared (view l.disk.port).reads)) start (view l.disk.port) gone)
-          × (g.P.Device.told → AllTurns (spoken g.H.Handler.rules g.R.Replies.voice) g.H.Handler.work (IsOfPort view) (g.H.Handler.state l.initial.server (cleared start.reads)) (g.H.Handler.state l.server (cleared (view l.disk.port).reads)) gone (mark start) (mark (view l.disk.port)));
+          × (g.P.Device.told → AllTurns (spoken g.H.Handler.rules g.R.Replies.voice) g.H.Handler.work g.H.GroupHandler.may_wait (IsOfPort view) (g.H.Handler.state l.initial.server (cleared start.reads)) (g.H.Handler.state l.server (cleared (view l.disk.port).reads)) gone (mark start) (mark (view l.disk.port)));
     }
 
 abbrev pub decreases-loop-disk : goal.decreases-loop-disk

@@ -6,6 +6,7 @@ use Rattle.serving.specs.Prompt.{IsOfPort}
 use Rattle.image_runs.specs.Served.{disk_service}
 use Rattle.image_runs.specs.Server.{disk_work}
 use Rattle.gathering_runs.proofs.Rounds.{ran_over}
+use Rattle.image_groups.specs.Waiting.{MayWait}
 use Rattle.image_groups.proofs.Opened.{of_same, ran_alike}
 use Rattle.recovery.specs.Opening.{SparesDamaged}
 use Rattle.image_groups.proofs.on_port.serve_loan.Goals as goal
@@ -37,7 +38,8 @@ returns-clause-rounds g c told =
       opened = ran.opened;
       of_port = (ran.of_port.0.loan.port.now, ran.of_port.1);
       nothing_sent = ran.nothing_sent;
-      rounds = ran_over (disk_service g.R.Replies.voice) disk_work _ (IsOfPort view) (λ m here. (here.0.loan.port.now, here.1)) r g.R.Protocol.spelling c.args.limit _ source _ _ ran.rounds;
+      rounds = ran_over (disk_service g.R.Replies.voice) disk_work MayWait _ (IsOfPort view) (λ m here. (here.0.loan.port.now, here.1)) r g.R.Protocol.spelling c.args.limit _ source _ _ ran.rounds;
+      nothing_left = ran.nothing_left;
     })
 
 pub returns-clause-spared : goal.returns-clause-spared

@@ -1,4 +1,4 @@
-use Rattle.std.proofs.Common.{inl, inr, ℕ, [], refl, sym, ◌∙◌, ap, subst, append-nil}
+use Rattle.std.proofs.Common.{inl, inr, ℕ, [], refl, sym, ◌∙◌, ap, subst, arith, append-nil}
 use Rattle.std.specs.Prelude.{Err}
 use Rattle.image_runs.proofs.Common.{Rose, Status, behind}
 use Rattle.image_runs.proofs.Behind.{size_of_core}
@@ -11,7 +11,8 @@ use Rattle.image_runs.specs.Served.{disk_service, start_of}
 use Rattle.image_runs.specs.Server.{disk_work}
 use Rattle.gathering_runs.specs.Rounds.{RanByRounds}
 use Rattle.gathering_runs.proofs.Rounds.{near_none, ran_by_rounds, so_far_none, take_none}
-use Rattle.image_groups.proofs.Opened.{behind_opened, ends_opened, ends_unopened, judged_groups, ok_no_err}
+use Rattle.image_groups.specs.Waiting.{MayWait}
+use Rattle.image_groups.proofs.Opened.{behind_opened, ends_opened, ends_unopened, judged_groups, not_unopened, ok_no_err}
 use Rattle.image_groups.proofs.run.serve_image_in_groups.Goals as goal
 
 pub returns-in-Ok-clause-read : goal.returns-in-Ok-clause-read
@@ -113,8 +114,9 @@ returns-in-Ok-clause-rounds g c told =
       opened = mark mid;
       of_port = (c.open_core.new.dev, refl);
       nothing_sent = c.open_core.ensures.sent told;
-      rounds = subst (λ (s : Placed). RanByRounds r (disk_service g.R.Replies.voice) disk_work (IsOfPort g.P.Device.view) g.R.Protocol.spelling c.args.limit s source (mark mid) (mark (g.P.Device.view c.serve_in_groups.result.0)))
+      rounds = subst (λ (s : Placed). RanByRounds r (disk_service g.R.Replies.voice) disk_work MayWait (IsOfPort g.P.Device.view) g.R.Protocol.spelling c.args.limit s source (mark mid) (mark (g.P.Device.view c.serve_in_groups.result.0)))
           (placed_at c.args.placement.now.kind c.in-Ok.core mid.reads _ (c.in-Ok.ensures.state told)) (c.serve_in_groups.ensures.rounds told);
+      nothing_left = inl (c.in-Ok.ensures.settled told);
     }
 
 pub returns-in-Err-clause-rounds : goal.returns-in-Err-clause-rounds
@@ -128,6 +130,7 @@ returns-in-Err-clause-rounds g c told =
       opened = m;
       of_port = (c.open_core.new.dev, refl);
       nothing_sent = c.open_core.ensures.sent told;
-      rounds = ran_by_rounds k disk_work port p c.args.limit c.in-Err.why s s s _ [] [] [] [] m m m m (so_far_none k disk_work port p c.args.limit s s m.sent m (c.open_core.new.dev, refl) refl refl)
-          (record { taken = λ tells. sym (append-nil _); left = λ tells. refl }) (near_none p c.args.limit g.met.R.Protocol.lawful.none (take_none c.args.limit)) (refl, refl) (λ cut. refl);
+      rounds = ran_by_rounds k disk_work MayWait port p c.args.limit c.in-Err.why s s s _ [] [] [] [] m m m m (so_far_none k disk_work MayWait port p c.args.limit s s m.sent (disk_work.debt m.reads) m (c.open_core.new.dev, refl) refl (omega arith) refl)
+          (record { taken = λ tells. sym (append-nil _); left = λ tells. refl }) (near_none p c.args.limit g.met.R.Protocol.lawful.none (take_none c.args.limit)) (refl, refl) (λ cut. refl) (λ is. absurd (not_unopened c.in-Err.why c.in-Err.ensures.stops is));
+      nothing_left = inr (refl, refl);
     }

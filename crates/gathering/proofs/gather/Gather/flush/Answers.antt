@@ -1,31 +1,29 @@
-use Rattle.std.proofs.Common.{◌<◌, ◌⊎◌, inl, inr, ⊎_elim, ℕ, List, sym, ◌∙◌, subst, arith, rules}
+use Rattle.std.proofs.Common.{⊎_elim, ℕ, List, refl, sym, ◌∙◌, subst, arith}
 use Rattle.std.proofs.lemmas.Result.{on_ok_weaker}
 use Rattle.gathering.specs.Gathered.{ArePut, gathered_view}
 use Rattle.gathering.proofs.Flushing.{between, few_writes, given_up, grouped, left_alone, net_home}
-use Rattle.gathering.proofs.Straying.{why_no_room}
 use Rattle.gathering.proofs.gather.Gather.flush.Goals as goal
-use Rattle.gathering.proofs.gather.Gather.flush.Goals.{then-faults-gt0-via-then-faults-gt0, then-faults-gt0-via-else-faults-gt0+then-put_faults-gt0}
 
 pub returns-clause-done : goal.returns-clause-done
 returns-clause-done g c told =
     let m = c.args.self in
-    on_ok_weaker c.flush_to-result.result (λ done n out. done n out ∙ net_home g.K.Began.start m.group.past.events m.group.batch m.group.net (g.P.Device.view m.inner).reads (m.reads told) n out ∙ (λ i. sym m.alike.reads i n)) (c.flush_to-result.ensures.done told)
+    on_ok_weaker c.flush_to-result.result (λ done n out. done n out ∙ net_home g.K.Began.start m.group.past.events m.group.batch m.group.net (g.P.Device.view m.inner).reads (m.reads told) n out) (c.flush_to-result.ensures.done told)
 
 pub returns-clause-any_moment : goal.returns-clause-any_moment
 returns-clause-any_moment g c told =
     let m = c.args.self in
     let puts = subst (λ (w : List ℕ). ArePut m.group.past.events w) (sym c.as_slice.ensures.value) m.group.waits in
-    grouped g.K.Began.start m.group.past.events m.group.batch m.group.net m.ring c.as_slice.result.now puts (gathered_view g.K.Began.start m.tried.events m.faults m.put_faults m.writes) (g.P.Device.view m.inner) _ m.alike.reads m.alike.sent (m.firm told) (m.at told) (m.reads told) (m.loose told) (m.sent told) (m.leaves told) (c.flush_to-result.ensures.any_moment told)
+    grouped g.K.Began.start m.group.past.events m.group.batch m.group.net m.ring c.as_slice.result.now puts (gathered_view g.K.Began.start m.group.past.events m.faults m.put_faults m.writes) (g.P.Device.view m.inner) _ refl refl (m.firm told) (m.at told) (m.reads told) (m.loose told) (m.sent told) (m.leaves told) (c.flush_to-result.ensures.any_moment told)
 
 pub returns-then-device_failed-clause-any_moment : goal.returns-then-device_failed-clause-any_moment
 returns-then-device_failed-clause-any_moment g c told =
     let m = c.args.self in
-    given_up g.K.Began.start m.group.past.events m.group.batch m.group.net m.ring m.group.waiting.items m.group.waits (gathered_view g.K.Began.start m.tried.events m.faults m.put_faults m.writes) (g.P.Device.view m.inner) (g.P.Device.view m.inner) m.alike.reads m.alike.sent (m.firm told) (m.at told) (m.reads told) (m.loose told) (m.sent told) (m.leaves told)
+    given_up g.K.Began.start m.group.past.events m.group.batch m.group.net m.ring m.group.waiting.items m.group.waits (gathered_view g.K.Began.start m.group.past.events m.faults m.put_faults m.writes) (g.P.Device.view m.inner) (g.P.Device.view m.inner) refl refl (m.firm told) (m.at told) (m.reads told) (m.loose told) (m.sent told) (m.leaves told)
 
 pub returns-then-faults-gt0-clause-any_moment : goal.returns-then-faults-gt0-clause-any_moment
 returns-then-faults-gt0-clause-any_moment g c told =
     let m = c.args.self in
-    given_up g.K.Began.start m.group.past.events m.group.batch m.group.net m.ring m.group.waiting.items m.group.waits (gathered_view g.K.Began.start m.tried.events m.faults m.put_faults m.writes) (g.P.Device.view m.inner) (g.P.Device.view m.inner) m.alike.reads m.alike.sent (m.firm told) (m.at told) (m.reads told) (m.loose told) (m.sent told) (m.leaves told)
+    given_up g.K.Began.start m.group.past.events m.group.batch m.group.net m.ring m.group.waiting.items m.group.waits (gathered_view g.K.Began.start m.group.past.events m.faults m.put_faults m.writes) (g.P.Device.view m.inner) (g.P.Device.view m.inner) refl refl (m.firm told) (m.at told) (m.reads told) (m.loose told) (m.sent told) (m.leaves told)
 
 pub returns-then-device_failed-clause-given_up : goal.returns-then-device_failed-clause-given_up
 returns-then-device_failed-clause-given_up g c told fails =
@@ -40,13 +38,13 @@ returns-then-faults-gt0-clause-given_up g c told fails =
 pub returns-clause-put_done : goal.returns-clause-put_done
 returns-clause-put_done g c told is n out =
     let m = c.args.self in
-    c.flush_to-result.ensures.put_done told is n out ∙ net_home g.K.Began.start m.group.past.events m.group.batch m.group.net (g.P.Device.view m.inner).reads (m.reads told) n out ∙ (λ i. sym m.alike.reads i n)
+    c.flush_to-result.ensures.put_done told is n out ∙ net_home g.K.Began.start m.group.past.events m.group.batch m.group.net (g.P.Device.view m.inner).reads (m.reads told) n out
 
 pub returns-clause-put_sent : goal.returns-clause-put_sent
 returns-clause-put_sent g c told is =
     let m = c.args.self in
     let puts = subst (λ (w : List ℕ). ArePut m.group.past.events w) (sym c.as_slice.ensures.value) m.group.waits in
-    between g.K.Began.start m.group.past.events c.as_slice.result.now puts (g.P.Device.view m.inner) (m.sent told) _ m.alike.sent _ (c.flush_to-result.ensures.put_sent told is)
+    between g.K.Began.start m.group.past.events c.as_slice.result.now puts (g.P.Device.view m.inner) (m.sent told) _ refl _ (c.flush_to-result.ensures.put_sent told is)
 
 pub returns-clause-unsent : goal.returns-clause-unsent
 returns-clause-unsent g c told which = ⊎_elim
@@ -60,12 +58,3 @@ returns-clause-bounded g c =
     let few = few_writes _ c.flush_to-result.ensures.fits in
     let before = c.args.self.counts.most in
     omega (arith, most, few, before)
-
-pub returns-then-faults-gt0-clause-room_why : goal.returns-then-faults-gt0-clause-room_why
-returns-then-faults-gt0-clause-room_why g c is =
-    let m = c.args.self in
-    let failed : (0 < m.faults) ⊎ (0 < m.put_faults) = elim c.then-faults-gt0.branch [
-      | then-faults-gt0-via-then-faults-gt0 w ↦ inl (search rules)
-      | then-faults-gt0-via-else-faults-gt0+then-put_faults-gt0 w ↦ inr (search rules)
-    ] in
-    why_no_room (gathered_view g.K.Began.start m.tried.events m.faults m.put_faults m.writes) g.K.Began.homes m.stray m.astray (m.why c.if-device_failed.false) failed

@@ -19,5 +19,5 @@ invariant_of-self-clause-waits c =
     let m = c.args.self.now in
     waits_kept m.past.events _ (Write c.args.sector (boxed c.args.from.now)) c.of-self.ensures (λ s. refl) m.waiting.items m.waits
 
-pub returns-clause-kept : goal.returns-clause-kept
-returns-clause-kept c = (boxed c.args.from.now, refl, c.of-self.ensures)
+pub returns : goal.returns
+returns c = (boxed c.args.from.now, refl, c.of-self.ensures)

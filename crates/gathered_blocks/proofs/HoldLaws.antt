@@ -1,0 +1,111 @@
+-- What a core does on a disk in memory, said of the device below it.
+use Rattle.image_device.specs.Image.{zeros}
+use Rattle.std.proofs.Common.{◌≡◌, ◌⊎◌, inl, inr, ⊎_elim, ℕ, zero, suc, cond, ◌+◌, ◌≤◌, ◌<◌, true, false, Bool, List, [], ◌∷◌, length, refl, sym, ◌∙◌, ap, subst, arith}
+use Rattle.std.proofs.Math.Logic.{∥∥₁_elim}
+use Rattle.std.specs.Prelude.{Result, Ok, Err, OnOk, OnErr}
+use Rattle.tsd_model.specs.World.{World}
+use Rattle.tsd_model.specs.Step.{State}
+use Rattle.tsd_model.specs.declared.geometry.Geometry.{Geometry}
+use Rattle.image_device.specs.View.{IsLeftNow, IsSound, View}
+use Rattle.image_device.specs.Runs.{IsFirm, LeavesOnly, LeavesPart}
+use Rattle.image_device.proofs.Moments.{ends_in, firm_image, joined, weakened}
+use Rattle.image_layout.specs.Areas.{total}
+use Rattle.image_layout.specs.Image.{Image}
+use Rattle.image_layout.specs.Ring.{records}
+use Rattle.image_layout.specs.declared.offset.Patch.{Patch}
+use Rattle.intent_journal.specs.Crash.{IsAfter, IsBefore, IsBeforeOrAfter}
+use Rattle.intent_journal.specs.Home.{home, overlaid, is_journal, AgreeBut}
+use Rattle.intent_journal.specs.Records.{AreClosed, JournalRecord, open_records}
+use Rattle.intent_journal.specs.Ring.{IsRingAt}
+use Rattle.intent_journal.proofs.Overlays.{overlaid_alike}
+use Rattle.intent_journal.proofs.Uses.{at_kept, at_valid}
+use Rattle.image_world.specs.Behind.{behind}
+use Rattle.image_world.specs.Faults.{IsGood}
+use Rattle.image_world.specs.Stands.{Stands, world_of}
+use Rattle.image_world.proofs.AgreeLaws.{before_outside, before_stands}
+use Rattle.image_world.proofs.WrittenLaws.{above_journal}
+use Rattle.gathering.specs.Gathered.{cleared, gone_on}
+use Rattle.gathering.specs.Left.{IsHomeOf}
+use Rattle.gathering.proofs.Closed.{cleared_closed, cleared_home, closed_home, closed_ring}
+use Rattle.gathering_laws.proofs.Alike.{carries_over, closed_alike}
+use Rattle.tsd_core.specs.Core.{Core, FitsReads, state_on}
+use Rattle.gathered_blocks.specs.Held.{IsInMemory, StandsForAny, held_state}
+
+-- ---- disks with closed journals
+
+-- what a core with an empty ring fits has a closed journal
+pub fits_closed : (c : Core) (x : Image) → c.volume.ring ≡ [] → FitsReads c x → AreClosed x
+fits_closed c x empty fits index less = fits.others_closed index (subst (λ (rs : List JournalRecord). length rs ≤ index) (sym empty) (omega arith)) less
+
+-- a core fits each disk with a closed journal that reads the same outside it, in the same state
+pub fits_over : (c : Core) (x y : Image) → FitsReads c x → AreClosed x → AreClosed y → AgreeBut is_journal x y → FitsReads c y × (state_on c y ≡ state_on c x)
+fits_over c x y fits closed shut agrees =
+    let over = carries_over x y fits.good closed shut agrees in
+    let none : open_records x ≡ [] = (closed_ring x closed).shows in (
+      record { shows = over.ring ∙ sym none ∙ fits.shows; others_closed = λ index from less. shut index less; good = over.good; tables = over.tables ∙ fits.tables },
+      ap (λ (w : World). state_on_world w) over.world,
+    )
+  where
+    state_on_world : World → State
+    state_on_world w = record { world = w; sessions = (state_on c x).sessions }
+
+-- what lies behind an image with a closed journal is what it reads there
+pub behind_closed : (g : Geometry) (x y : Image) → AreClosed x → AreClosed y → AgreeBut is_journal x y → behind g y ≡ behind g x
+behind_closed g x y closed shut agrees i n =
+    ((λ j. closed_home y shut j (total g + n)) ∙ agrees (total g + n) (above_journal (total g + n) (omega arith)) ∙ (λ j. sym (closed_home x closed) j (total g + n))) i
+
+-- a device that nothing was gathered for
+pub cleared_aside : (g : Geometry) (x : Image) → behind g (cleared x) ≡ behind g x
+cleared_aside g x i n = cleared_home x (total g + n) (above_journal (total g + n) (omega arith)) i
+
+-- ---- a commit
+
+module _ (c : Core) (rs : List JournalRecord) (batch : List Patch) (v : View) (empty : c.volume.ring ≡ []) (at : IsInMemory c rs batch v) where
+  held : Image
+  held = gone_on batch v.reads
+
+  held_closed : AreClosed (gone_on batch v.reads)
+  held_closed = fits_closed c (gone_on batch v.reads) empty at.fits
+
+  held_stands : Stands (gone_on batch v.reads) (world_of (gone_on batch v.reads))
+  held_stands = record { good = at.fits.good; world = refl }
+
+  -- in place on the home of the device the batch gives what the disk in memory reads
+  placed : (n : ℕ) → is_journal n ≡ false → overlaid batch (home v.reads) n ≡ gone_on batch v.reads n
+  placed n out = overlaid_alike batch (cleared v.reads) (home v.reads) n (λ missed. sym (ap (λ b. cond b zeros (home v.reads n)) out))
+
+  -- an image that a commit leaves
+  pub commit_left : (next : World) (x : Image) → IsBeforeOrAfter batch v x → StandsForAny (world_of v.reads) (world_of (gone_on batch v.reads)) next x
+  commit_left next x (inl before) = inl (before_stands v x at.firm at.good before)
+  commit_left next x (inr whole) =
+      inr (inl (closed_alike (gone_on batch v.reads) x (world_of (gone_on batch v.reads)) held_stands held_closed (record { valid = whole.valid; stands = λ n out. whole.stands n out ∙ placed n out })))
+
+  pub commit_behind : (x : Image) → IsBeforeOrAfter batch v x → behind c.volume.tables.geometry x ≡ behind c.volume.tables.geometry v.reads
+  commit_behind x (inl before) i n = before_outside v x at.firm before (total c.volume.tables.geometry + n) (above_journal (total c.volume.tables.geometry + n) (omega arith)) i
+  commit_behind x (inr whole) = (λ i n. here n i) ∙ at.aside
+    where
+      here : (n : ℕ) → home x (total c.volume.tables.geometry + n) ≡ home (gone_on batch v.reads) (total c.volume.tables.geometry + n)
+      here n =
+          let at : ℕ = total c.volume.tables.geometry + n in
+          let out : is_journal (total c.volume.tables.geometry + n) ≡ false = above_journal (total c.volume.tables.geometry + n) (omega arith) in
+          whole.stands (total c.volume.tables.geometry + n) out ∙ placed (total c.volume.tables.geometry + n) out ∙ (λ j. sym (closed_home (gone_on batch v.reads) held_closed) j (total c.volume.tables.geometry + n))
+
+  -- after it
+  module _ (w : View) (ring : List JournalRecord) (firm : IsFirm w) (ringed : IsRingAt ring w) (done : AgreeBut is_journal (overlaid batch (home v.reads)) (home w.reads)) where
+    agrees : AgreeBut is_journal (gone_on batch v.reads) (cleared w.reads)
+    agrees n out = ap (λ b. cond b zeros (home w.reads n)) out ∙ done n out ∙ placed n out
+
+    over : FitsReads c (cleared w.reads) × (state_on c (cleared w.reads) ≡ state_on c (gone_on batch v.reads))
+    over = fits_over c (gone_on batch v.reads) (cleared w.reads) at.fits held_closed (cleared_closed w.reads) agrees
+
+    now_stands : Stands w.reads (world_of (gone_on batch v.reads))
+    now_stands = closed_alike (gone_on batch v.reads) w.reads (world_of (gone_on batch v.reads)) held_stands held_closed (record { valid = at_valid ringed; stands = λ n out. done n out ∙ placed n out })
+
+    pub committed_at : IsInMemory c ring [] w
+    committed_at = record { firm = firm; ring = ringed; good = now_stands.good; fits = over.0; aside = cleared_aside c.volume.tables.geometry w.reads }
+
+    pub committed_state : held_state c [] w ≡ held_state c batch v
+    committed_state = over.1
+
+    pub committed_base : world_of w.reads ≡ world_of (gone_on batch v.reads)
+    committed_base = sym now_stands.world

@@ -1,0 +1,4 @@
+pub mod AskedLaws
+pub mod AskLeaves
+pub mod HoldLaws
+pub mod BoundLaws

@@ -1,4 +1,0 @@
-use Rattle.gathering_runs.proofs.turns.serve_turn.Given as goal
-
-abbrev pub ghosts-serve_group : goal.ghosts-serve_group
-ghosts-serve_group g a = record { start = g.P.Device.view a.disk.port; homes = 0 }
