@@ -1,6 +1,9 @@
 -- How often a request writes at most, with its records in place behind it.
-use Rattle.std.proofs.Common.{◌≡◌, ◌⊎◌, ℕ, ◌+◌, ◌*◌, ◌≤◌, ◌==◌, ◌<◌, true, false, cond, List, [], ◌∷◌, length, refl, sym, ◌∙◌, ap, subst, arith}
-use Rattle.std.specs.Prelude.{Result, Ok, OnOk}
+use Rattle.std.proofs.Common.{◌≡◌, ◌⊎◌, inl, inr, ℕ, ◌+◌, ◌*◌, ◌≤◌, ◌==◌, ◌<◌, true, false, cond, List, [], ◌∷◌, length, refl, sym, ◌∙◌, ap, subst, arith}
+use Rattle.std.specs.Prelude.{Result, Ok, OnOk, IsTrue, ◌↔◌, not, Bool, nat_lt, suc, zero}
+use Rattle.tsd_model.specs.declared.geometry.Geometry.{Geometry}
+use Rattle.image_world.specs.Tables.{pairs_of}
+use Rattle.volume_laws.proofs.Pointed.{settled_pairs}
 use Rattle.std.proofs.lemmas.Bool.{cases_Bool}
 use Rattle.std.proofs.lemmas.Bool.Decides.{nat_tests}
 use Rattle.tsd_model.specs.declared.requests.Request.{Request}
@@ -12,7 +15,7 @@ use Rattle.intent_journal.specs.Ring.{checkpoint_writes, committed, is_full_for}
 use Rattle.intent_journal.proofs.Costs.{checkpoint_added}
 use Rattle.image_world.specs.Debt.{owed}
 use Rattle.volume_laws.specs.Rings.{batch_writes, CommitsOnce, HasBatch}
-use Rattle.volume_laws.specs.Volume.{Volume}
+use Rattle.volume_laws.specs.Volume.{told_by, IsVolumeReady, Volume}
 use Rattle.volume_laws.specs.Writes.{due, zeroed_cost}
 use Rattle.tsd_core.specs.Journal.{count_of, makes_blocks, most_homes, waits}
 use Rattle.gathered_blocks.specs.Bounds.{IsBound, once_cost, step_cost}
@@ -95,3 +98,24 @@ module _ {T : Type 0} (old mid : Volume) (q : Request) (v w : View) (r : Result 
           let fits = (bound.once not).1 in
           omega (arith, less, here, all, fits, same, emptied)
     ]
+
+-- ---- one request
+
+-- where nothing is to be reclaimed, the pointers that are told are those on the disk
+pub finds_slot : (v : Volume) (is_owed : Bool) (pointers : ℕ) (g : Geometry) → IsVolumeReady v → not is_owed ≡ true → IsTrue is_owed ↔ (0 < owed v.tables) → pointers ≡ length (told_by v).pairs → g ≡ v.tables.geometry
+    → nat_lt pointers g.slots ≡ true → length (pairs_of v.tables) < v.tables.geometry.slots
+finds_slot v is_owed pointers g ready not_owed owes count size few =
+    let none : owed v.tables ≡ 0 = nothing (owed v.tables) (λ some. both (owes.1 some)) in
+    let same : length (told_by v).pairs ≡ length (pairs_of v.tables) = ap length (settled_pairs v.tables ready.1 none) in
+    let slots : g.slots ≡ v.tables.geometry.slots = ap (λ (h : Geometry). h.slots) size in
+    fewer pointers g.slots (length (pairs_of v.tables)) v.tables.geometry.slots few (count ∙ same) slots
+  where
+    both : is_owed ≡ true → ⊥
+    both is = cc
+
+    nothing : (n : ℕ) → (0 < n → ⊥) → n ≡ 0
+    nothing zero never = refl
+    nothing (suc n) never = absurd (never (omega arith))
+
+    fewer : (a b c d : ℕ) → nat_lt a b ≡ true → a ≡ c → b ≡ d → c < d
+    fewer a b c d less e h = grind (arith, nat_tests)

@@ -2,7 +2,7 @@
 use Rattle.image_device.specs.Image.{zeros}
 use Rattle.std.proofs.Common.{◌≡◌, ◌⊎◌, inl, inr, ⊎_elim, ℕ, zero, suc, cond, ◌+◌, ◌≤◌, ◌<◌, true, false, Bool, List, [], ◌∷◌, length, refl, sym, ◌∙◌, ap, subst, arith}
 use Rattle.std.proofs.Math.Logic.{∥∥₁_elim}
-use Rattle.std.specs.Prelude.{Result, Ok, Err, OnOk, OnErr}
+use Rattle.std.specs.Prelude.{Result, Ok, Err, OnOk, OnErr, is_err}
 use Rattle.tsd_model.specs.World.{World}
 use Rattle.tsd_model.specs.Step.{State}
 use Rattle.tsd_model.specs.declared.geometry.Geometry.{Geometry}
@@ -28,8 +28,13 @@ use Rattle.gathering.specs.Gathered.{cleared, gone_on}
 use Rattle.gathering.specs.Left.{IsHomeOf}
 use Rattle.gathering.proofs.Closed.{cleared_closed, cleared_home, closed_home, closed_ring}
 use Rattle.gathering_laws.proofs.Alike.{carries_over, closed_alike}
-use Rattle.tsd_core.specs.Core.{Core, FitsReads, state_on}
-use Rattle.gathered_blocks.specs.Held.{IsInMemory, StandsForAny, held_state}
+use Rattle.tsd_core.specs.Core.{Core, FitsReads, IsCoreReady, state_on}
+use Rattle.image_device.specs.Calls.{Uses}
+use Rattle.image_device.specs.Counts.{CountsFault, Rose}
+use Rattle.image_device.specs.declared.device.Failed.{Failed}
+use Rattle.volume_laws.specs.Writes.{Works}
+use Rattle.tsd_core.specs.Work.{SameSize}
+use Rattle.gathered_blocks.specs.Held.{GoesOn, IsInMemory, StandsForAny, held_state}
 
 -- ---- disks with closed journals
 
@@ -81,7 +86,7 @@ module _ (c : Core) (rs : List JournalRecord) (batch : List Patch) (v : View) (e
       inr (inl (closed_alike (gone_on batch v.reads) x (world_of (gone_on batch v.reads)) held_stands held_closed (record { valid = whole.valid; stands = λ n out. whole.stands n out ∙ placed n out })))
 
   pub commit_behind : (x : Image) → IsBeforeOrAfter batch v x → behind c.volume.tables.geometry x ≡ behind c.volume.tables.geometry v.reads
-  commit_behind x (inl before) i n = before_outside v x at.firm before (total c.volume.tables.geometry + n) (above_journal (total c.volume.tables.geometry + n) (omega arith)) i
+  commit_behind x (inl before) = λ i n. before_outside v x at.firm before (total c.volume.tables.geometry + n) (above_journal (total c.volume.tables.geometry + n) (omega arith)) i
   commit_behind x (inr whole) = (λ i n. here n i) ∙ at.aside
     where
       here : (n : ℕ) → home x (total c.volume.tables.geometry + n) ≡ home (gone_on batch v.reads) (total c.volume.tables.geometry + n)
@@ -102,10 +107,63 @@ module _ (c : Core) (rs : List JournalRecord) (batch : List Patch) (v : View) (e
     now_stands = closed_alike (gone_on batch v.reads) w.reads (world_of (gone_on batch v.reads)) held_stands held_closed (record { valid = at_valid ringed; stands = λ n out. done n out ∙ placed n out })
 
     pub committed_at : IsInMemory c ring [] w
-    committed_at = record { firm = firm; ring = ringed; good = now_stands.good; fits = over.0; aside = cleared_aside c.volume.tables.geometry w.reads }
+    committed_at = record { firm = firm; ring_at = ringed; good = now_stands.good; fits = over.0; aside = cleared_aside c.volume.tables.geometry w.reads }
 
     pub committed_state : held_state c [] w ≡ held_state c batch v
     committed_state = over.1
 
     pub committed_base : world_of w.reads ≡ world_of (gone_on batch v.reads)
     committed_base = sym now_stands.world
+
+-- ---- what a failed commit leaves
+
+pub fault_of : {T : Type 0} (r : Result T Failed) (b : Bool) (m n : ℕ) → b ≡ true → b ≡ is_err r → CountsFault r m n → Rose m n
+fault_of (Ok x) b m n h k p = absurd (cc)
+fault_of (Err e) b m n h k p = p
+
+pub same_of : {T : Type 0} (r : Result T Failed) (b : Bool) (m n : ℕ) → b ≡ false → b ≡ is_err r → CountsFault r m n → n ≡ m
+same_of (Ok x) b m n h k p = p
+same_of (Err e) b m n h k p = absurd (cc)
+
+pub works_of : (limit : ℕ) (v w : View) → Uses limit v w → Works v w
+works_of limit v w uses = record { clock = uses.clock; faults = uses.faults; put_faults = uses.put_faults; writes = uses.writes }
+
+pub spent_size : (c d : Core) → d ≡ record c { volume = record c.volume { is_spent = true } } → SameSize c d
+spent_size c d is = record { geometry = ap (λ (k : Core). k.volume.tables.geometry) is; version = ap (λ (k : Core). k.volume.tables.version) is }
+
+module _ (told : Type 0) (c : Core) (rs : List JournalRecord) (batch : List Patch) (v w : View) (empty : c.volume.ring ≡ []) (at : told → IsInMemory c rs batch v)
+    (leaves : told → LeavesOnly v w (λ x f. IsBeforeOrAfter batch v x × (f ≡ v.sent))) where
+  commit_moments : (next : World) → told → ∥ LeavesOnly v w (λ x f. StandsForAny (world_of v.reads) (world_of (gone_on batch v.reads)) next x × (f ≡ v.sent)) ∥₁
+  commit_moments next t = ∣ weakened v w (λ x f. IsBeforeOrAfter batch v x × (f ≡ v.sent)) (λ x f. StandsForAny (world_of v.reads) (world_of (gone_on batch v.reads)) next x × (f ≡ v.sent)) (leaves t) (λ x f left. (commit_left c rs batch v empty (at t) next x left.0, left.1)) ∣₁
+
+  commit_aside : told → ∥ LeavesPart (behind c.volume.tables.geometry) v w ∥₁
+  commit_aside t = ∣ weakened v w (λ x f. IsBeforeOrAfter batch v x × (f ≡ v.sent)) (λ x f. behind c.volume.tables.geometry x ≡ behind c.volume.tables.geometry v.reads) (leaves t) (λ x f left. commit_behind c rs batch v empty (at t) x left.0) ∣₁
+
+  pub commit_fails : {T : Type 0} (d : Core) (ring : List JournalRecord) (b1 : List Patch) (next : World) → d ≡ record c { volume = record c.volume { is_spent = true } } → (told → w.sent ≡ v.sent) → Works v w → Rose v.faults w.faults
+      → GoesOn {T = T} told c d ring batch b1 v w next (Err record {})
+  commit_fails d ring b1 next is sent works rose = record {
+    ready = tt;
+    at = λ t. tt;
+    size = spent_size c d is;
+    spent = ap (λ (k : Core). k.volume.is_spent) is;
+    sent = sent;
+    any_moment = commit_moments next;
+    behind = commit_aside;
+    works = works;
+    faults = rose;
+  }
+
+  pub commit_done : (ring : List JournalRecord) (b1 : List Patch) (next : World) → IsCoreReady c → (told → w.sent ≡ v.sent) → Works v w → w.faults ≡ v.faults → b1 ≡ []
+      → (told → IsFirm w) → (told → IsRingAt ring w) → (told → AgreeBut is_journal (overlaid batch (home v.reads)) (home w.reads))
+      → GoesOn {T = Unit {0}} told c c ring batch b1 v w next (Ok tt)
+  commit_done ring b1 next ready sent works same none firm ringed done = record {
+    ready = record { ready = ready; empty = empty };
+    at = λ t. subst (λ (b : List Patch). IsInMemory c ring b w) (sym none) (committed_at c rs batch v empty (at t) w ring (firm t) (ringed t) (done t));
+    size = record { geometry = refl; version = refl };
+    spent = tt;
+    sent = sent;
+    any_moment = commit_moments next;
+    behind = commit_aside;
+    works = works;
+    faults = same;
+  }

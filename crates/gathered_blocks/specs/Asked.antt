@@ -1,6 +1,6 @@
 -- What was asked of a disk since some moment, and where it led.
 use Rattle.std.specs.Prelude.{ℕ, Bool, true, false, List, [], ◌∷◌, take}
-use Rattle.std.specs.Coded.{Coded, coded_list, coded_bool, coded×}
+use Rattle.std.specs.Coded.{Coded, coded_list, coded_bool, coded_ℕ, coded×}
 use Rattle.tsd_model.specs.World.{World}
 use Rattle.tsd_model.specs.Step.{State}
 use Rattle.tsd_model.specs.Run.{answer}
@@ -10,8 +10,9 @@ use Rattle.tsd_model.specs.declared.requests.PlaceKind.{PlaceKind}
 use Rattle.tsd_model.specs.declared.requests.Request.{Request}
 use Rattle.tsd_model.specs.contracts.requests.Request.{the_row}
 
-abbrev pub coded_requests : Coded (List (Request × Bool))
-coded_requests = coded_list (coded× the_row.coded coded_bool)
+-- the requests, each with whether it found no memory, and how many of them are on the device
+abbrev pub coded_log : Coded (List (Request × Bool) × ℕ)
+coded_log = coded× (coded_list (coded× the_row.coded coded_bool)) coded_ℕ
 
 -- the state after these requests; beside each stands whether it found no memory
 abbrev pub after_asks : PlaceKind → State → List (Request × Bool) → State

@@ -34,7 +34,7 @@ pub record IsReadyInMemory (c : Core) : Type 0 where
 -- core has fits what the disk in memory reads; and what lies behind the image was not gathered.
 pub record IsInMemory (c : Core) (ring : List JournalRecord) (batch : List Patch) (v : View) : Type 0 where
   pub firm : IsFirm v
-  pub ring : IsRingAt ring v
+  pub ring_at : IsRingAt ring v
   pub good : IsGood v.reads
   pub fits : FitsReads c (gone_on batch v.reads)
   pub aside : behind c.volume.tables.geometry (gone_on batch v.reads) ≡ behind c.volume.tables.geometry v.reads

@@ -44,12 +44,12 @@ pub struct GatheredBlocks<'a, P: Port, L: Placing, K: Begun> {
     ghost ready: { core.now.volume.is_spent ≡ false → IsReadyInMemory core.now } by { ready_prop core.now },
     ghost at: { P.told → core.now.volume.is_spent ≡ false → IsInMemory core.now room.now.ring (gathered room.now)
         (P.view port.now) } by { at_prop P.told core.now room.now.ring (gathered room.now) (P.view port.now) },
-    ghost led: { P.told → core.now.volume.is_spent ≡ false → HasLed (L.kind placement.now) K.state asked.requests
-        asked.kept core.now (gathered room.now) (P.view port.now) } by { led_prop P.told (L.kind placement.now) K.state
-        asked.requests asked.kept core.now (gathered room.now) (P.view port.now) },
+    ghost led: { P.told → core.now.volume.is_spent ≡ false → HasLed (L.kind placement.now) K.state asked.log.0
+        asked.log.1 core.now (gathered room.now) (P.view port.now) } by { led_prop P.told (L.kind placement.now) K.state
+        asked.log.0 asked.log.1 core.now (gathered room.now) (P.view port.now) },
     ghost sent: { P.told → (P.view port.now).sent ≡ K.start.sent },
     ghost leaves: { P.told → ∥ LeavesOnly K.start (P.view port.now) (IsOfAsked (L.kind placement.now) K.state
-        asked.requests K.start.sent) ∥₁ },
+        asked.log.0 K.start.sent) ∥₁ },
     ghost behind: { P.told → ∥ LeavesPart (behind core.now.volume.tables.geometry) K.start (P.view port.now) ∥₁ },
     ghost works: { Works K.start (P.view port.now) },
     ghost unfailed: { core.now.volume.is_spent ≡ false → (P.view port.now).faults ≡ K.start.faults },
@@ -92,7 +92,7 @@ impl<'a, P: Port, L: Placing, K: Begun> GatheredBlocks<'a, P, L, K> {
         ensures port { result.port.ghost_name ≡ port.entry.ghost_name }
         ensures core_now { result.core.now ≡ record core.old { volume = record core.old.volume { ring = [] } } }
         ensures port_now { result.port.now ≡ port.old }
-        ensures asked { result.asked.requests ≡ [] }
+        ensures asked { result.asked.log.0 ≡ [] }
         ensures kind { L.kind result.placement.now ≡ L.kind placement.now }
     {
         core.swap_ring(&mut room.ring);
@@ -130,7 +130,7 @@ impl<'a, P: Port, L: Placing, K: Begun> GatheredBlocks<'a, P, L, K> {
         /// was after some of its requests, with nothing more sent, and what lies behind the image. (There is such a
         /// record of what is left; none is picked.)
         ensures any_moment { P.told → ∥ LeavesOnly K.start (P.view result.port.now) (IsOfAsked
-            (L.kind self.entry.placement.now) K.state self.entry.asked.requests K.start.sent) ∥₁ }
+            (L.kind self.entry.placement.now) K.state self.entry.asked.log.0 K.start.sent) ∥₁ }
         ensures behind { P.told → ∥ LeavesPart (behind result.core.now.volume.tables.geometry) K.start
             (P.view result.port.now) ∥₁ }
         ensures works { Works K.start (P.view result.port.now) }
@@ -263,10 +263,10 @@ impl<'a, P: Port, L: Placing, K: Begun> Blocks for GatheredBlocks<'a, P, L, K> {
     ghost told = { P.told };
 
     ghost view = { λ b. gathered_view (b.core.ghost_name, b.port.ghost_name) (L.kind b.placement.now) K.start K.state
-        b.asked.requests b.core.now (P.view b.port.now) };
+        b.asked.log.0 b.core.now (P.view b.port.now) };
 
     ghost sound = { λ b told unspent. gathered_disk_sound (b.core.ghost_name, b.port.ghost_name)
-        (L.kind b.placement.now) K.start K.state b.asked.requests b.asked.kept b.core.now b.room.now.ring
+        (L.kind b.placement.now) K.start K.state b.asked.log.0 b.asked.log.1 b.core.now b.room.now.ring
         (gathered b.room.now) (P.view b.port.now) (b.at told unspent) (b.led told unspent) };
 
     fn geometry(&self) -> Geometry {

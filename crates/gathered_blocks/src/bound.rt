@@ -36,8 +36,8 @@ pub(crate) fn writes_at_most(core: &Core, request: &Request) -> Option<u32>
 
 /// Whether a new pointer finds an empty slot: none is still held by a pair that is to be reclaimed.
 fn has_slot(core: &Core, geometry: &Geometry) -> bool
-    requires { IsCoreReady core.now }
-    requires { geometry.now ≡ core.now.volume.tables.geometry }
+    requires ready { IsCoreReady core.now }
+    requires size { geometry.now ≡ core.now.volume.tables.geometry }
     ensures { result ≡ true → length (pairs_of core.now.volume.tables) < core.now.volume.tables.geometry.slots }
 {
     !core.is_owed() && core.pointers() < geometry.slots

@@ -20,6 +20,9 @@ use std::marker::Brand;
 use tsd_core::Core;
 use tsd_model::Reply;
 
+/// How many homes a batch has at most.
+const HOMES_MAX: usize = 113;
+
 /// Does it in memory: the device is only read.
 pub(crate) fn in_memory<P: Device, T: Task>(
     core: &mut Core,
@@ -141,11 +144,11 @@ pub(crate) fn commit<D: Device>(
 
 /// Whether so many writes more fit into what was gathered.
 pub(crate) fn has_room(room: &AskRoom, writes: u32) -> bool
-    requires { is_some room.now.room ≡ true }
+    requires { writes ≤ bodies }
     ensures { result ≡ true → length (gathered room.now) + writes ≤ bodies }
 {
     match &room.room {
-        Some(room) => room.has_room(writes),
+        Some(room) => room.homes() + writes as usize <= HOMES_MAX,
         None => false,
     }
 }

@@ -8,7 +8,7 @@ ghost use Rattle.image_device.specs.View.{View, untold, IsLeftNow};
 ghost use Rattle.image_device.specs.Runs.{IsFirm, LeavesOnly};
 ghost use Rattle.image_layout.specs.Ring.{bodies};
 ghost use Rattle.image_layout.specs.declared.offset.Patch.{Patch};
-ghost use Rattle.intent_journal.specs.Batch.{homes_of};
+ghost use Rattle.intent_journal.specs.Batch.{homes_of, IsBatch};
 ghost use Rattle.intent_journal.specs.Home.{is_journal};
 ghost use Rattle.intent_journal.specs.Ring.{IsRingAt};
 ghost use Rattle.tsd_model.specs.World.{are_apart};
@@ -156,6 +156,7 @@ impl<'a, 'r, P: Device, K: Going> Part<'a, 'r, P, K> {
         ensures holds { P.told → (AgreeBut is_journal (⟦<Part<'a, 'r, P, K> as Device>⟧.view self.entry).reads
             (gone_on result.room.batch K.start.reads))
             ⊎ LeavesStray (⟦<Part<'a, 'r, P, K> as Device>⟧.view self.entry) }
+        ensures is { IsBatch result.room.batch }
         ensures few { length result.room.batch ≤ length K.batch + (⟦<Part<'a, 'r, P, K> as Device>⟧.view self.entry).writes }
         /// promise (with unfailed): A call failed only where the device's count of faults rose, or where 113 homes are
         /// fewer than those of the batch and one for each write.
@@ -208,8 +209,11 @@ fn room_of(
     requires { strayed ≡ false → homes.patches.items ≡ batch }
     ensures batch { strayed ≡ false → result.batch ≡ batch }
     ensures few { length result.batch ≤ length homes.patches.items }
+    ensures is { IsBatch result.batch }
 {
     if !strayed {
+        // The call tells that it is a batch.
+        let _length = batch.len();
         return Room {
             batch,
             homes,
@@ -221,6 +225,7 @@ fn room_of(
     let mut homes = homes;
     batch.clear();
     homes.clear();
+    let _length = batch.len();
     Room {
         batch,
         homes,

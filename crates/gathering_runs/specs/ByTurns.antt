@@ -68,8 +68,9 @@ pub record LeavesBut {Q : Type 0} (k : Service Q) (w : WorkCount Q k.States) (s 
   pub few : All w.bounded qs → left ≤ left_by k w s t before now qs served owed + lacking
 
 -- A turn, from the one moment to the other: these requests were answered, one at least. Only where the first of them
--- may have to wait for what is left to be done, groups before it do some of that; behind the answers at most four groups
--- do so. Then no more is left to be done than where each of the requests is served alone, with four steps behind it.
+-- may have to wait for what is left to be done, groups before it do some of that; behind the answers at most four
+-- groups do so. Then no more is left to be done than where each of the requests is served alone, with four steps behind
+-- it.
 pub record IsTurn {Q : Type 0} (k : Service Q) (w : WorkCount Q k.States) (waits : Q → Type 0) (port : Mark → Type 0)
     (s : k.States) (qs : List Q) (t : k.States) (old new : Mark) : Type 0 where
   pub first : Q

@@ -52,9 +52,10 @@ pub(crate) fn serve_group<
         × (P.told → Turned result.1 (spoken H.rules R.voice) (H.aside server.old)
         (H.state server.old (cleared K.start.reads)) (H.state server.new (cleared (P.view result.0.port).reads)) K.start
         (P.view result.0.port) (request.old ∷ done))
-        × (P.told → OnOk result.1 (LeavesBut (spoken H.rules R.voice) H.work (H.state server.old (cleared K.start.reads))
-        K.start.sent (request.old ∷ done) (H.state server.new (cleared (P.view result.0.port).reads))
-        (P.view result.0.port).sent (H.owed server.old) (H.owed server.new) lacking.new)) }
+        × (P.told → OnOk result.1 (LeavesBut (spoken H.rules R.voice) H.work
+        (H.state server.old (cleared K.start.reads)) K.start.sent (request.old ∷ done)
+        (H.state server.new (cleared (P.view result.0.port).reads)) (P.view result.0.port).sent (H.owed server.old)
+        (H.owed server.new) lacking.new)) }
     ensures lacks { OnOk result.1 (lacking.new ≤ 4) }
     ensures writes { IsGroup (mark K.start) (mark (P.view result.0.port)) }
     ensures less { IfOk result.1 (λ waits. waits ≡ true → remaining intake.new < remaining intake.old) }

@@ -69,8 +69,8 @@ pub fn serve_in_groups<
     /// may have to wait for them, behind a turn four at most, and in the end until nothing is left. Of what comes in a
     /// round but the last 65,536 bytes make one request whole at most. Where the input was cut short, nothing was
     /// written or sent behind the last round.
-    ensures rounds { P.told → RanByRounds result.1 (spoken H.rules R.voice) H.work H.may_wait (IsOfPort P.view) R.spelling
-        limit
+    ensures rounds { P.told → RanByRounds result.1 (spoken H.rules R.voice) H.work H.may_wait (IsOfPort P.view)
+        R.spelling limit
         (H.state server.old (P.view port).reads)
         (taking S.told S.taken S.left_bytes S.ended source.old source.new) (mark (P.view port))
         (mark (P.view result.0)) }

@@ -165,9 +165,9 @@ fn settle_first<H: GroupHandler, G: Port + HasRoom>(
     settle_few(server, port, most - 1)
 }
 
-/// Makes so many steps of what is left to be done, as long as they fit; how many of them lack, though something is left.
-/// The journal is closed before it and behind it, so that the homes of each step are counted before the next one. The
-/// state stays. `Failed` comes only where `faults` rose.
+/// Makes so many steps of what is left to be done, as long as they fit; how many of them lack, though something is
+/// left. The journal is closed before it and behind it, so that the homes of each step are counted before the next one.
+/// The state stays. `Failed` comes only where `faults` rose.
 pub(crate) fn settle_few<H: GroupHandler, G: Port + HasRoom>(
     server: &mut H,
     port: &mut G,

@@ -73,7 +73,10 @@ impl<'a> Handler for GroupServer<'a> {
 
     fn settle_some<D: Device>(&mut self, dev: &mut D) -> Result<bool, Failed> {
         let more = self.core.settle_some(dev);
-        self.owes = !matches!(more, Ok(false));
+        match more {
+            Ok(some) => self.owes = some,
+            Err(_) => {}
+        }
         more
     }
 

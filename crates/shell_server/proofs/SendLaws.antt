@@ -1,11 +1,17 @@
 -- The answer of an ask that changes the tree, sent after it was carried out.
 use Rattle.std.proofs.Common.{◌≡◌, ◌≢◌, ◌⊎◌, inl, inr, ℕ, ◌<◌, true, false, List, [], ◌∷◌, ◌++◌, length, take, drop, refl, sym, ◌∙◌, ap, subst, arith, append-nil, take-append-drop, length-drop}
 use Rattle.shell_server.proofs.Common.{Result, Ok, Err, IfErr, World, Rose, View, IsLeftInPut, IsSound, LeavesOnly, PutsAll, firm_image, joined, started, weakened, world_of, line_feeds, bad, AskOutcome, step_in, ShellAsk, answer_text, FsRefusal, FilesView, OnAnswer, Status, IsAnswering, IsInAnswer, LeftBy, Core, KeepsBehind, behind_put, behind_stays, behind_then, ShellState, AnswersByLine, IsLeftOf, files_after, heard, shell_service, shell_step, tree_in, AreReady, FitsShell, shell_state, shell_rests, shell_stands, IsLeftBeforeOrAfter, IsCarried, IsOneLine, IsServed, change_line}
+use Rattle.std.specs.Prelude.{IsErr, IsErrAnd}
 use Rattle.fs_trees.specs.declared.ask.ShellAsk.TheVariants as ask
 use Rattle.fs_trees.specs.declared.refusal.FsRefusal.TheVariants as no
 use Rattle.tsd_words.specs.declared.status.Status.TheVariants as status
 use Rattle.shell_server.specs.ShellLaws.{shell_counted}
 use Rattle.shell_server.proofs.KeptLaws.{none_taken}
+
+-- what `?` answers is the error that it was given
+pub error_is : {T E : Type 0} (r : Result T E) (why : E) → IsErr r × IsErrAnd r (λ e. e ≡ why) → r ≡ Err why
+error_is (Ok x) why given = absurd given.1
+error_is (Err e) why given = ap Err given.1
 
 -- ---- what a crash leaves
 

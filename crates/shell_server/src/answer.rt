@@ -105,10 +105,7 @@ fn send_file<F: Walks, P: Port, L: Placing, K: Started>(
 {
     let mut line = OutBuf::new();
     print_data_head(size == 0, &mut line);
-    match send_text(port, line.as_slice()) {
-        Ok(()) => {}
-        Err(why) => return Err(why),
-    }
+    send_text(port, line.as_slice())?;
     let mut part = Data::new();
     let mut place = None;
     let mut start: u64 = 0;
@@ -119,10 +116,7 @@ fn send_file<F: Walks, P: Port, L: Placing, K: Started>(
             Err(_) => return send_end(port),
         }
         print_data_part(part.as_slice(), &mut line);
-        match send_text(port, line.as_slice()) {
-            Ok(()) => {}
-            Err(why) => return Err(why),
-        }
+        send_text(port, line.as_slice())?;
         start = start.saturating_add(4096);
     }
     send_end(port)

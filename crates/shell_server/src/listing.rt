@@ -74,10 +74,7 @@ fn send_names<F: Walks, P: Port, L: Placing, K: Started>(
 {
     let mut line = OutBuf::new();
     print_names_head(first.is_none(), &mut line);
-    match send_text(port, line.as_slice()) {
-        Ok(()) => {}
-        Err(why) => return Err(why),
-    }
+    send_text(port, line.as_slice())?;
     let mut next = first;
     let mut left = NAMES_MAX;
     while left > 0 {
@@ -86,10 +83,7 @@ fn send_names<F: Walks, P: Port, L: Placing, K: Started>(
             None => return send_end(port),
         };
         print_name(&name, &mut line);
-        match send_text(port, line.as_slice()) {
-            Ok(()) => {}
-            Err(why) => return Err(why),
-        }
+        send_text(port, line.as_slice())?;
         match next_on::<F, P, L, K>(files, core, placement, port, path, &name, ahead) {
             Ok(more) => next = more,
             Err(FsRefusal::Device) => return Err(Status::DeviceFault),
