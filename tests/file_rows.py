@@ -339,9 +339,9 @@ def stopped_results(context: Context, program: Program) -> Iterator[Result]:
 # --- what asks cost ---
 
 class Cost(NamedTuple):
-    """Ten asks of one form, by their number, over a tree that these lines made, on blocks of so many sectors. Each is one
-    commit, of at most so many sectors; and how many steps of reclamation the last one leaves, each a commit in the
-    end."""
+    """Ten asks of one form, by their number, over a tree that these lines made, on blocks of so many sectors. Each is
+    one commit, of at most so many sectors; and how many steps of reclamation the last one leaves, each a commit in
+    the end."""
 
     name: str
     kind: str
@@ -353,8 +353,8 @@ class Cost(NamedTuple):
 
 
 # By the documents ("How a change is made"): what an ask asks of the disk is one commit where it fits a batch of 113
-# sectors, as these do: at most three blocks, and at most sixteen sectors of the tables of a disk of 1,024 blocks. What an
-# ask left to be reclaimed goes with the next one; in the end by steps of a block with 16 pairs.
+# sectors, as these do: at most three blocks, and at most sixteen sectors of the tables of a disk of 1,024 blocks. What
+# an ask left to be reclaimed goes with the next one; in the end by steps of a block with 16 pairs.
 COSTS = (
     Cost("a put of 100 bytes", INODE, 1, ["mkfs"], f"put /f{{number}} {letters(100)}", 14, 0),
     Cost("a put of 100 bytes", CHAIN, 1, ["mkfs"], f"put /f{{number}} {letters(100)}", 14, 0),
@@ -383,8 +383,8 @@ def cost_results(context: Context, program: Program) -> Iterator[Result]:
 
 
 def cost_result(recorder: Recorder, program: Program, image: Path, cost: Cost) -> Result:
-    """A commit takes two syncs, and a checkpoint three, before a ninth commit or one that the 113 sectors of the journal
-    don't hold beside those before it; so at most these, beside those of a run that does nothing."""
+    """A commit takes two syncs, and a checkpoint three, before a ninth commit or one that the 113 sectors of the
+    journal don't hold beside those before it; so at most these, beside those of a run that does nothing."""
     image.unlink(missing_ok=True)
     program.run([image, "fresh", "1024", str(cost.sectors), R, W, "near"], b"")
     shell = ["shell", cost.kind, "0", W, "near"]
