@@ -112,7 +112,7 @@ module _ {Q : Type 0} (k : Service Q) (w : WorkCount Q k.States) (waits : Q → 
     pub rounds : List (Round Q)
     pub each : ByRounds k w waits port p limit s [] [] rounds t came qs begun new
 
-  pub so_far_none : (s t : k.States) (sent : List ℕ) (debt : ℕ) (new : Mark) → port new → new.sent ≡ sent → w.debt new.reads ≤ debt → s ≡ t → SoFar s t [] [] sent debt new
+  unfoldable pub so_far_none : (s t : k.States) (sent : List ℕ) (debt : ℕ) (new : Mark) → port new → new.sent ≡ sent → w.debt new.reads ≤ debt → s ≡ t → SoFar s t [] [] sent debt new
   so_far_none s t sent debt new here same left state = record { begun = new; of_port = here; nothing_sent = same; no_more_left = left; rounds = []; each = (state, refl, refl, refl) }
 
   pub so_far_more : (s m t : k.States) (came more : List ℕ) (qs qs_more : List Q) (sent : List ℕ) (debt : ℕ) (mid new : Mark) → SoFar s m came qs sent debt mid → IsNear p limit came qs more → AllTurns k w waits port m t qs_more mid new → AreAll p limit (came ++ more) (qs ++ qs_more)
@@ -129,7 +129,7 @@ module _ {Q : Type 0} (k : Service Q) (w : WorkCount Q k.States) (waits : Q → 
   }
 
   -- a run that ended so
-  pub ran_by_rounds : (r : Status) (s t last : k.States) (source : Taking) (came more : List ℕ) (qs : List Q) (turns : List (List Q)) (old mid stopped new : Mark) → SoFar s t came qs old.sent (w.debt old.reads) mid → source.came (came ++ more) → IsNear p limit came qs more
+  unfoldable pub ran_by_rounds : (r : Status) (s t last : k.States) (source : Taking) (came more : List ℕ) (qs : List Q) (turns : List (List Q)) (old mid stopped new : Mark) → SoFar s t came qs old.sent (w.debt old.reads) mid → source.came (came ++ more) → IsNear p limit came qs more
       → ByTurns k w waits port t turns last mid stopped → (IsCutShort r → new ≡ mid) → (r ≡ status.Done → IsFinished w port stopped new) → RanByRounds r k w waits port p limit s source old new
   ran_by_rounds r s t last source came more qs turns old mid stopped new a came_in near behind as_it_was done = record {
     begun = a.begun;
@@ -213,7 +213,7 @@ module _ {Q : Type 0} (k : Service Q) (w : WorkCount Q k.States) (waits : Q → 
   rounds_over p limit (r ∷ rounds) s t came0 came qs0 qs old new a =
       (a.0, a.1, a.2, turns_over r.turns s a.0 old a.1 a.3, a.4, rounds_over p limit rounds a.0 t (came0 ++ r.more) came (qs0 ++ all_of r.turns) qs a.1 new a.5)
 
-  pub ran_over : (r : Status) (p : Spelling Q) (limit : ℕ) (s : k.States) (source : Taking) (old new : Mark) → RanByRounds r k w waits A p limit s source old new → RanByRounds r k w waits B p limit s source old new
+  unfoldable pub ran_over : (r : Status) (p : Spelling Q) (limit : ℕ) (s : k.States) (source : Taking) (old new : Mark) → RanByRounds r k w waits A p limit s source old new → RanByRounds r k w waits B p limit s source old new
   ran_over r p limit s source old new a = record {
     begun = a.begun;
     of_port = over a.begun a.of_port;
