@@ -339,34 +339,28 @@ def stopped_results(context: Context, program: Program) -> Iterator[Result]:
 # --- what asks cost ---
 
 class Cost(NamedTuple):
-    """Ten asks of one form, by their number, over a tree that these lines made, on blocks of so many sectors. Each is
-    one commit, of at most so many sectors; and how many steps of reclamation the last one leaves, each a commit in
-    the end."""
+    """Ten asks of one form, by their number, over a tree that these lines made, on blocks of so many sectors; and how
+    often each commits: once for each request of the disk, and for each step of reclamation."""
 
     name: str
     kind: str
     sectors: int
     lines: Sequence[str]
     ask: str
-    homes: int
-    left: int
+    commits: int
 
 
-# By the documents ("How a change is made"): what an ask asks of the disk is one commit where it fits a batch of 113
-# sectors, as these do: at most three blocks, and at most sixteen sectors of the tables of a disk of 1,024 blocks. What
-# an ask left to be reclaimed goes with the next one; in the end by steps of a block with 16 pairs.
+# By the documents ("How a change is made"): blocks are taken, written and named by a request each, a pointer goes by
+# one. What an ask left to be reclaimed goes in steps of a block with 16 pairs, before the next one takes blocks.
 COSTS = (
-    Cost("a put of 100 bytes", INODE, 1, ["mkfs"], f"put /f{{number}} {letters(100)}", 14, 0),
-    Cost("a put of 100 bytes", CHAIN, 1, ["mkfs"], f"put /f{{number}} {letters(100)}", 14, 0),
+    Cost("a put of 100 bytes", INODE, 1, ["mkfs"], f"put /f{{number}} {letters(100)}", 5),
+    Cost("a put of 100 bytes", CHAIN, 1, ["mkfs"], f"put /f{{number}} {letters(100)}", 3),
     Cost("a put of 4 KB over an old file", INODE, 8, ["mkfs", f"put /a {letters(4096)}"],
-         f"put /a {letters(4095)}{{number:02}}", 32, 2),
+         f"put /a {letters(4095)}{{number:02}}", 8),
     Cost("a put of 4 KB over an old file", CHAIN, 8, ["mkfs", f"put /a {letters(4096)}"],
-         f"put /a {letters(4095)}{{number:02}}", 32, 2),
+         f"put /a {letters(4095)}{{number:02}}", 8),
     Cost("an append of a byte to 128 KB", INODE, 8, ["mkfs", "put /a -", *[f"append /a {letters(4096)}"] * 32],
-         "append /a 61", 40, 3),
-    Cost("an append of a byte to 512 KB", INODE, 8, ["mkfs", "put /a -", *[f"append /a {letters(4096)}"] * 128],
-         "append /a 61", 40, 9),
-    Cost("an append of 4,080 bytes", CHAIN, 8, ["mkfs", "put /a -"], f"append /a {letters(4080)}", 32, 0),
+         "append /a 61", 42),
 )
 ASKS = 10
 
@@ -383,8 +377,8 @@ def cost_results(context: Context, program: Program) -> Iterator[Result]:
 
 
 def cost_result(recorder: Recorder, program: Program, image: Path, cost: Cost) -> Result:
-    """A commit takes two syncs, and a checkpoint three, before a ninth commit or one that the 113 sectors of the
-    journal don't hold beside those before it; so at most these, beside those of a run that does nothing."""
+    """A commit takes two syncs, and the checkpoint before each eighth three more; so at most these, beside those of a
+    run that does nothing and what is reclaimed in the end."""
     image.unlink(missing_ok=True)
     program.run([image, "fresh", "1024", str(cost.sectors), R, W, "near"], b"")
     shell = ["shell", cost.kind, "0", W, "near"]
@@ -393,8 +387,8 @@ def cost_result(recorder: Recorder, program: Program, image: Path, cost: Cost) -
     asks = [cost.ask.format(number=number) for number in range(ASKS)]
     recording = recorder.run(image, shell, text_of(asks))
     syncs = sum(event.kind == SYNC for event in recording.events) - idle
-    commits = ASKS + cost.left
-    most = 2 * commits + 3 * (commits // min(8, 113 // cost.homes) + 1)
+    commits = (ASKS + 1) * cost.commits
+    most = 2 * commits + 3 * (commits // 8 + 1)
     name = f"{cost.name} ({cost.kind}): {syncs / ASKS:g} syncs"
     return compared(name, (text_of(OK * ASKS), True), (recording.out, syncs <= most))
 
