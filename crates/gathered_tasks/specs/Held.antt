@@ -40,8 +40,8 @@ pub record IsInMemory (c : Core) (ring : List JournalRecord) (batch : List Patch
 abbrev pub StandsForAny : World → World → World → Image → Type 0
 StandsForAny base now next x = Stands x base ⊎ (Stands x now ⊎ Stands x next)
 
--- A call goes on with a disk in memory, and may bring it on the device. A crash leaves the world that was on the device,
--- the one in memory, or the next one.
+-- A call goes on with a disk in memory, and may bring it on the device. A crash leaves the world that was on the
+-- device, the one in memory, or the next one.
 pub record GoesOn {T : Type 0} (told : Type 0) (c0 c1 : Core) (ring : List JournalRecord) (b0 b1 : List Patch)
     (v w : View) (next : World) (result : Result T Failed) : Type 0 where
   pub ready : OnOk result (IsReadyInMemory c1)
@@ -49,8 +49,8 @@ pub record GoesOn {T : Type 0} (told : Type 0) (c0 c1 : Core) (ring : List Journ
   pub size : SameSize c0 c1
   pub spent : OnErr result (c1.volume.is_spent ≡ true)
   pub sent : told → w.sent ≡ v.sent
-  pub any_moment : told → ∥ LeavesOnly v w (λ x f. StandsForAny (world_of v.reads) (world_of (gone_on b0 v.reads)) next x
-      × (f ≡ v.sent)) ∥₁
+  pub any_moment : told → ∥ LeavesOnly v w
+      (λ x f. StandsForAny (world_of v.reads) (world_of (gone_on b0 v.reads)) next x × (f ≡ v.sent)) ∥₁
   pub behind : told → ∥ LeavesPart (behind c0.volume.tables.geometry) v w ∥₁
   pub works : Works v w
   pub faults : CountsFault result v.faults w.faults

@@ -16,6 +16,7 @@ const MANY: u32 = 114;
 /// or for so many blocks that no batch holds them.
 pub fn writes_at_most(core: &Core, request: &Request) -> Option<u32>
     requires { IsCoreReady core.now }
+    /// promise: So often, and no more, a request writes where the journal is empty before it and emptied behind it.
     ensures { IfSome result (λ most. IsBound core.now.volume request.now most) }
 {
     let geometry = core.geometry();
@@ -43,8 +44,8 @@ fn has_slot(core: &Core, geometry: &Geometry) -> bool
 /// The same for so many new blocks.
 fn blocks_at_most(core: &Core, count: u32) -> Option<u32>
     requires { IsCoreReady core.now }
-    ensures { IfSome result (λ most. (owed core.now.volume.tables ≡ 0) × (zeroed_cost (told_world core.now).geometry count
-        ≤ most)) }
+    ensures { IfSome result (λ most. (owed core.now.volume.tables ≡ 0)
+        × (zeroed_cost (told_world core.now).geometry count ≤ most)) }
 {
     if core.is_owed() {
         return None;

@@ -24,8 +24,8 @@ pub struct Below<'a, P: Device> {
     pub dev: &'a mut P,
 }
 
-/// Does it in memory, over the device and what was gathered that proofs pick: the device is only read, and what the disk
-/// in memory stands on is given back.
+/// Does it in memory, over the device and what was gathered that proofs pick: the device is only read, and what the
+/// disk in memory stands on is given back.
 pub fn in_part<'a, P: Device, T: Task, K: Going>(
     core: &mut Core,
     below: Below<'a, P>,
@@ -42,12 +42,15 @@ pub fn in_part<'a, P: Device, T: Task, K: Going>(
     requires at { P.told → IsInMemory core.old ring.now K.batch K.start }
     requires fits { (most : ℕ) × T.is_bound task.now core.old.volume most × (length K.batch + most ≤ bodies) }
     ensures device { result.0.dev.ghost_name ≡ K.device }
+    /// promise (with device, given, told): A task in memory does to the disk in memory what it does to a device, and
+    /// fails only where a read of the device does.
     ensures goes_on { GoesOn P.told core.old core.new ring.now K.batch result.1.batch K.start
         (P.view result.0.dev.now) (T.next task.now (held_state core.old K.batch K.start)) result.2 }
     ensures given { P.told → IfOk result.2 (λ r. T.given task.now (held_state core.old K.batch K.start) r
         (held_state core.new result.1.batch (P.view result.0.dev.now))) }
     ensures told { IfOk result.2 (λ r. T.told_given task.now core.old r core.new) }
     ensures reads { P.told → (P.view result.0.dev.now).reads ≡ K.start.reads }
+    /// promise (with reads): Nothing is written on the device.
     ensures writes { (P.view result.0.dev.now).writes ≡ K.start.writes }
 {
     let base = Base {
@@ -73,9 +76,13 @@ pub fn on_device<D: Device, T: Task>(
     requires at { D.told → IsInMemory core.old room.old.ring (gathered room.old) (D.view dev.old) }
     requires none { gathered room.old ≡ [] }
     ensures here { is_some room.new.room ≡ true }
+    /// promise (with given, told, none): The task is done on the device, and a crash leaves the world before it or the
+    /// next one.
     ensures goes_on { GoesOn D.told core.old core.new room.new.ring (gathered room.old) (gathered room.new)
-        (D.view dev.old) (D.view dev.new) (T.next task.now (held_state core.old (gathered room.old) (D.view dev.old))) result }
-    ensures given { D.told → IfOk result (λ r. T.given task.now (held_state core.old (gathered room.old) (D.view dev.old)) r
+        (D.view dev.old) (D.view dev.new)
+        (T.next task.now (held_state core.old (gathered room.old) (D.view dev.old))) result }
+    ensures given { D.told → IfOk result (λ r. T.given task.now
+        (held_state core.old (gathered room.old) (D.view dev.old)) r
         (held_state core.new (gathered room.new) (D.view dev.new))) }
     ensures told { IfOk result (λ r. T.told_given task.now core.old r core.new) }
     ensures base { D.told → OnOk result (world_of (D.view dev.new).reads ≡ world_of (gone_on []
@@ -95,7 +102,10 @@ pub fn commit<D: Device>(core: &mut Core, dev: &mut D, room: &mut AskRoom) -> Re
     requires ready { IsReadyInMemory core.old }
     requires at { D.told → IsInMemory core.old room.old.ring (gathered room.old) (D.view dev.old) }
     ensures here { is_some room.new.room ≡ true }
-    ensures goes_on { GoesOn D.told core.old core.new room.new.ring (gathered room.old) (gathered room.new) (D.view dev.old) (D.view dev.new)
+    /// promise (with state, base, none): What was gathered is on the device then, as one batch. A crash before the end
+    /// leaves the world that was on the device, or the one in memory.
+    ensures goes_on { GoesOn D.told core.old core.new room.new.ring (gathered room.old) (gathered room.new)
+        (D.view dev.old) (D.view dev.new)
         (world_of (gone_on (gathered room.old) (D.view dev.old).reads)) result }
     ensures state { D.told → OnOk result (held_state core.new (gathered room.new) (D.view dev.new) ≡ held_state core.old
         (gathered room.old) (D.view dev.old)) }

@@ -5,7 +5,7 @@
 //! stands on: `core_blocks` for requests carried out in some order of free blocks, `gathering` for the disk in memory,
 //! and `tsd_core` for the core.
 //!
-//! - `room`: what tasks need beside a core, taken once.
+//! - `room`: what asks need beside a core, taken once.
 //! - `task`: what is done to a core in one go.
 //! - `bound`: how often a request writes at most, so that it is known before it whether a batch has room for it.
 //! - `hold`: a task in memory, one on the device, and the commit of what was gathered.

@@ -1,19 +1,19 @@
 // What asks need beside a core.
-ghost use Rattle.std.specs.Prelude.{IfOk, [], ◌≡◌, ◌≤◌, length, true, is_some, OnOk};
+ghost use Rattle.std.specs.Prelude.{IfOk};
 
 use gathering::Room;
 use intent_journal::Ring;
 use std::alloc::Global;
 use tsd_model::NoMemory;
 
-/// What asks need beside a core so that each of them is one commit: room for a batch, and a place for the records of
-/// the journal. Taken once.
+/// What asks need beside a core so that the tasks of each are one commit: room for a batch, and a place for the records
+/// of the journal. Taken once.
 #[derive(Drop)]
 pub struct AskRoom {
-    /// The records that are on the device and not in place yet. None between asks, since the core has them.
-    pub(crate) ring: Ring,
+    /// The records that are on the device and not in place yet. None where the core has them.
+    pub ring: Ring,
     /// What was gathered. It is away only while a task is carried out on it.
-    pub(crate) room: Option<Room>,
+    pub room: Option<Room>,
 }
 
 impl AskRoom {

@@ -63,7 +63,9 @@ pub trait Task {
 /// A request, with free blocks taken in some order.
 #[derive(Drop)]
 pub struct Asking<'a, L: Placing> {
+    /// In which order.
     pub placement: &'a L,
+    /// The request.
     pub request: &'a Request,
 }
 
