@@ -1,0 +1,74 @@
+// How often a request writes at most.
+ghost use Rattle.std.specs.Prelude.{◌≡◌, ◌≤◌, ◌<◌, length, true, IfSome};
+ghost use Rattle.image_world.specs.Tables.{pairs_of};
+ghost use Rattle.volume_laws.specs.Writes.{zeroed_cost};
+ghost use Rattle.image_world.specs.Debt.{owed};
+ghost use Rattle.tsd_core.specs.Core.{IsCoreReady, told_world};
+ghost use Rattle.gathered_tasks.specs.Bounds.{IsBound, once_cost};
+
+use tsd_core::Core;
+use tsd_model::{Geometry, Request};
+
+/// More blocks, and more sectors of one, than a batch holds.
+const MANY: u32 = 114;
+
+/// How often a request writes at most where the journal is empty before it and emptied behind it; none where it waits,
+/// or for so many blocks that no batch holds them.
+pub fn writes_at_most(core: &Core, request: &Request) -> Option<u32>
+    requires { IsCoreReady core.now }
+    /// promise: So often, and no more, a request writes where the journal is empty before it and emptied behind it.
+    ensures { IfSome result (λ most. IsBound core.now.volume request.now most) }
+{
+    let geometry = core.geometry();
+    match request {
+        Request::Write { .. } => of_homes(geometry.sectors),
+        Request::SetCap { .. } => of_homes(1),
+        Request::Delete { .. } => of_homes(2),
+        Request::Create { .. } if has_slot(core, &geometry) => of_homes(2),
+        Request::Create { .. } | Request::Sweep { .. } => None,
+        Request::Alloc { count, .. } => blocks_at_most(core, *count),
+        Request::Contig { count, .. } => blocks_at_most(core, *count),
+        _ => Some(0),
+    }
+}
+
+/// Whether a new pointer finds an empty slot: none is still held by a pair that is to be reclaimed.
+fn has_slot(core: &Core, geometry: &Geometry) -> bool
+    requires ready { IsCoreReady core.now }
+    requires size { geometry.now ≡ core.now.volume.tables.geometry }
+    ensures { result ≡ true → length (pairs_of core.now.volume.tables) < core.now.volume.tables.geometry.slots }
+{
+    !core.is_owed() && core.pointers() < geometry.slots
+}
+
+/// The same for so many new blocks.
+fn blocks_at_most(core: &Core, count: u32) -> Option<u32>
+    requires { IsCoreReady core.now }
+    ensures { IfSome result (λ most. (owed core.now.volume.tables ≡ 0)
+        × (zeroed_cost (told_world core.now).geometry count ≤ most)) }
+{
+    if core.is_owed() {
+        return None;
+    }
+    of_blocks(&core.geometry(), count)
+}
+
+/// How often one batch of so many homes writes at most, its records in place behind it.
+fn of_homes(homes: u32) -> Option<u32>
+    ensures { IfSome result (λ most. once_cost homes ≤ most) }
+{
+    if homes > MANY {
+        return None;
+    }
+    Some(2 * homes + 3)
+}
+
+/// How often so many new blocks write at most.
+fn of_blocks(geometry: &Geometry, count: u32) -> Option<u32>
+    ensures { IfSome result (λ most. zeroed_cost geometry.now count ≤ most) }
+{
+    if count > MANY || geometry.sectors > MANY {
+        return None;
+    }
+    Some(geometry.sectors * count + 2 * (3 * count) + 3)
+}

@@ -1,0 +1,137 @@
+// Tasks carried out on a disk in memory, and on the device below it.
+ghost use Rattle.std.specs.Prelude.{◌≡◌, ◌+◌, ◌≤◌, [], ℕ, length, true, is_some, OnOk, IfOk};
+ghost use Rattle.image_device.specs.Calls.{Uses};
+ghost use Rattle.image_layout.specs.Ring.{bodies};
+ghost use Rattle.image_world.specs.Stands.{world_of};
+ghost use Rattle.gathered_tasks.specs.Held.{GoesOn, IsInMemory, IsReadyInMemory, held_state};
+ghost use Rattle.gathering.specs.Gathered.{gone_on, HasRested};
+ghost use Rattle.gathered_tasks.specs.Rooms.{gathered};
+
+use crate::room::AskRoom;
+use crate::task::Task;
+use gathering::{Base, Going, Part, Room};
+use image_device::{Device, Failed};
+use intent_journal::Ring;
+use tsd_core::Core;
+use tsd_model::Reply;
+
+/// How many homes a batch has at most.
+const HOMES_MAX: usize = 113;
+
+/// A device through a reference.
+#[derive(Drop)]
+pub struct Below<'a, P: Device> {
+    pub dev: &'a mut P,
+}
+
+/// Does it in memory, over the device and what was gathered that proofs pick: the device is only read, and what the
+/// disk in memory stands on is given back.
+pub fn in_part<'a, P: Device, T: Task, K: Going>(
+    core: &mut Core,
+    below: Below<'a, P>,
+    kept: Room,
+    ring: &Ring,
+    task: &T,
+) -> (Below<'a, P>, Room, Result<Reply, Failed>)
+    requires device { below.dev.ghost_name ≡ K.device }
+    requires batch { kept.batch ≡ K.batch }
+    requires rests { P.told → HasRested K.start (P.view below.dev.now) }
+    requires counts { Uses 0 K.start (P.view below.dev.now) }
+    requires faults { (P.view below.dev.now).faults ≡ K.start.faults }
+    requires ready { IsReadyInMemory core.old }
+    requires at { P.told → IsInMemory core.old ring.now K.batch K.start }
+    requires fits { (most : ℕ) × T.is_bound task.now core.old.volume most × (length K.batch + most ≤ bodies) }
+    ensures device { result.0.dev.ghost_name ≡ K.device }
+    /// promise (with device, given, told): A task in memory does to the disk in memory what it does to a device, and
+    /// fails only where a read of the device does.
+    ensures goes_on { GoesOn P.told core.old core.new ring.now K.batch result.1.batch K.start
+        (P.view result.0.dev.now) (T.next task.now (held_state core.old K.batch K.start)) result.2 }
+    ensures given { P.told → IfOk result.2 (λ r. T.given task.now (held_state core.old K.batch K.start) r
+        (held_state core.new result.1.batch (P.view result.0.dev.now))) }
+    ensures told { IfOk result.2 (λ r. T.told_given task.now core.old r core.new) }
+    ensures reads { P.told → (P.view result.0.dev.now).reads ≡ K.start.reads }
+    /// promise (with reads): Nothing is written on the device.
+    ensures writes { (P.view result.0.dev.now).writes ≡ K.start.writes }
+{
+    let base = Base {
+        dev: below.dev,
+        room: kept,
+    };
+    let mut part = Part::<P, K>::new(base, ring);
+    let outcome = task.run(core, &mut part);
+    let Base { dev, room } = part.leave();
+    (Below { dev }, room, outcome)
+}
+
+/// Does it on the device itself, with nothing gathered: the records of the journal are put in place before it and
+/// behind it.
+pub fn on_device<D: Device, T: Task>(
+    core: &mut Core,
+    dev: &mut D,
+    room: &mut AskRoom,
+    task: &T,
+) -> Result<Reply, Failed>
+    requires here { is_some room.old.room ≡ true }
+    requires ready { IsReadyInMemory core.old }
+    requires at { D.told → IsInMemory core.old room.old.ring (gathered room.old) (D.view dev.old) }
+    requires none { gathered room.old ≡ [] }
+    ensures here { is_some room.new.room ≡ true }
+    /// promise (with given, told, none): The task is done on the device, and a crash leaves the world before it or the
+    /// next one.
+    ensures goes_on { GoesOn D.told core.old core.new room.new.ring (gathered room.old) (gathered room.new)
+        (D.view dev.old) (D.view dev.new)
+        (T.next task.now (held_state core.old (gathered room.old) (D.view dev.old))) result }
+    ensures given { D.told → IfOk result (λ r. T.given task.now
+        (held_state core.old (gathered room.old) (D.view dev.old)) r
+        (held_state core.new (gathered room.new) (D.view dev.new))) }
+    ensures told { IfOk result (λ r. T.told_given task.now core.old r core.new) }
+    ensures base { D.told → OnOk result (world_of (D.view dev.new).reads ≡ world_of (gone_on []
+        (D.view dev.new).reads)) }
+    ensures none { gathered room.new ≡ [] }
+{
+    if room.ring.checkpoint(dev).is_err() {
+        core.spend();
+        return Err(Failed);
+    }
+    task.run(core, dev)
+}
+
+/// Commits what was gathered as one batch, if anything was.
+pub fn commit<D: Device>(core: &mut Core, dev: &mut D, room: &mut AskRoom) -> Result<(), Failed>
+    requires here { is_some room.old.room ≡ true }
+    requires ready { IsReadyInMemory core.old }
+    requires at { D.told → IsInMemory core.old room.old.ring (gathered room.old) (D.view dev.old) }
+    ensures here { is_some room.new.room ≡ true }
+    /// promise (with state, base, none): What was gathered is on the device then, as one batch. A crash before the end
+    /// leaves the world that was on the device, or the one in memory.
+    ensures goes_on { GoesOn D.told core.old core.new room.new.ring (gathered room.old) (gathered room.new)
+        (D.view dev.old) (D.view dev.new)
+        (world_of (gone_on (gathered room.old) (D.view dev.old).reads)) result }
+    ensures state { D.told → OnOk result (held_state core.new (gathered room.new) (D.view dev.new) ≡ held_state core.old
+        (gathered room.old) (D.view dev.old)) }
+    ensures same { OnOk result (core.new ≡ core.old) }
+    ensures base { D.told → OnOk result (world_of (D.view dev.new).reads ≡ world_of (gone_on (gathered room.old)
+        (D.view dev.old).reads)) }
+    ensures none { OnOk result (gathered room.new ≡ []) }
+    ensures most { (D.view dev.new).writes ≤ (D.view dev.old).writes + 236 }
+{
+    let mut kept = room.room.take().unwrap();
+    let outcome = kept.commit(dev, &mut room.ring);
+    room.room = Some(kept);
+    if outcome.is_err() {
+        core.spend();
+        return Err(Failed);
+    }
+    Ok(())
+}
+
+/// Whether so many writes more fit into what was gathered.
+pub fn has_room(room: &AskRoom, writes: u32) -> bool
+    requires { writes ≤ bodies }
+    ensures { result ≡ true → length (gathered room.now) + writes ≤ bodies }
+{
+    match &room.room {
+        Some(room) => room.homes() + writes as usize <= HOMES_MAX,
+        None => false,
+    }
+}
