@@ -1,4 +1,4 @@
-use Rattle.std.proofs.Common.{◌^◌, [], refl, sym, append-nil, subst}
+use Rattle.std.proofs.Common.{◌^◌, [], inr, refl, sym, append-nil, subst, arith}
 use Rattle.tsd_model.specs.declared.requests.PlaceKind.{PlaceKind}
 use Rattle.tsd_words.specs.declared.status.Status.TheVariants as status
 use Rattle.serving.specs.FrameSpelling.{frame_spelling, frame_voice}
@@ -7,7 +7,9 @@ use Rattle.serving.specs.Prompt.{IsOfPort, mark}
 use Rattle.serving.specs.Ran.{taking}
 use Rattle.image_runs.specs.Served.{disk_service, start_of}
 use Rattle.image_runs.specs.Server.{disk_work}
+use Rattle.image_runs.specs.Opened.{IsUnopened}
 use Rattle.image_groups.specs.Served.{ImageRanByRounds}
+use Rattle.image_groups.specs.Waiting.{MayWait}
 use Rattle.gathering_runs.proofs.Rounds.{near_none, ran_by_rounds, so_far_none, take_none}
 use Rattle.tsd_serve.proofs.grouped.group_frames.Goals as goal
 
@@ -18,6 +20,7 @@ returns-in-Ok-clause-rounds g c told =
     subst (λ (k : PlaceKind). ImageRanByRounds c.serve_port_in_groups.result frame_voice frame_spelling k (IsOfPort view) (2 ^ 40) source (view c.args.port.now) (view c.serve_port_in_groups.new.port)) c.pick.ensures (c.serve_port_in_groups.ensures.rounds told)
 
 pub returns-in-Err-clause-rounds : goal.returns-in-Err-clause-rounds
+unfolding ran_by_rounds so_far_none
 returns-in-Err-clause-rounds g c told =
     let k = disk_service frame_voice in
     let port = IsOfPort g.P.Device.view in
@@ -27,6 +30,7 @@ returns-in-Err-clause-rounds g c told =
       opened = m;
       of_port = (c.args.port.now, refl);
       nothing_sent = refl;
-      rounds = ran_by_rounds k disk_work port frame_spelling (2 ^ 40) status.NoMemory s s s _ [] [] [] [] m m m m (so_far_none k disk_work port frame_spelling (2 ^ 40) s s m.sent m (c.args.port.now, refl) refl refl)
-          (record { taken = λ tells. sym (append-nil _); left = λ tells. refl }) (near_none frame_spelling (2 ^ 40) frames_lawful.none (take_none (2 ^ 40))) (refl, refl) (λ cut. refl);
+      rounds = ran_by_rounds k disk_work MayWait port frame_spelling (2 ^ 40) status.NoMemory s s s _ [] [] [] [] m m m m (so_far_none k disk_work MayWait port frame_spelling (2 ^ 40) s s m.sent (disk_work.debt m.reads) m (c.args.port.now, refl) refl (omega arith) refl)
+          (record { taken = λ tells. sym (append-nil _); left = λ tells. refl }) (near_none frame_spelling (2 ^ 40) frames_lawful.none (take_none (2 ^ 40))) (refl, refl) (λ cut. refl) (λ is. absurd (subst IsUnopened is tt));
+      nothing_left = inr (refl, refl);
     }
