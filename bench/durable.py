@@ -4,16 +4,15 @@ run on the disk is the disk's."""
 from __future__ import annotations
 
 import os
-import sqlite3
 from pathlib import Path
 from statistics import median
-from typing import Optional
+from typing import Dict, Iterator, List, Optional, Tuple
 
-from trials import WRITE, Place, Row, Rows, Talk, call, fresh, timed
+from trials import WRITE, Place, Row, Rows, Sqlite, Talk, call, fresh, timed
 
 BLOCKS = 1_000
 MEBIBYTE = 1 << 20
-ON_DISK, IN_MEMORY = 400, 4_000
+ROUNDS, ON_DISK, IN_MEMORY = 5, 100, 1_000
 SHARE_ROUNDS = 3
 
 
@@ -47,20 +46,11 @@ def plain(path: Path, count: int, writes: int) -> float:
     return taken
 
 
-def sqlite(path: Path, count: int) -> float:
-    """The seconds of so many updates of a row, each a transaction, in write-ahead mode with full synchronisation."""
-    base = sqlite3.connect(path, isolation_level=None)
-    base.execute("pragma journal_mode=wal")
-    base.execute("pragma synchronous=full")
-    base.execute("create table rows (number integer primary key, bytes blob)")
-    base.execute("insert into rows values (0, ?)", (bytes(512),))
-
-    def updates() -> None:
-        for number in range(count):
-            base.execute("update rows set bytes = ? where number = 0", (number.to_bytes(512, "little"),))
-
-    taken = timed(updates)
-    base.close()
+def sqlite(path: Path, count: int, is_settled: bool) -> float:
+    """The seconds of so many updates of a row."""
+    rows_of = Sqlite(path, is_settled)
+    taken = timed(lambda: rows_of.update(count))
+    rows_of.close()
     return taken
 
 
@@ -75,19 +65,35 @@ def in_lines(image: Path, count: int) -> float:
         return talk.ask(writes_of(count), b"ok")
 
 
-def against(folder: Path, where: str, count: int) -> Rows:
-    """Requests a second, and the ratios of this run."""
+def one_round(folder: Path, count: int) -> Iterator[Tuple[str, float]]:
+    """What is measured in a round, each beside the others: requests a second, and ratios."""
     image = fresh(folder / "disk.img", BLOCKS)
     run, serve = in_lines(image, count), frames(image, count)
-    one, two = (plain(folder / f"plain{writes}", count, writes) for writes in (1, 2))
-    rows = sqlite(folder / "rows.db", count)
+    others = {
+        "one write and one sync": plain(folder / "plain1", count, 1),
+        "two writes and two syncs": plain(folder / "plain2", count, 2),
+        "SQLite, its log fresh and growing": sqlite(folder / "fresh.db", count, False),
+        "SQLite, its log at its full length": sqlite(folder / "settled.db", count, True),
+    }
     for name, taken in (("run", run), ("serve", serve)):
         if taken is None:
             continue
-        yield Row(f"{where}: WRITE by `{name}`, requests a second", f"{count / taken:,.0f}")
-        yield Row(f"{where}: `{name}` against one write and one sync", f"{one / taken:.2f}")
-        yield Row(f"{where}: `{name}` against two writes and two syncs", f"{two / taken:.2f}")
-        yield Row(f"{where}: `{name}` against SQLite", f"{rows / taken:.2f}")
+        yield f"WRITE by `{name}`, requests a second", count / taken
+        for other, seconds in others.items():
+            yield f"`{name}` against {other}", seconds / taken
+    for path in folder.iterdir():
+        path.unlink()
+
+
+def against(folder: Path, where: str, count: int) -> Rows:
+    """The medians of rounds."""
+    found: Dict[str, List[float]] = {}
+    for _ in range(ROUNDS):
+        for name, value in one_round(folder, count):
+            found.setdefault(name, []).append(value)
+    for name, values in found.items():
+        value = median(values)
+        yield Row(f"{where}: {name}", f"{value:,.0f}" if "a second" in name else f"{value:.2f}")
 
 
 def share(place: Place) -> Row:

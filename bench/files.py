@@ -2,19 +2,16 @@
 
 from __future__ import annotations
 
-import sqlite3
 import subprocess
 from pathlib import Path
 from statistics import median
 from typing import Iterator
 
-from trials import PROGRAM, READ, WRITE, Place, Row, Rows, Talk, call, timed
+from trials import PROGRAM, READ, WRITE, Place, Row, Rows, Sqlite, Talk, call, timed
 
 BLOCKS, SECTORS, ROUNDS, PUTS = 4_000, 8, 5, 100
 BYTES = 100
 PIECE, PIECES = 4_080, 75
-# A log of SQLite has its full length behind so many pages.
-SETTLED = 1_200
 KINDS = ("inode", "chain")
 
 
@@ -26,22 +23,6 @@ class Shell(Talk):
         words = [PROGRAM, str(image), "shell", kind, "0", WRITE, "near"]
         self.process = subprocess.Popen(words, stdin=subprocess.PIPE, stdout=subprocess.PIPE, bufsize=0)
         self.ask(["mkfs"], b"ok")
-
-
-class Blobs:
-    """A table of blobs in write-ahead mode with full synchronization, its log at its full length."""
-
-    def __init__(self, path: Path) -> None:
-        self.base = sqlite3.connect(path, isolation_level=None)
-        for line in ("pragma journal_mode=wal", "pragma synchronous=off", "create table blobs (name text, bytes blob)"):
-            self.base.execute(line)
-        self.insert(SETTLED)
-        self.base.execute("pragma synchronous=full")
-
-    def insert(self, count: int) -> None:
-        """So many blobs, a transaction each."""
-        for number in range(count):
-            self.base.execute("insert into blobs values (?, ?)", (f"f{number}", bytes(BYTES)))
 
 
 def puts(shell: Shell, kind: str, number: int) -> float:
@@ -57,12 +38,12 @@ def puts(shell: Shell, kind: str, number: int) -> float:
 
 def against(folder: Path, where: str, kind: str) -> Iterator[Row]:
     """A put's time, divided by that of an insert: medians of rounds that take turns."""
-    blobs = Blobs(folder / f"{kind}.db")
+    blobs = Sqlite(folder / f"{kind}.db")
     many = []
     with Shell(folder / f"{kind}.img", kind) as shell:
         for number in range(ROUNDS):
             taken = puts(shell, kind, number)
-            many.append((PUTS / taken, taken / timed(lambda: blobs.insert(PUTS))))
+            many.append((PUTS / taken, taken / timed(lambda: blobs.insert(PUTS, BYTES))))
     speed, ratio = map(median, zip(*many))
     yield Row(f"{where}: `put` of {BYTES} bytes ({kind}), one at a time, a second", f"{speed:,.0f}")
     yield Row(f"{where}: its time against SQLite's insert of a blob, settled", f"{ratio:.2f}")

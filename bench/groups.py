@@ -6,7 +6,6 @@ from __future__ import annotations
 
 import os
 import shutil
-import sqlite3
 import subprocess
 import sys
 from pathlib import Path
@@ -14,14 +13,12 @@ from statistics import median
 from typing import Iterator, List, Sequence
 
 from recording import INPUT, PUT, READ, SYNC, WRITE as WRITTEN, NoRecorder, Recorder, Recording
-from trials import PROGRAM, READ as READ_CAP, WRITE, Place, Row, Rows, call, fresh, left_out, text_of, timed
+from trials import (PROGRAM, READ as READ_CAP, SECTOR, WRITE, Place, Row, Rows, Sqlite, call, fresh, left_out, text_of,
+                    timed)
 
 BLOCKS, UNDER_WAY, ROUNDS = 1_000, 64, 5
 TOGETHER, ALONE = 1_280, 300
-# A log of SQLite has its full length behind so many pages.
-SETTLED = 1_200
 CHAIN = 100_000
-SECTOR = 512
 GATES = (2, *(115 + 2 * record for record in range(1, 8)))
 DONE = b"\x01\x00\x01"
 
@@ -78,26 +75,6 @@ def writes(talk: Frames, count: int, together: int) -> float:
         for first in range(0, count, together):
             talk.ask(b"".join(map(write, range(first, first + together))), together)
     return timed(all_of_them)
-
-
-class Sqlite:
-    """A row that is updated, each time by a transaction, in write-ahead mode with full synchronisation. Its log has its
-    full length, and is written from its front again."""
-
-    def __init__(self, path: Path) -> None:
-        self.base = sqlite3.connect(path, isolation_level=None)
-        for line in ("pragma journal_mode=wal", "pragma synchronous=full",
-                     "create table rows (number integer primary key, bytes blob)"):
-            self.base.execute(line)
-        self.base.execute("insert into rows values (0, ?)", (bytes(SECTOR),))
-        self.base.execute("pragma synchronous=off")
-        self.update(SETTLED)
-        self.base.execute("pragma synchronous=full")
-
-    def update(self, count: int) -> None:
-        """So many transactions."""
-        for number in range(count):
-            self.base.execute("update rows set bytes = ? where number = 0", (number.to_bytes(SECTOR, "little"),))
 
 
 def speeds(folder: Path, where: str) -> Rows:

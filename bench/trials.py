@@ -3,6 +3,7 @@
 from __future__ import annotations
 
 import os
+import sqlite3
 import subprocess
 import sys
 import threading
@@ -19,6 +20,9 @@ READ, WRITE = "a" * 32, "b" * 32
 LARGEST = 1_048_576
 MILLION = 1_000_000
 PIECE = 65_536
+SECTOR = 512
+# A log of SQLite has its full length behind so many pages.
+SETTLED = 1_200
 
 
 class Row(NamedTuple):
@@ -150,6 +154,35 @@ class Talk:
         self.process.stdin.close()
         self.process.stdout.close()
         self.process.wait()
+
+
+class Sqlite:
+    """Rows of SQLite, each written by a transaction of its own, in write-ahead mode with full synchronisation. Where it
+    is settled, its log has its full length, and is written from its front again; else the log is fresh and grows."""
+
+    def __init__(self, path: Path, is_settled: bool = True) -> None:
+        self.base = sqlite3.connect(path, isolation_level=None)
+        for line in ("pragma journal_mode=wal", "pragma synchronous=off",
+                     "create table rows (number integer primary key, bytes blob)"):
+            self.base.execute(line)
+        self.base.execute("insert into rows values (0, ?)", (bytes(SECTOR),))
+        if is_settled:
+            self.update(SETTLED)
+        self.base.execute("pragma synchronous=full")
+
+    def update(self, count: int) -> None:
+        """Writes one row so many times."""
+        for number in range(count):
+            self.base.execute("update rows set bytes = ? where number = 0", (number.to_bytes(SECTOR, "little"),))
+
+    def insert(self, count: int, size: int) -> None:
+        """So many new rows of so many bytes."""
+        for _ in range(count):
+            self.base.execute("insert into rows (bytes) values (?)", (bytes(size),))
+
+    def close(self) -> None:
+        """Ends the connection."""
+        self.base.close()
 
 
 def micros(seconds: float, count: int) -> float:

@@ -269,8 +269,8 @@ def taken_by_copy(disk: FilledDisk, kind: str, place: str) -> Tuple[object, obje
 
 
 def tree_results(context: Context, program: Program) -> Iterator[Result]:
-    """The blocks that `shell` and `copyfs` take, for each kind. The first block of a copy is searched from its root, and
-    each other one from one that was taken, so that only a search by zones tells itself from the others there."""
+    """The blocks that `shell` and `copyfs` take, for each kind. The first block of a copy is searched from its root,
+    and each other one from one that was taken, so that only a search by zones tells itself from the others there."""
     path = context.folder / "trees.img"
     for place in PLACES:
         yield compared(f"the block that shell takes, {place}", *taken_by_shell(FilledDisk(program, path), place))

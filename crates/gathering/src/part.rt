@@ -157,7 +157,8 @@ impl<'a, 'r, P: Device, K: Going> Part<'a, 'r, P, K> {
             (gone_on result.room.batch K.start.reads))
             ⊎ LeavesStray (⟦<Part<'a, 'r, P, K> as Device>⟧.view self.entry) }
         ensures is { IsBatch result.room.batch }
-        ensures few { length result.room.batch ≤ length K.batch + (⟦<Part<'a, 'r, P, K> as Device>⟧.view self.entry).writes }
+        ensures few { length result.room.batch
+            ≤ length K.batch + (⟦<Part<'a, 'r, P, K> as Device>⟧.view self.entry).writes }
         /// promise (with unfailed): A call failed only where the device's count of faults rose, or where 113 homes are
         /// fewer than those of the batch and one for each write.
         ensures failed { 0 < (⟦<Part<'a, 'r, P, K> as Device>⟧.view self.entry).faults

@@ -71,10 +71,12 @@ impl Room {
         ensures firm { D.told → OnOk result (IsFirm (D.view dev.new)) }
         ensures sent { D.told → (D.view dev.new).sent ≡ (D.view dev.old).sent }
         ensures empty { OnOk result (self.new.batch ≡ []) }
-        /// promise: A crash at any moment leaves what the device stood for before, or that with the whole batch in place.
+        /// promise: A crash at any moment leaves what the device stood for before, or that with the whole batch in
+        /// place.
         ensures any_moment { D.told → LeavesOnly (D.view dev.old) (D.view dev.new)
             (λ x f. IsBeforeOrAfter self.old.batch (D.view dev.old) x × (f ≡ (D.view dev.old).sent)) }
-        /// promise (with bounded): No write for an empty batch, and else at most 123 more than it has homes: at most 236.
+        /// promise (with bounded): No write for an empty batch, and else at most 123 more than it has homes: at most
+        /// 236.
         ensures uses { Uses (most_writes (length self.old.batch)) (D.view dev.old) (D.view dev.new) }
         ensures bounded { most_writes (length self.old.batch) ≤ 236 }
         ensures faults { CountsFault result (D.view dev.old).faults (D.view dev.new).faults }

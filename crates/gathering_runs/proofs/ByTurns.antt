@@ -1,12 +1,11 @@
 -- Turns, one behind the other.
-use Rattle.std.proofs.Common.{◌≡◌, ◌⊎◌, ◌≤◌, ◌<◌, inl, inr, ℕ, zero, suc, ◌+◌, ◌-◌, List, [], ◌∷◌, ◌++◌, refl, sym, ◌∙◌, ap, subst, arith, append_assoc, append-nil}
-use Rattle.std.specs.Prelude.{All, Result, Ok, Err, OnOk}
+use Rattle.std.proofs.Common.{◌≡◌, ◌⊎◌, ◌≤◌, ◌<◌, inl, inr, ℕ, ◌+◌, ◌-◌, List, [], ◌∷◌, ◌++◌, refl, sym, ◌∙◌, ap, subst, arith, append_assoc, append-nil}
+use Rattle.std.specs.Prelude.{Result, Ok, Err}
 use Rattle.serving.specs.Prompt.{Mark}
-use Rattle.serving.specs.Runs.{Run, Served}
 use Rattle.serving.specs.Service.{Service}
 use Rattle.serving.specs.Work.{WorkCount}
-use Rattle.gathering_runs.specs.ByTurns.{all_of, ByTurns, IsDirect, IsGroup, IsReplied, IsTurn, AnswersByTurns, LeavesBut, Reclaims, left_by}
-use Rattle.gathering_runs.proofs.Reclaiming.{left_mono, reclaims_joined, reclaims_less, reclaims_sent}
+use Rattle.gathering_runs.specs.ByTurns.{all_of, ByTurns, IsGroup, IsReplied, IsTurn, AnswersByTurns, LeavesBut, Reclaims}
+use Rattle.gathering_runs.proofs.Reclaiming.{left_mono, reclaims_joined, reclaims_less}
 
 pub all_of-append : {Q : Type 0} (xs ys : List (List Q)) → all_of (xs ++ ys) ≡ all_of xs ++ all_of ys
 all_of-append [] ys = refl

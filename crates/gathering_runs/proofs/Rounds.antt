@@ -193,7 +193,7 @@ module _ {Q : Type 0} (k : Service Q) (w : WorkCount Q k.States) (waits : Q → 
     left = turn.left;
   }
 
-  finished_over : (old new : Mark) → IsFinished w A old new → IsFinished w B old new
+  pub finished_over : (old new : Mark) → IsFinished w A old new → IsFinished w B old new
   finished_over old new f = record {
     groups = f.groups;
     settled = f.settled;
@@ -204,11 +204,11 @@ module _ {Q : Type 0} (k : Service Q) (w : WorkCount Q k.States) (waits : Q → 
     still_nothing = f.still_nothing;
   }
 
-  turns_over : (turns : List (List Q)) (s t : k.States) (old new : Mark) → ByTurns k w waits A s turns t old new → ByTurns k w waits B s turns t old new
+  pub turns_over : (turns : List (List Q)) (s t : k.States) (old new : Mark) → ByTurns k w waits A s turns t old new → ByTurns k w waits B s turns t old new
   turns_over [] s t old new a = a
   turns_over (qs ∷ turns) s t old new a = (a.0, a.1, turn_over s qs a.0 old a.1 a.2, turns_over turns a.0 t a.1 new a.3)
 
-  rounds_over : (p : Spelling Q) (limit : ℕ) (rounds : List (Round Q)) (s t : k.States) (came0 came : List ℕ) (qs0 qs : List Q) (old new : Mark) → ByRounds k w waits A p limit s came0 qs0 rounds t came qs old new → ByRounds k w waits B p limit s came0 qs0 rounds t came qs old new
+  pub rounds_over : (p : Spelling Q) (limit : ℕ) (rounds : List (Round Q)) (s t : k.States) (came0 came : List ℕ) (qs0 qs : List Q) (old new : Mark) → ByRounds k w waits A p limit s came0 qs0 rounds t came qs old new → ByRounds k w waits B p limit s came0 qs0 rounds t came qs old new
   rounds_over p limit [] s t came0 came qs0 qs old new a = a
   rounds_over p limit (r ∷ rounds) s t came0 came qs0 qs old new a =
       (a.0, a.1, a.2, turns_over r.turns s a.0 old a.1 a.3, a.4, rounds_over p limit rounds a.0 t (came0 ++ r.more) came (qs0 ++ all_of r.turns) qs a.1 new a.5)

@@ -1,5 +1,4 @@
-use Rattle.std.proofs.Common.{◌∷◌, [], ◌≡◌, ◌≤◌, ◌+◌, ◌-◌, ℕ, OnOk, refl, sym, ◌∙◌, ap, arith}
-use Rattle.image_device.specs.Image.{Image}
+use Rattle.std.proofs.Common.{◌∷◌, [], ◌≡◌, ◌≤◌, ◌+◌, ◌-◌, refl, sym, ◌∙◌, ap, arith}
 use Rattle.image_device.proofs.Moments.{ends_in}
 use Rattle.image_device.proofs.Outcomes.{unless_err}
 use Rattle.tsd_words.specs.declared.status.Status.TheVariants as status

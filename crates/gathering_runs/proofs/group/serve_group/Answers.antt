@@ -1,5 +1,5 @@
-use Rattle.std.proofs.Common.{◌≡◌, ◌⊎◌, ◌∷◌, ◌++◌, [], inl, inr, Bool, false, refl, sym, ◌∙◌, ap, subst, append-nil}
-use Rattle.std.specs.Prelude.{Ok, Err}
+use Rattle.std.proofs.Common.{◌≡◌, ◌⊎◌, ◌∷◌, ◌++◌, [], inl, inr, false, refl, sym, ◌∙◌, ap, subst, append-nil}
+use Rattle.std.specs.Prelude.{Err}
 use Rattle.serving.specs.Voice.{spoken}
 use Rattle.gathering.specs.Gathered.{cleared, gathered_view}
 use Rattle.gathering_runs.specs.Turns.{HandsOut, status_by, waits_by}

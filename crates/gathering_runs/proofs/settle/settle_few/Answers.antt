@@ -1,4 +1,4 @@
-use Rattle.std.proofs.Common.{◌≡◌, true, sym, ◌∙◌, ap, arith}
+use Rattle.std.proofs.Common.{◌≡◌, sym, ◌∙◌, ap, arith}
 use Rattle.image_device.specs.Image.{Image}
 use Rattle.gathering_runs.proofs.settle.settle_few.Goals as goal
 

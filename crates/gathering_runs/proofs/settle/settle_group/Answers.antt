@@ -1,10 +1,8 @@
 use Rattle.std.proofs.Common.{◌⊎◌, ◌≤◌, ◌<◌, ◌+◌, ◌-◌, ℕ, [], inl, inr, refl, sym, ◌∙◌, ap, subst, arith, append-nil}
 use Rattle.std.specs.Prelude.{Result, Ok, Err, OnErr}
 use Rattle.image_device.specs.Counts.{CountsFault, Rose}
-use Rattle.image_device.specs.Image.{Image}
 use Rattle.serving.specs.Voice.{spoken}
 use Rattle.gathering.specs.Gathered.{cleared, gathered_view}
-use Rattle.gathering.proofs.Closed.{cleared_closed}
 use Rattle.gathering_runs.proofs.Carried.{to_next}
 use Rattle.gathering_runs.proofs.Grouped.{gathered_badly, gathered_well, left_flushed, left_given_up, sent_by_flush, went_flushed}
 use Rattle.gathering_runs.proofs.Outcome.{err_is, ok_by, ok_is, ok_is_if, ok_or_err}

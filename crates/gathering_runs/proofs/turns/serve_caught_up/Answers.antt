@@ -1,5 +1,4 @@
-use Rattle.std.proofs.Common.{◌≡◌, ◌++◌, ◌∷◌, [], List, false, refl, sym, ◌∙◌, ap, subst, arith, append-nil}
-use Rattle.std.specs.Prelude.{Ok, Err}
+use Rattle.std.proofs.Common.{◌≡◌, ◌++◌, ◌∷◌, [], refl, sym, ◌∙◌, subst, arith, append-nil}
 use Rattle.image_device.specs.Image.{Image}
 use Rattle.image_device.specs.Runs.{LeavesOnly}
 use Rattle.serving.specs.Input.{completed}

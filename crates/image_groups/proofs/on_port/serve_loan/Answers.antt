@@ -26,6 +26,7 @@ returns-clause-untouched g c =
     of_same (λ x y. g.P.Device.told → IsForeign (view x).reads → IsUntouched (view x) (view y)) _ _ _ _ c.new-lent.ensures (sym c.into_loan.ensures.port) c.serve_image_in_groups-lent.ensures.untouched
 
 pub returns-clause-rounds : goal.returns-clause-rounds
+unfolding ran_over
 returns-clause-rounds g c told =
     let view = g.P.Device.view in
     let r = c.serve_image_in_groups-lent.result.1 in

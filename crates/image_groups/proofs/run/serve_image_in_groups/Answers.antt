@@ -120,6 +120,7 @@ returns-in-Ok-clause-rounds g c told =
     }
 
 pub returns-in-Err-clause-rounds : goal.returns-in-Err-clause-rounds
+unfolding ran_by_rounds so_far_none
 returns-in-Err-clause-rounds g c told =
     let k = disk_service g.R.Replies.voice in
     let port = IsOfPort g.P.Device.view in
