@@ -63,22 +63,7 @@ module _ {T : Type 0} (old mid : Volume) (q : Request) (v w : View) (r : Result 
   due_none : makes_blocks q ≡ true → due old ≡ 0
   due_none makes = let none = (bound.new makes).0 in let ring : checkpoint_writes old.ring ≡ 0 = ap checkpoint_writes empty in omega (arith, none, ring)
 
-  -- the request
-  pub request_most : w.writes ≤ v.writes + most
-  request_most = elim (cases_Bool (makes_blocks q)) [
-    | inl makes ↦ let none = due_none makes in let less = new_most makes in let fits = (bound.new makes).1 in omega (arith, none, less, fits)
-    | inr not ↦
-        let homes = most_homes old.tables.geometry q in
-        let did = once (bound.once not).0 in
-        let first = first_writes homes in
-        let all = both_writes homes (batch_writes [] homes) 0 first (omega arith) in
-        let here : batch_writes old.ring homes ≡ batch_writes [] homes = ap (λ rs. batch_writes rs homes) empty in
-        let less = did.most in
-        let fits = (bound.once not).1 in
-        omega (arith, less, here, all, fits)
-  ]
-
-  -- and the records that it leaves
+  -- the request, and the records that it leaves
   module _ (ring : waits old q ≡ false → HasBatch (most_homes old.tables.geometry q) old.ring mid.ring) (new_paid : makes_blocks q ≡ true → w.writes + due mid ≤ v.writes + due old + zeroed_cost old.tables.geometry (count_of q))
       (z : View) (emptied : z.writes ≤ w.writes + checkpoint_writes mid.ring) where
     pub task_most : z.writes ≤ v.writes + most
