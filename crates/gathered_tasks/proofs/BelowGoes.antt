@@ -1,5 +1,5 @@
 -- A task on the device itself.
-use Rattle.std.proofs.Common.{◌≡◌, inl, inr, ⊎_elim, ℕ, true, arith, List, [], refl, sym, ◌∙◌, ap, subst}
+use Rattle.std.proofs.Common.{◌≡◌, inl, inr, ⊎_elim, true, arith, List, [], sym, ◌∙◌, ap, subst}
 use Rattle.std.specs.Prelude.{Result, Ok, Err, IfOk, OnOk, OnErr}
 use Rattle.tsd_model.specs.World.{World}
 use Rattle.tsd_model.specs.Step.{State}
@@ -9,7 +9,6 @@ use Rattle.image_device.specs.View.{IsSound, View}
 use Rattle.image_device.specs.Runs.{LeavesOnly, LeavesPart}
 use Rattle.image_device.proofs.Moments.{joined}
 use Rattle.image_device.proofs.Parts.{part_then}
-use Rattle.image_layout.specs.Image.{Image}
 use Rattle.image_layout.specs.declared.offset.Patch.{Patch}
 use Rattle.intent_journal.specs.Records.{AreClosed, JournalRecord}
 use Rattle.image_world.specs.Behind.{behind}

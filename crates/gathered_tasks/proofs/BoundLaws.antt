@@ -1,6 +1,6 @@
 -- How often a request writes at most, with its records in place behind it.
-use Rattle.std.proofs.Common.{◌≡◌, ◌⊎◌, inl, inr, ℕ, ◌+◌, ◌*◌, ◌≤◌, ◌==◌, ◌<◌, true, false, cond, List, [], ◌∷◌, length, refl, sym, ◌∙◌, ap, subst, arith}
-use Rattle.std.specs.Prelude.{Result, Ok, OnOk, IsTrue, ◌↔◌, not, Bool, nat_lt, suc, zero}
+use Rattle.std.proofs.Common.{◌≡◌, inl, inr, ℕ, ◌+◌, ◌*◌, ◌≤◌, ◌==◌, ◌<◌, true, false, cond, List, [], ◌∷◌, length, refl, ◌∙◌, ap, arith}
+use Rattle.std.specs.Prelude.{Result, IsTrue, ◌↔◌, not, Bool, nat_lt, suc, zero}
 use Rattle.tsd_model.specs.declared.geometry.Geometry.{Geometry}
 use Rattle.image_world.specs.Tables.{pairs_of}
 use Rattle.volume_laws.proofs.Pointed.{settled_pairs}
@@ -10,7 +10,6 @@ use Rattle.tsd_model.specs.declared.requests.Request.{Request}
 use Rattle.image_device.specs.View.{View}
 use Rattle.image_device.specs.declared.device.Failed.{Failed}
 use Rattle.image_layout.specs.declared.offset.Patch.{Patch}
-use Rattle.intent_journal.specs.Records.{JournalRecord}
 use Rattle.intent_journal.specs.Ring.{checkpoint_writes, committed, is_full_for}
 use Rattle.intent_journal.proofs.Costs.{checkpoint_added}
 use Rattle.image_world.specs.Debt.{owed}
@@ -18,7 +17,7 @@ use Rattle.volume_laws.specs.Rings.{batch_writes, CommitsOnce, HasBatch}
 use Rattle.volume_laws.specs.Volume.{told_by, IsVolumeReady, Volume}
 use Rattle.volume_laws.specs.Writes.{due, zeroed_cost}
 use Rattle.tsd_core.specs.Journal.{count_of, makes_blocks, most_homes, waits}
-use Rattle.gathered_tasks.specs.Bounds.{IsBound, once_cost, step_cost}
+use Rattle.gathered_tasks.specs.Bounds.{IsBound, once_cost}
 
 -- what a commit on an empty journal writes, and leaves to be written
 first_writes : (homes : ℕ) → batch_writes [] homes ≤ cond (homes == 0) 0 (homes + 2)
@@ -64,22 +63,7 @@ module _ {T : Type 0} (old mid : Volume) (q : Request) (v w : View) (r : Result 
   due_none : makes_blocks q ≡ true → due old ≡ 0
   due_none makes = let none = (bound.new makes).0 in let ring : checkpoint_writes old.ring ≡ 0 = ap checkpoint_writes empty in omega (arith, none, ring)
 
-  -- the request
-  pub request_most : w.writes ≤ v.writes + most
-  request_most = elim (cases_Bool (makes_blocks q)) [
-    | inl makes ↦ let none = due_none makes in let less = new_most makes in let fits = (bound.new makes).1 in omega (arith, none, less, fits)
-    | inr not ↦
-        let homes = most_homes old.tables.geometry q in
-        let did = once (bound.once not).0 in
-        let first = first_writes homes in
-        let all = both_writes homes (batch_writes [] homes) 0 first (omega arith) in
-        let here : batch_writes old.ring homes ≡ batch_writes [] homes = ap (λ rs. batch_writes rs homes) empty in
-        let less = did.most in
-        let fits = (bound.once not).1 in
-        omega (arith, less, here, all, fits)
-  ]
-
-  -- and the records that it leaves
+  -- the request, and the records that it leaves
   module _ (ring : waits old q ≡ false → HasBatch (most_homes old.tables.geometry q) old.ring mid.ring) (new_paid : makes_blocks q ≡ true → w.writes + due mid ≤ v.writes + due old + zeroed_cost old.tables.geometry (count_of q))
       (z : View) (emptied : z.writes ≤ w.writes + checkpoint_writes mid.ring) where
     pub task_most : z.writes ≤ v.writes + most

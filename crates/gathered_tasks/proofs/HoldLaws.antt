@@ -1,31 +1,28 @@
 -- What a core does on a disk in memory, said of the device below it.
 use Rattle.image_device.specs.Image.{zeros}
-use Rattle.std.proofs.Common.{◌≡◌, ◌⊎◌, inl, inr, ⊎_elim, ℕ, zero, suc, cond, ◌+◌, ◌≤◌, ◌<◌, true, false, Bool, List, [], ◌∷◌, length, refl, sym, ◌∙◌, ap, subst, arith}
-use Rattle.std.proofs.Math.Logic.{∥∥₁_elim}
-use Rattle.std.specs.Prelude.{Result, Ok, Err, OnOk, OnErr, is_err}
+use Rattle.std.proofs.Common.{◌≡◌, inl, inr, ℕ, cond, ◌+◌, ◌≤◌, true, false, Bool, List, [], length, refl, sym, ◌∙◌, ap, subst, arith}
+use Rattle.std.specs.Prelude.{Result, Ok, Err, is_err}
 use Rattle.tsd_model.specs.World.{World}
 use Rattle.tsd_model.specs.Step.{State}
 use Rattle.tsd_model.specs.declared.geometry.Geometry.{Geometry}
-use Rattle.image_device.specs.View.{IsLeftNow, IsSound, View}
+use Rattle.image_device.specs.View.{View}
 use Rattle.image_device.specs.Runs.{IsFirm, LeavesOnly, LeavesPart}
-use Rattle.image_device.proofs.Moments.{ends_in, firm_image, joined, weakened}
+use Rattle.image_device.proofs.Moments.{weakened}
 use Rattle.image_layout.specs.Areas.{total}
 use Rattle.image_layout.specs.Image.{Image}
-use Rattle.image_layout.specs.Ring.{records}
 use Rattle.image_layout.specs.declared.offset.Patch.{Patch}
-use Rattle.intent_journal.specs.Crash.{IsAfter, IsBefore, IsBeforeOrAfter}
+use Rattle.intent_journal.specs.Crash.{IsBefore, IsBeforeOrAfter}
 use Rattle.intent_journal.specs.Home.{home, overlaid, is_journal, AgreeBut}
 use Rattle.intent_journal.specs.Records.{AreClosed, JournalRecord, open_records}
 use Rattle.intent_journal.specs.Ring.{IsRingAt}
 use Rattle.intent_journal.proofs.Overlays.{overlaid_alike}
-use Rattle.intent_journal.proofs.Uses.{at_closed, at_kept, at_valid}
+use Rattle.intent_journal.proofs.Uses.{at_closed, at_valid}
 use Rattle.image_world.specs.Behind.{behind}
 use Rattle.image_world.specs.Faults.{IsGood}
 use Rattle.image_world.specs.Stands.{Stands, world_of}
 use Rattle.image_world.proofs.AgreeLaws.{before_outside, before_stands}
 use Rattle.image_world.proofs.WrittenLaws.{above_journal}
 use Rattle.gathering.specs.Gathered.{cleared, gone_on}
-use Rattle.gathering.specs.Left.{IsHomeOf}
 use Rattle.gathering.proofs.Closed.{cleared_closed, cleared_home, closed_home, closed_ring}
 use Rattle.gathering_laws.proofs.Alike.{carries_over, closed_alike}
 use Rattle.tsd_core.specs.Core.{Core, FitsReads, IsCoreReady, state_on}

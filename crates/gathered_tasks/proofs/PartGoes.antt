@@ -1,5 +1,5 @@
 -- A task in memory, said of the device below.
-use Rattle.std.proofs.Common.{◌≡◌, ◌⊎◌, inl, inr, ⊎_elim, ℕ, ◌+◌, ◌≤◌, ◌<◌, true, false, List, [], length, refl, sym, ◌∙◌, ap, subst, arith}
+use Rattle.std.proofs.Common.{◌≡◌, ◌⊎◌, inl, inr, ⊎_elim, ℕ, ◌+◌, ◌≤◌, ◌<◌, true, List, [], length, refl, sym, ◌∙◌, ap, subst, arith}
 use Rattle.std.proofs.Math.Logic.{∥∥₁_elim}
 use Rattle.std.specs.Prelude.{Result, Ok, Err, IfOk, OnOk, OnErr}
 use Rattle.tsd_model.specs.World.{World}
@@ -9,7 +9,7 @@ use Rattle.image_device.specs.Calls.{Uses}
 use Rattle.image_device.specs.Counts.{CountsFault, Rose}
 use Rattle.image_device.specs.declared.device.Failed.{Failed}
 use Rattle.image_device.specs.View.{IsLeftNow, IsSound, View}
-use Rattle.image_device.specs.Runs.{IsFirm, LeavesOnly, LeavesPart}
+use Rattle.image_device.specs.Runs.{LeavesOnly, LeavesPart}
 use Rattle.image_device.proofs.Moments.{firm_image, weakened}
 use Rattle.image_device.proofs.Parts.{part_at_end}
 use Rattle.image_layout.specs.Image.{Image}

@@ -1,12 +1,11 @@
 -- A call on a device, and then one that leaves the world as it is.
-use Rattle.std.proofs.Common.{◌≡◌, ◌⊎◌, inl, inr, ⊎_elim, List, ℕ, refl, sym, ◌∙◌, ap, subst}
+use Rattle.std.proofs.Common.{◌≡◌, inl, inr, ⊎_elim, sym, ◌∙◌, subst}
 use Rattle.tsd_model.specs.World.{World}
 use Rattle.tsd_model.specs.declared.geometry.Geometry.{Geometry}
 use Rattle.image_device.specs.View.{IsSound, View}
-use Rattle.image_device.specs.Runs.{LeavesOnly, LeavesPart}
+use Rattle.image_device.specs.Runs.{LeavesPart}
 use Rattle.image_device.proofs.Moments.{ends_in, joined}
 use Rattle.image_device.proofs.Parts.{part_then}
-use Rattle.image_layout.specs.Image.{Image}
 use Rattle.image_world.specs.Behind.{behind}
 use Rattle.image_world.specs.Stands.{Stands}
 use Rattle.volume_laws.specs.Moments.{LeavesEither, LeavesWorld, StandsForEither}

@@ -1,8 +1,6 @@
 -- How often a request writes at most, with its records in place behind it.
-use Rattle.std.specs.Prelude.{◌≡◌, ℕ, ◌+◌, ◌*◌, ◌≤◌, ◌==◌, false, true, cond, []}
-use Rattle.tsd_model.specs.declared.geometry.Geometry.{Geometry}
+use Rattle.std.specs.Prelude.{◌≡◌, ℕ, ◌≤◌, ◌==◌, false, true, cond}
 use Rattle.tsd_model.specs.declared.requests.Request.{Request}
-use Rattle.image_layout.specs.Ring.{bodies}
 use Rattle.image_world.specs.Debt.{owed}
 use Rattle.volume_laws.specs.Volume.{Volume}
 use Rattle.volume_laws.specs.Writes.{batch_cost, zeroed_cost}

@@ -16,7 +16,7 @@ const MANY: u32 = 114;
 /// or for so many blocks that no batch holds them.
 pub fn writes_at_most(core: &Core, request: &Request) -> Option<u32>
     requires { IsCoreReady core.now }
-    /// promise: So often, and no more, a request writes where the journal is empty before it and emptied behind it.
+    /// promise: A request writes so often at most where the journal is empty before it and emptied behind it.
     ensures { IfSome result (λ most. IsBound core.now.volume request.now most) }
 {
     let geometry = core.geometry();

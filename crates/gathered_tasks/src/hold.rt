@@ -12,6 +12,7 @@ use crate::task::Task;
 use gathering::{Base, Going, Part, Room};
 use image_device::{Device, Failed};
 use intent_journal::Ring;
+use std::marker::Brand;
 use tsd_core::Core;
 use tsd_model::Reply;
 
@@ -20,13 +21,81 @@ const HOMES_MAX: usize = 113;
 
 /// A device through a reference.
 #[derive(Drop)]
-pub struct Below<'a, P: Device> {
-    pub dev: &'a mut P,
+struct Below<'a, P: Device> {
+    dev: &'a mut P,
 }
 
-/// Does it in memory, over the device and what was gathered that proofs pick: the device is only read, and what the
-/// disk in memory stands on is given back.
-pub fn in_part<'a, P: Device, T: Task, K: Going>(
+/// Does it in memory: the device is only read.
+pub fn in_memory<P: Device, T: Task>(
+    core: &mut Core,
+    dev: &mut P,
+    room: &mut AskRoom,
+    task: &T,
+) -> Result<Reply, Failed>
+    requires here { is_some room.old.room ≡ true }
+    requires ready { IsReadyInMemory core.old }
+    requires at { P.told → IsInMemory core.old room.old.ring (gathered room.old) (P.view dev.old) }
+    requires fits { (most : ℕ) × T.is_bound task.now core.old.volume most
+        × (length (gathered room.old) + most ≤ bodies) }
+    ensures here { is_some room.new.room ≡ true }
+    /// promise (with given, told): A task in memory is answered, and changes the disk in memory, as on a device of its
+    /// own, and fails only where a read of the device does.
+    ensures goes_on { GoesOn P.told core.old core.new room.new.ring (gathered room.old) (gathered room.new)
+        (P.view dev.old) (P.view dev.new)
+        (T.next task.now (held_state core.old (gathered room.old) (P.view dev.old))) result }
+    ensures given { P.told → IfOk result (λ r. T.given task.now
+        (held_state core.old (gathered room.old) (P.view dev.old)) r
+        (held_state core.new (gathered room.new) (P.view dev.new))) }
+    ensures told { IfOk result (λ r. T.told_given task.now core.old r core.new) }
+    /// promise (with ring, writes): Nothing is written on the device.
+    ensures reads { P.told → (P.view dev.new).reads ≡ (P.view dev.old).reads }
+    ensures ring { room.new.ring ≡ room.old.ring }
+    ensures writes { (P.view dev.new).writes ≡ (P.view dev.old).writes }
+{
+    let mut outcome = Err(Failed);
+    let below = Below { dev };
+    let _left = in_slots::<P, T, Brand>(core, below, room, task, &mut outcome);
+    outcome
+}
+
+/// The same over the device and what was gathered that proofs pick, where the device is given back. What else comes of
+/// it goes through references, so that the device is seen to be the one that was lent.
+fn in_slots<'a, P: Device, T: Task, K: Going>(
+    core: &mut Core,
+    below: Below<'a, P>,
+    room: &mut AskRoom,
+    task: &T,
+    outcome: &mut Result<Reply, Failed>,
+) -> Below<'a, P>
+    requires device { below.dev.ghost_name ≡ K.device }
+    requires batch { gathered room.old ≡ K.batch }
+    requires rests { P.told → HasRested K.start (P.view below.dev.now) }
+    requires counts { Uses 0 K.start (P.view below.dev.now) }
+    requires faults { (P.view below.dev.now).faults ≡ K.start.faults }
+    requires here { is_some room.old.room ≡ true }
+    requires ready { IsReadyInMemory core.old }
+    requires at { P.told → IsInMemory core.old room.old.ring K.batch K.start }
+    requires fits { (most : ℕ) × T.is_bound task.now core.old.volume most × (length K.batch + most ≤ bodies) }
+    ensures device { result.dev.ghost_name ≡ K.device }
+    ensures here { is_some room.new.room ≡ true }
+    ensures goes_on { GoesOn P.told core.old core.new room.old.ring K.batch (gathered room.new) K.start
+        (P.view result.dev.now) (T.next task.now (held_state core.old K.batch K.start)) outcome.new }
+    ensures given { P.told → IfOk outcome.new (λ r. T.given task.now (held_state core.old K.batch K.start) r
+        (held_state core.new (gathered room.new) (P.view result.dev.now))) }
+    ensures told { IfOk outcome.new (λ r. T.told_given task.now core.old r core.new) }
+    ensures reads { P.told → (P.view result.dev.now).reads ≡ K.start.reads }
+    ensures ring { room.new.ring ≡ room.old.ring }
+    ensures writes { (P.view result.dev.now).writes ≡ K.start.writes }
+{
+    let kept = room.room.take().unwrap();
+    let (below, kept, done) = in_part::<P, T, K>(core, below, kept, &room.ring, task);
+    room.room = Some(kept);
+    *outcome = done;
+    below
+}
+
+/// The same with the batch in a room of its own, which is given back too.
+fn in_part<'a, P: Device, T: Task, K: Going>(
     core: &mut Core,
     below: Below<'a, P>,
     kept: Room,
@@ -42,15 +111,12 @@ pub fn in_part<'a, P: Device, T: Task, K: Going>(
     requires at { P.told → IsInMemory core.old ring.now K.batch K.start }
     requires fits { (most : ℕ) × T.is_bound task.now core.old.volume most × (length K.batch + most ≤ bodies) }
     ensures device { result.0.dev.ghost_name ≡ K.device }
-    /// promise (with device, given, told): A task in memory does to the disk in memory what it does to a device, and
-    /// fails only where a read of the device does.
     ensures goes_on { GoesOn P.told core.old core.new ring.now K.batch result.1.batch K.start
         (P.view result.0.dev.now) (T.next task.now (held_state core.old K.batch K.start)) result.2 }
     ensures given { P.told → IfOk result.2 (λ r. T.given task.now (held_state core.old K.batch K.start) r
         (held_state core.new result.1.batch (P.view result.0.dev.now))) }
     ensures told { IfOk result.2 (λ r. T.told_given task.now core.old r core.new) }
     ensures reads { P.told → (P.view result.0.dev.now).reads ≡ K.start.reads }
-    /// promise (with reads): Nothing is written on the device.
     ensures writes { (P.view result.0.dev.now).writes ≡ K.start.writes }
 {
     let base = Base {
@@ -76,8 +142,8 @@ pub fn on_device<D: Device, T: Task>(
     requires at { D.told → IsInMemory core.old room.old.ring (gathered room.old) (D.view dev.old) }
     requires none { gathered room.old ≡ [] }
     ensures here { is_some room.new.room ≡ true }
-    /// promise (with given, told, none): The task is done on the device, and a crash leaves the world before it or the
-    /// next one.
+    /// promise (with given, told, none): The task is done on the device. A crash leaves the world that was on the device,
+    /// the one in memory, or the next one.
     ensures goes_on { GoesOn D.told core.old core.new room.new.ring (gathered room.old) (gathered room.new)
         (D.view dev.old) (D.view dev.new)
         (T.next task.now (held_state core.old (gathered room.old) (D.view dev.old))) result }
@@ -113,6 +179,7 @@ pub fn commit<D: Device>(core: &mut Core, dev: &mut D, room: &mut AskRoom) -> Re
     ensures base { D.told → OnOk result (world_of (D.view dev.new).reads ≡ world_of (gone_on (gathered room.old)
         (D.view dev.old).reads)) }
     ensures none { OnOk result (gathered room.new ≡ []) }
+    /// promise: It writes 236 sectors at most.
     ensures most { (D.view dev.new).writes ≤ (D.view dev.old).writes + 236 }
 {
     let mut kept = room.room.take().unwrap();

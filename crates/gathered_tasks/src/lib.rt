@@ -23,6 +23,6 @@ mod room;
 mod task;
 
 pub use bound::writes_at_most;
-pub use hold::{Below, commit, has_room, in_part, on_device};
+pub use hold::{commit, has_room, in_memory, on_device};
 pub use room::AskRoom;
 pub use task::{Asking, Stepping, Task};

@@ -1,10 +1,9 @@
-use Rattle.std.proofs.Common.{◌≡◌, ◌∙◌, List, Option, Some, sym, ap, subst}
-use Rattle.image_device.specs.Runs.{IsFirm, LeavesOnly}
+use Rattle.std.proofs.Common.{◌≡◌, ◌∙◌, List, sym, ap, subst}
+use Rattle.image_device.specs.Runs.{LeavesOnly}
 use Rattle.image_device.proofs.Outcomes.{unless_err}
 use Rattle.image_layout.specs.declared.offset.Patch.{Patch}
 use Rattle.intent_journal.specs.Crash.{IsBeforeOrAfter}
 use Rattle.intent_journal.specs.Home.{home, overlaid, is_journal, AgreeBut}
-use Rattle.gathering.specs.declared.room.Room.{Room}
 use Rattle.gathered_tasks.specs.Held.{held_state}
 use Rattle.gathered_tasks.specs.Rooms.{batch_of, gathered}
 use Rattle.gathered_tasks.proofs.HoldLaws.{commit_done, commit_fails, committed_base, committed_state, fault_of, same_of, works_of}

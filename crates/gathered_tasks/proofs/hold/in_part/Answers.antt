@@ -1,11 +1,10 @@
-use Rattle.std.proofs.Common.{◌≡◌, ◌∙◌, sym, ap, subst, length, List}
+use Rattle.std.proofs.Common.{ap, subst, length, List}
 use Rattle.image_device.specs.declared.event.Event.{Event}
 use Rattle.image_device.specs.History.{after}
 use Rattle.gathering.specs.Parts.{part_sound, part_view, went_on}
 use Rattle.image_layout.specs.Image.{Image}
 use Rattle.tsd_model.specs.Step.{State}
 use Rattle.volume_laws.specs.Moments.{LeavesEither}
-use Rattle.gathered_tasks.specs.Held.{held_state}
 use Rattle.gathered_tasks.proofs.PartGoes.{part_given, part_goes}
 use Rattle.tsd_core.specs.Core.{state_on}
 use Rattle.gathered_tasks.proofs.hold.in_part.Goals as goal

@@ -1,5 +1,4 @@
-use Rattle.std.proofs.Common.{◌≡◌, ◌∙◌, List, [], sym, ap, subst}
-use Rattle.image_device.specs.View.{View}
+use Rattle.std.proofs.Common.{◌∙◌, List, sym, ap, subst}
 use Rattle.image_device.proofs.Outcomes.{unless_err}
 use Rattle.image_layout.specs.declared.offset.Patch.{Patch}
 use Rattle.gathered_tasks.specs.Held.{IsInMemory, held_state}
