@@ -142,8 +142,8 @@ pub fn on_device<D: Device, T: Task>(
     requires at { D.told → IsInMemory core.old room.old.ring (gathered room.old) (D.view dev.old) }
     requires none { gathered room.old ≡ [] }
     ensures here { is_some room.new.room ≡ true }
-    /// promise (with given, told, none): The task is done on the device. A crash leaves the world that was on the device,
-    /// the one in memory, or the next one.
+    /// promise (with given, told, none): The task is done on the device. A crash leaves the world that was on the
+    /// device, the one in memory, or the next one.
     ensures goes_on { GoesOn D.told core.old core.new room.new.ring (gathered room.old) (gathered room.new)
         (D.view dev.old) (D.view dev.new)
         (T.next task.now (held_state core.old (gathered room.old) (D.view dev.old))) result }

@@ -9,8 +9,8 @@
 //! before the group, with nothing more sent, or for what the disk in memory holds at its end, with a front of its bytes
 //! sent. Of a group in which a call failed nothing counts.
 //!
-//! A [`Part`] goes on with the batch in a [`Room`], over a device that it only reads, and leaves its net change in it. So
-//! requests that are carried out one at a time, each over a disk in memory of its own, are one batch, which
+//! A [`Part`] goes on with the batch in a [`Room`], over a device that it only reads, and leaves its net change in it.
+//! So requests that are carried out one at a time, each over a disk in memory of its own, are one batch, which
 //! `Room::commit` puts on the device. A room is all the memory that groups need, and is taken once.
 //!
 //! What the disk in memory stands for while requests are under way is asked of the crates above: `gathering_laws` has
