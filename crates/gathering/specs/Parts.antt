@@ -16,12 +16,7 @@ use Rattle.std.proofs.Common.{refl, cond, ◌==◌}
 
 -- the disk in memory as a part begins over this device with this batch: nothing is loose
 abbrev pub went_on : View → List Patch → HistoryState
-went_on v batch = record {
-  reads = gone_on batch v.reads;
-  synced = gone_on batch v.reads;
-  loose = λ n. false;
-  sent = v.sent;
-}
+went_on v batch = record { reads = gone_on batch v.reads; synced = gone_on batch v.reads; loose = λ n. false; sent = v.sent }
 
 -- the disk in memory after these events
 abbrev pub part_view : View → List Patch → List Event → ℕ → ℕ → View
@@ -65,11 +60,9 @@ pub after_whole : (es : List Event) (s : HistoryState) → ((n : ℕ) → IsSect
     → (n : ℕ) → IsSector ((after es s).reads n)
 after_whole [] s base whole n = base n
 after_whole (Write sector bytes ∷ es) s base whole n =
-    after_whole es (step s (Write sector bytes))
-    (λ m. chosen_whole (m == sector) bytes.value (s.reads m) whole.0 (base m)) whole.1 n
+    after_whole es (step s (Write sector bytes)) (λ m. chosen_whole (m == sector) bytes.value (s.reads m) whole.0 (base m)) whole.1 n
 after_whole (Poke sector bytes ∷ es) s base whole n =
-    after_whole es (step s (Poke sector bytes))
-    (λ m. chosen_whole (m == sector) bytes.value (s.reads m) whole.0 (base m)) whole.1 n
+    after_whole es (step s (Poke sector bytes)) (λ m. chosen_whole (m == sector) bytes.value (s.reads m) whole.0 (base m)) whole.1 n
 after_whole (Sync ∷ es) s base whole n = after_whole es (step s Sync) base whole n
 after_whole (Put piece ∷ es) s base whole n = after_whole es (step s (Put piece)) base whole n
 
