@@ -140,8 +140,7 @@ class AsyncDisk(AsyncCalls):
         """Of `open` and `connect`, inside a running loop."""
         self._disk = disk
         self._window = asyncio.Semaphore(WINDOW)
-        self._opening = asyncio.Lock()
-        self._own: Optional[AsyncSession] = None
+        self._own: Optional[asyncio.Future[AsyncSession]] = None
 
     @property
     def geometry(self) -> Optional[Greeting]:
@@ -158,11 +157,12 @@ class AsyncDisk(AsyncCalls):
         return AsyncSession(await in_thread(self._disk.session, number), self._window)
 
     async def ask(self, request: Request[Answer]) -> Answer:
-        """A request of the disk's own session."""
-        async with self._opening:
-            if self._own is None:
-                self._own = await self.session()
-        return await self._own.ask(request)
+        """A request of the disk's own session. That is opened once, also where the call that began it is cancelled."""
+        if self._own is None or has_failed(self._own):
+            self._own = asyncio.ensure_future(self.session())
+            self._own.add_done_callback(has_failed)
+        session = await asyncio.shield(self._own)
+        return await session.ask(request)
 
     async def close(self) -> None:
         """Ends the link, once the requests under way are answered; the errors are those of `Disk.close`."""
@@ -189,6 +189,11 @@ async def open(image: PathWord, place: str = "near", **more: Any) -> AsyncDisk:
 async def connect(path: PathWord, **more: Any) -> AsyncDisk:
     """`tsd.connect`, awaited."""
     return AsyncDisk(await in_thread(tsd.disk.connect, path, **more))
+
+
+def has_failed(future: asyncio.Future[AsyncSession]) -> bool:
+    """Whether it ended without a result."""
+    return future.done() and (future.cancelled() or future.exception() is not None)
 
 
 async def in_thread(work: Callable[..., Answer], *given: Any, **more: Any) -> Answer:
