@@ -20,19 +20,19 @@ _tsd() {
         compopt -o filenames 2>/dev/null
     elif [ "${words[1]}" = help ]; then
         [ "$count" -gt 2 ] ||
-            mapfile -t COMPREPLY < <(compgen -W 'fresh format run serve group shell copyfs check info load upgrade audit verify mirror requests replies' -- "$word")
+            mapfile -t COMPREPLY < <(compgen -W 'fresh format run serve group shell files copyfs check info load upgrade audit verify mirror requests replies' -- "$word")
     elif [ "${words[1]}" = mirror ]; then
         mapfile -t COMPREPLY < <(compgen -f -- "$word")
         compopt -o filenames 2>/dev/null
     elif [ "$count" -eq 2 ]; then
-        mapfile -t COMPREPLY < <(compgen -W 'fresh format run serve group shell copyfs check info load upgrade audit verify' -- "$word")
+        mapfile -t COMPREPLY < <(compgen -W 'fresh format run serve group shell files copyfs check info load upgrade audit verify' -- "$word")
     elif [[ $word == @* ]]; then
         mapfile -t COMPREPLY < <(compgen -P @ -f -- "${word#@}")
     else
         case ${words[2]}:$count in
-        run:3 | serve:3 | group:3 | fresh:7 | load:5 | shell:6 | copyfs:9)
+        run:3 | serve:3 | group:3 | fresh:7 | load:5 | shell:6 | files:6 | copyfs:9)
             mapfile -t COMPREPLY < <(compgen -W "$places" -- "$word") ;;
-        shell:3 | copyfs:3 | copyfs:6) mapfile -t COMPREPLY < <(compgen -W 'inode chain' -- "$word") ;;
+        shell:3 | files:3 | copyfs:3 | copyfs:6) mapfile -t COMPREPLY < <(compgen -W 'inode chain' -- "$word") ;;
         fresh:4 | format:4) mapfile -t COMPREPLY < <(compgen -W '1 2 4 8' -- "$word") ;;
         esac
     fi

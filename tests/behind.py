@@ -21,6 +21,8 @@ SIZES = ((8, 1, 16, 1), (64, 1, 256, 2), (40, 8, 100, 2))
 # So many sectors stand behind the disk.
 MORE = 40
 TREE = b"mkfs\nput /a 6869\nput /b 00\nrm /b\nput /a 68696a\n"
+# Frames of files: /c is put, /a is removed, and the size of /c is asked for.
+FRAMES = b"\x06\0\2\1\1chi\4\0\7\1\1a\4\0\x10\1\1c"
 
 Step = Tuple[Sequence[object], bytes, int]
 
@@ -70,6 +72,7 @@ def steps_of(caps: List[Caps], primaries: int) -> Iterator[Step]:
     yield ["verify"], b"block 0 depth 0 parent -\n", 0
     if primaries > 1:
         yield ["shell", "inode", "0", first.write, "near"], TREE, 0
+        yield ["files", "inode", "0", first.write, "near"], FRAMES, 0
         yield ["copyfs", "inode", "0", first.write, "chain", "1", caps[1].write, "near"], b"", 0
     yield ["upgrade"], b"", 0
     yield ["run", "spread"], changes(first), 0

@@ -20,7 +20,10 @@ R, W = "aa" * 16, "bb" * 16
 SEED = "00" * 32
 FRESH = ["fresh", "8", "1", R, W, "near"]
 OPENING: Sequence[List[str]] = (["run", "near"], ["serve", "near"], ["check"], ["load", SEED, "1", "near"], ["upgrade"],
-                                   ["audit"], ["verify"], ["copyfs", "inode", "0", W, "chain", "0", W, "near"])
+                                   ["audit"], ["verify"], ["files", "inode", "0", W, "near"],
+                                   ["copyfs", "inode", "0", W, "chain", "0", W, "near"])
+# These take frames; of those of either `\7` is no more than a code.
+FRAMED = ("serve", "files")
 FULL = Path("/dev/full")
 # Enough for the program and its libraries, and too little for the tables of the largest disk.
 LITTLE_MEMORY = 64 * 2**20
@@ -46,6 +49,9 @@ USAGES: Sequence[List[Word]] = (
     ["format", "8", "1", "32", "1", SEED + "0"], ["format", "8", "1", "32", "1", "-"],
     ["format", "8", "1", "32", "1", SEED, "x"], ["load", SEED, "0", "near"], ["load", SEED, "200001", "near"],
     ["load", SEED, "-", "near"], ["load", SEED, "1"], ["load", SEED[2:], "1", "near"], ["load", SEED, "1", "nowhere"],
+    ["files"], ["files", "near"], ["files", "inode", "0", W], ["files", "inodes", "0", W, "near"],
+    ["files", "inode", "4294967296", W, "near"], ["files", "chain", "0", W[1:], "near"],
+    ["files", "chain", "0", W, "far"], ["files", "chain", "0", W, "near", "near"], ["Files", "chain", "0", W, "near"],
     ["copyfs"], ["copyfs", "inode", "0", W, "near"], ["copyfs", "inode", "0", W, "chain", "1", W],
     ["copyfs", "inode", "0", W, "chain", "1", W, "far"], ["copyfs", "inode", "0", W, "chains", "1", W, "near"],
     ["copyfs", "inode", "4294967296", W, "chain", "1", W, "near"], ["copyfs", "inode", "0", W, "chain", "", W, "near"],
@@ -170,7 +176,7 @@ def port_results(context: Context, program: Program) -> Iterator[Result]:
 
 def started(program: Program, words: Sequence[object], source: int, sink: int = subprocess.PIPE) -> Run:
     """A run whose input or output is a descriptor; where the input is none, it is one request."""
-    text = None if source != subprocess.PIPE else b"\1\0\7" if "serve" in words else b"open 1\n"
+    text = None if source != subprocess.PIPE else b"\1\0\7" if words[1:] and words[1] in FRAMED else b"open 1\n"
     with subprocess.Popen([str(program.path), *map(str, words)], stdin=source, stdout=sink,
                           stderr=subprocess.PIPE) as child:
         out, error = child.communicate(text, timeout=MOST_SECONDS)

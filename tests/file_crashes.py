@@ -1,9 +1,10 @@
-"""Crashes of the shell: recorded runs over a file, and from them images as a crash at any moment may leave them.
+"""Crashes of the commands `shell` and `files`: recorded runs over a file, and from them images as a crash at any
+moment may leave them.
 
-A case makes a disk with two primary blocks, keeps something under the one that isn't the root, and then has lines of
-the shell carried out under the other. Each image must stand for a world in which the tree under the root is the one
-after the lines that were answered, or after one more, and in which what the root doesn't reach is as it was. Some
-images are opened by the program itself: it must find that tree, and leave nothing that the contents don't name.
+A case makes a disk with two primary blocks, keeps something under the one that isn't the root, and then has asks, as
+lines or as frames, carried out under the other. Each image must stand for a world in which the tree under the root is
+the one after the asks that were answered, or after one more, and in which what the root doesn't reach is as it was.
+Some images are opened by the program itself: it must find that tree, and leave nothing that the contents don't name.
 """
 
 from __future__ import annotations
@@ -14,9 +15,9 @@ from typing import Iterator, List, NamedTuple, Optional
 
 from crash_images import Choices, Medium, moments, some_choices, told
 from disk_model import PLACES, World, seed_caps
-from file_drawing import FileDrawer
+from file_drawing import FRAMES, LINES, FileDrawer, Way
 from file_model import FileModel
-from file_text import CHAIN, INODE
+from file_text import CHAIN, INODE, Ask
 from file_trees import Plain, plain, read_tree
 from image_reader import Fault, read_image
 from judging import Different
@@ -60,20 +61,22 @@ def capability(root: int) -> str:
 
 
 class FileCase:
-    """A disk in a file, the lines of one run, and the tree and the answers after each prefix of them."""
+    """A disk in a file, the asks of one run, and the tree and the answers after each prefix of them."""
 
-    def __init__(self, recorder: Recorder, folder: Path, rng: random.Random, layout: Layout) -> None:
+    def __init__(self, recorder: Recorder, folder: Path, rng: random.Random, layout: Layout, way: Way) -> None:
         self.recorder = recorder
         self.program = Program(recorder.program)
         self.path = folder / "file_crash.img"
         self.scratch = folder / "file_opened.img"
         self.numbers = rng
         self.layout = layout
+        self.way = way
         self.opened = 0
 
     def words(self) -> List[str]:
-        """The words of the shell."""
-        return ["shell", self.layout.kind, str(self.layout.root), capability(self.layout.root), self.layout.place]
+        """The words of the command."""
+        layout = self.layout
+        return [self.way.command, layout.kind, str(layout.root), capability(layout.root), layout.place]
 
     def make(self) -> World:
         """Makes the disk, with two blocks under the root that isn't the shell's; the world then."""
@@ -100,36 +103,30 @@ class FileCase:
         return None if found is None else plain(found)
 
     def play(self) -> int:
-        """Carries the lines out, in two runs of which the second one is recorded; how many images were judged."""
+        """Carries the asks out, in two runs of which the second one is recorded; how many images were judged."""
         start = self.make()
         model = FileModel(self.layout.kind, 512 * self.layout.sectors, self.layout.blocks - PRIMARIES - OTHER_POINTERS,
                           OTHER_POINTERS, self.layout.slots)
         drawer = FileDrawer(self.numbers, model)
-        first = [b"mkfs"] + self.drawn(drawer, model, self.numbers.randrange(0, 12), [b"mkfs"])
-        self.program.run([self.path, *self.words()], b"\n".join(first) + b"\n")
+        way, make = self.way, self.way.spelled(Ask("mkfs"))
+        way.answer(model, make)
+        first = [make]
+        for _ in range(self.numbers.randrange(0, 12)):
+            first.append(way.drawn(drawer))
+            way.answer(model, first[-1])
+        self.program.run([self.path, *self.words()], b"".join(map(way.sent, first)))
         before = self.path.read_bytes()
         trees = [model.tree()]
-        lines: List[bytes] = []
+        asks: List[bytes] = []
         answers: List[bytes] = []
         for _ in range(self.numbers.randrange(1, 10)):
-            lines.append(drawer.line())
-            answers.append(model.answer(lines[-1]))
+            asks.append(way.drawn(drawer))
+            answers.append(way.answer(model, asks[-1]))
             trees.append(model.tree())
-        recording = self.recorder.run(self.path, self.words(), b"\n".join(lines) + b"\n")
+        recording = self.recorder.run(self.path, self.words(), b"".join(map(way.sent, asks)))
         if (recording.status, recording.out, recording.error) != (0, b"".join(answers), b""):
-            raise Different(f"{lines} ended with {recording.status} and {recording.error!r}: {recording.out!r}")
+            raise Different(f"{asks} ended with {recording.status} and {recording.error!r}: {recording.out!r}")
         return self.judge_crashes(Medium(before), recording, answers, trees, start)
-
-    @staticmethod
-    def drawn(drawer: FileDrawer, model: FileModel, count: int, done: List[bytes]) -> List[bytes]:
-        """Lines to begin with, carried out by the model, behind those that are `done`."""
-        for line in done:
-            model.answer(line)
-        lines = []
-        for _ in range(count):
-            lines.append(drawer.line())
-            model.answer(lines[-1])
-        return lines
 
     def judge_crashes(
         self, medium: Medium, recording: Recording, answers: List[bytes], trees: List[Optional[Plain]], start: World
@@ -201,12 +198,12 @@ def reached(world: World, root: int) -> List[int]:
     return sorted(found)
 
 
-def one_case(recorder: Recorder, context: Context, number: int) -> Result:
+def one_case(recorder: Recorder, context: Context, number: int, way: Way) -> Result:
     """One case from its start to its end."""
     rng = context.random(f"file crashes {number}")
     layout = random_layout(rng)
-    name = f"{number} of seed {context.seed}: {layout.kind}, {layout.blocks} blocks of {layout.sectors}"
-    case = FileCase(recorder, context.folder, rng, layout)
+    name = f"{number} of seed {context.seed}: {way.command}, {layout.kind}, {layout.blocks} blocks of {layout.sectors}"
+    case = FileCase(recorder, context.folder, rng, layout, way)
     try:
         images = case.play()
     except Different as different:
@@ -215,12 +212,13 @@ def one_case(recorder: Recorder, context: Context, number: int) -> Result:
 
 
 def run(context: Context) -> Iterator[Result]:
-    """So many cases, where the program has a shell and there is a compiler."""
+    """So many cases, every third one by frames, where the program has the commands and there is a compiler."""
     if context.compiler is None:
         yield skipped("crashes of the shell", "no C compiler was found")
         return
-    asked = Program(context.program).run(["-", "shell", INODE, "0", "00" * 16, "near"], b"")
-    if asked.status == USAGE:
+    has = {way: Program(context.program).run(["-", way.command, INODE, "0", "00" * 16, "near"]).status != USAGE
+           for way in (LINES, FRAMES)}
+    if not has[LINES]:
         yield skipped("crashes of the shell", "the program has no shell")
         return
     try:
@@ -229,4 +227,8 @@ def run(context: Context) -> Iterator[Result]:
         yield skipped("crashes of the shell", str(no_recorder))
         return
     for number in range(CASES):
-        yield one_case(recorder, context, number)
+        way = FRAMES if number % 3 == 2 else LINES
+        if has[way]:
+            yield one_case(recorder, context, number, way)
+        else:
+            yield skipped(f"crashes, case {number}", f"the program has no command {way.command}")

@@ -4,6 +4,7 @@ shared.
 
     model = FileModel(INODE, block_length=512, free=7, held=0, slots=32)
     model.answer(b"mkfs")            # b"ok\n"
+    model.answer_body(b"\x09")       # b"free 7\n"
 """
 
 from __future__ import annotations
@@ -11,7 +12,7 @@ from __future__ import annotations
 from typing import Optional, Set, Tuple, Union
 
 from disk_model import SECTOR, World
-from file_text import BAD_REQUEST, CHAIN, INODE, Ask, Path, parse_ask
+from file_text import BAD_REQUEST, CHAIN, INODE, MOST_DATA, Ask, Path, parse_ask, parse_body
 from file_trees import ENTRY, HEAD, MOST_CHAIN_NAMES, Directory, File, Plain, plain, read_tree
 
 
@@ -22,6 +23,11 @@ class Refusal(Exception):
 def parts(amount: int, each: int) -> int:
     """How many pieces an amount takes: rounded up."""
     return (amount + each - 1) // each
+
+
+def told(found: Union[File, Directory]) -> str:
+    """What stands somewhere, in words."""
+    return "dir" if isinstance(found, Directory) else f"file {len(found.text)}"
 
 
 class FileModel:
@@ -95,7 +101,14 @@ class FileModel:
 
     def answer(self, line: bytes) -> bytes:
         """The line, with its line feed, that answers a line."""
-        ask = parse_ask(line, self.kind)
+        return self.carry_out(parse_ask(line, self.kind))
+
+    def answer_body(self, body: bytes) -> bytes:
+        """The line that answers the body of a frame."""
+        return self.carry_out(parse_body(body, self.kind))
+
+    def carry_out(self, ask: Optional[Ask]) -> bytes:
+        """The line that answers an ask; none is a bad request."""
         if ask is None:
             return BAD_REQUEST
         try:
@@ -112,7 +125,7 @@ class FileModel:
         if self.root is None:
             raise Refusal("not-this-fs")
         done = {"put": self._put, "append": self._append, "cat": self._cat, "ls": self._ls, "mkdir": self._mkdir,
-                "rm": self._rm, "cp": self._cp}
+                "rm": self._rm, "cp": self._cp, "size": self._size, "read": self._read, "next": self._next}
         return done[ask.name](ask)
 
     def _way(self, path: Path) -> Directory:
@@ -151,6 +164,20 @@ class FileModel:
         if isinstance(found, File):
             raise Refusal("not-dir")
         return " ".join(["names"] + ([name.decode() for name in sorted(found.entries)] or ["-"]))
+
+    def _size(self, ask: Ask) -> str:
+        return told(self._at(ask.path))
+
+    def _read(self, ask: Ask) -> str:
+        text = self._file(ask.path).text[ask.start:][:min(ask.count, MOST_DATA)]
+        return "data " + (text.hex() or "-")
+
+    def _next(self, ask: Ask) -> str:
+        found = self._at(ask.path)
+        if isinstance(found, File):
+            raise Refusal("not-dir")
+        above = [name for name in sorted(found.entries) if name > ask.after]
+        return f"next {above[0].decode()} {told(found.entries[above[0]])}" if above else "names -"
 
     def _rm(self, ask: Ask) -> str:
         found = self._at(ask.path)

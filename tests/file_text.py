@@ -1,4 +1,5 @@
-"""The shell of the file systems: its lines, and the lines that answer them, from docs/FILES.md alone."""
+"""What is asked of the file systems: the lines of the command `shell` and the frames of `files`, from docs/FILES.md
+alone."""
 
 from __future__ import annotations
 
@@ -19,18 +20,31 @@ FORMS: Dict[str, Tuple[str, ...]] = {
     "mkdir": ("path",), "rm": ("path",), "cp": ("path", "new_path"), "df": (),
 }
 OF_INODES = ("mkdir", "cp")
+# The code of each ask in a frame, and of those that no line spells what stands behind it.
+CODES: Dict[str, int] = {
+    "mkfs": 1, "put": 2, "append": 3, "cat": 4, "ls": 5, "mkdir": 6, "rm": 7, "cp": 8, "df": 9,
+    "size": 16, "read": 17, "next": 18,
+}
+LOOKS: Dict[str, Tuple[str, ...]] = {
+    "size": ("path",), "read": ("path", "start", "count"), "next": ("path", "after"),
+}
+NUMBER_BYTES = {"start": 8, "count": 4}
+MOST_DATA = 4096
 BAD_REQUEST = b"no bad-request\n"
 
 Path = Tuple[bytes, ...]
 
 
 class Ask(NamedTuple):
-    """What a line asks; a path is the names in it, none for `/`."""
+    """What a line or a frame asks; a path is the names in it, none for `/`."""
 
     name: str
     path: Path = ()
     data: bytes = b""
     new_path: Path = ()
+    start: int = 0
+    count: int = 0
+    after: bytes = b""
 
 
 def is_name(text: bytes) -> bool:
@@ -82,3 +96,91 @@ def ask_line(ask: Ask) -> bytes:
     for field in FORMS[ask.name]:
         words.append((ask.data.hex().encode() or b"-") if field == "data" else path_text(getattr(ask, field)))
     return b" ".join(words) + b"\n"
+
+
+# --- frames ---
+
+def frame_of(body: bytes) -> bytes:
+    """A frame: the length of its body in two bytes, the lowest first, and the body."""
+    return len(body).to_bytes(2, "little") + body
+
+
+def name_field(name: bytes) -> bytes:
+    """A name, which may be empty or none, in a body."""
+    return bytes([len(name)]) + name
+
+
+def path_field(path: Path) -> bytes:
+    """A path in a body."""
+    return bytes([len(path)]) + b"".join(map(name_field, path))
+
+
+def ask_body(ask: Ask) -> bytes:
+    """The body that asks this."""
+    body = bytes([CODES[ask.name]])
+    for field in {**FORMS, **LOOKS}[ask.name]:
+        value = getattr(ask, field)
+        if field in NUMBER_BYTES:
+            body += value.to_bytes(NUMBER_BYTES[field], "little")
+        elif field == "data":
+            body += value
+        else:
+            body += name_field(value) if field == "after" else path_field(value)
+    return body
+
+
+class NoField(Exception):
+    """The bytes don't begin with such a field."""
+
+
+def take_name(body: bytes) -> Tuple[bytes, bytes]:
+    """The name that stands first, whatever its bytes, and the rest."""
+    if not body or len(body) <= body[0]:
+        raise NoField
+    return body[1:1 + body[0]], body[1 + body[0]:]
+
+
+def take_path(body: bytes) -> Tuple[Path, bytes]:
+    """The path that stands first, and the rest."""
+    if not body or body[0] > MOST_NAMES:
+        raise NoField
+    names, rest = [], body[1:]
+    for _ in range(body[0]):
+        name, rest = take_name(rest)
+        if not is_name(name):
+            raise NoField
+        names.append(name)
+    return tuple(names), rest
+
+
+def take_field(field: str, body: bytes) -> Tuple[object, bytes]:
+    """The value of the field that stands first, and the rest."""
+    if field == "data":
+        if len(body) > MOST_DATA:
+            raise NoField
+        return body, b""
+    if field in NUMBER_BYTES:
+        size = NUMBER_BYTES[field]
+        if len(body) < size:
+            raise NoField
+        return int.from_bytes(body[:size], "little"), body[size:]
+    if field != "after":
+        return take_path(body)
+    name, rest = take_name(body)
+    if name and not is_name(name):
+        raise NoField
+    return name, rest
+
+
+def parse_body(body: bytes, kind: str) -> Optional[Ask]:
+    """What the body of a frame asks of a file system of this kind, or None."""
+    name = {code: name for name, code in CODES.items()}.get(body[0] if body else 0)
+    if name is None or kind == CHAIN and name in OF_INODES:
+        return None
+    values, rest = {}, body[1:]
+    try:
+        for field in {**FORMS, **LOOKS}[name]:
+            values[field], rest = take_field(field, rest)
+    except NoField:
+        return None
+    return None if rest else Ask(name, **values)  # type: ignore[arg-type]

@@ -12,9 +12,9 @@ from typing import Iterator, List, Optional, Tuple
 
 import tree_cases
 from disk_model import PLACES, seed_caps
-from file_drawing import FileDrawer
+from file_drawing import LINES, FileDrawer, Way
 from file_model import FileModel
-from file_text import CHAIN, INODE
+from file_text import CHAIN, INODE, LETTERS
 from file_trees import plain, read_tree
 from image_reader import Fault, read_image
 from parts import Context, Result, compared, failed, passed, skipped
@@ -27,6 +27,8 @@ USAGE = 2
 ROOT_DENIED = 10
 R, W = "aa" * 16, "bb" * 16
 SEED = bytes(32)
+# Bytes that `printf` prints as they stand.
+PLAIN = frozenset(LETTERS + b" /")
 SESSION = re.compile(r"^```\n(mkfs .*?)^```$", re.MULTILINE | re.DOTALL)
 
 
@@ -50,39 +52,41 @@ class ShellCase:
         """The words that make the disk."""
         return ["format", str(self.blocks), str(self.sectors), str(self.slots), str(self.primaries), SEED.hex()]
 
-    def shell(self, place: str) -> List[str]:
+    def shell(self, place: str, way: Way = LINES) -> List[str]:
         """The words that open it."""
-        return ["shell", self.kind, str(self.root), seed_caps(SEED)[self.root][1].hex(), place]
+        return [way.command, self.kind, str(self.root), seed_caps(SEED)[self.root][1].hex(), place]
 
 
 Step = Tuple[str, bytes]
 
 
-def drawn_lines(case: ShellCase, rng: random.Random) -> Tuple[Step, ...]:
-    """Lines, each with the kind of placement of its run."""
+def drawn_steps(case: ShellCase, rng: random.Random, way: Way) -> Tuple[Step, ...]:
+    """Lines or bodies, each with the kind of placement of its run."""
     model = case.model()
     drawer = FileDrawer(rng, model)
     steps = []
     for number, (place, count) in enumerate(case.runs):
         for _ in range(count):
-            line = drawer.line()
-            model.answer(line)
-            steps.append((f"{number} {place}", line))
+            text = way.drawn(drawer)
+            way.answer(model, text)
+            steps.append((f"{number} {place}", text))
     return tuple(steps)
 
 
-def difference(case: ShellCase, steps: Tuple[Step, ...], program: Program, image: Path) -> Optional[str]:
-    """Carries the lines out; the first difference between the program and the model."""
+def difference(
+    case: ShellCase, steps: Tuple[Step, ...], program: Program, image: Path, way: Way = LINES
+) -> Optional[str]:
+    """Carries the asks out; the first difference between the program and the model."""
     if image.exists():
         image.unlink()
     program.run([image] + case.words())
     model = case.model()
     for opened in sorted({opened for opened, _ in steps}):
-        lines = [line for each, line in steps if each == opened]
-        answers = [model.answer(line) for line in lines]
-        run = program.run([image] + case.shell(opened.split(" ")[1]), b"\n".join(lines) + b"\n")
+        texts = [text for each, text in steps if each == opened]
+        answers = [way.answer(model, text) for text in texts]
+        run = program.run([image] + case.shell(opened.split(" ")[1], way), b"".join(map(way.sent, texts)))
         if tuple(run) != (0, b"".join(answers), b""):
-            return told(lines, answers, run.out) + f"\nstatus {run.status}, {run.error!r}"
+            return told(texts, answers, run.out) + f"\nstatus {run.status}, {run.error!r}"
         world = read_image(image.read_bytes())
         if isinstance(world, Fault):
             return f"the image stands for no world: {world.line}"
@@ -103,22 +107,27 @@ def told(lines: List[bytes], answers: List[bytes], out: bytes) -> str:
     return "fewer or more answers than lines"
 
 
-def random_result(number: int, context: Context, program: Program) -> Result:
+def random_result(number: int, context: Context, program: Program, way: Way = LINES) -> Result:
     """A random case; a difference is shrunk."""
-    rng = context.random(f"shell {number}")
+    rng = context.random(f"{way.command} {number}")
     case = ShellCase(rng)
-    steps = drawn_lines(case, rng)
+    steps = drawn_steps(case, rng, way)
     image = context.folder / "files.img"
-    name = f"shell {number} of seed {context.seed}: {case.kind}, {len(steps)} lines"
-    found = difference(case, steps, program, image)
+    name = f"{way.command} {number} of seed {context.seed}: {case.kind}, {len(steps)} asks"
+    found = difference(case, steps, program, image, way)
     if found is None:
         return passed(name)
-    small = shrunk(steps, lambda some: difference(case, some, program, image) is not None)
+    small = shrunk(steps, lambda some: difference(case, some, program, image, way) is not None)
     lines = [f"tsd image {' '.join(case.words())}"]
     for opened in sorted({opened for opened, _ in small}):
-        text = " ".join(f"'{line.decode('latin-1')}'" for each, line in small if each == opened)
-        lines.append(f"printf '%s\\n' {text} | tsd image {' '.join(case.shell(opened.split(' ')[1]))}")
-    return failed(name, f"{difference(case, small, program, image) or found}\nshown by\n" + "\n".join(lines))
+        text = b"".join(way.sent(text) for each, text in small if each == opened)
+        lines.append(f"{printed(text)} | tsd image {' '.join(case.shell(opened.split(' ')[1], way))}")
+    return failed(name, f"{difference(case, small, program, image, way) or found}\nshown by\n" + "\n".join(lines))
+
+
+def printed(text: bytes) -> str:
+    """A command that prints these bytes."""
+    return "printf '" + "".join(chr(byte) if byte in PLAIN else f"\\{byte:03o}" for byte in text) + "'"
 
 
 def worked(page: str) -> Tuple[List[bytes], List[bytes]]:

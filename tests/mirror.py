@@ -138,7 +138,8 @@ CHANGES: Sequence[Tuple[str, int, int, bytes]] = (
 OPENING: Sequence[Sequence[str]] = (
     ["run", "near"], ["serve", "near"], ["check"], ["info"], ["upgrade"], ["audit"], ["verify"],
     ["load", "00" * 32, "5", "near"],
-    ["shell", "inode", "0", W, "near"], ["copyfs", "inode", "0", W, "chain", "0", W, "near"],
+    ["shell", "inode", "0", W, "near"], ["files", "chain", "0", W, "near"],
+    ["copyfs", "inode", "0", W, "chain", "0", W, "near"],
 )
 
 

@@ -22,9 +22,9 @@ from parts import FAILED, PASSED, SKIPPED, Context, Result, failed, skipped
 
 PARTS = (
     "layout", "tour", "examples", "disk_rows", "random_runs", "choices", "large", "hubs", "files", "file_rows",
-    "file_crashes", "file_faults", "clients", "rust_client", "c_client", "embedding", "virtual_disks", "mounts",
-    "moving", "packages", "judge_faults", "crashes", "crash_rows", "failing_calls", "kills", "mirror", "audit",
-    "copies", "behind", "groups", "edge", "slips", "completions", "pages",
+    "file_frames", "file_crashes", "file_batches", "file_faults", "clients", "rust_client", "c_client", "embedding",
+    "virtual_disks", "mounts", "moving", "packages", "judge_faults", "crashes", "crash_rows", "failing_calls",
+    "kills", "mirror", "audit", "copies", "behind", "groups", "edge", "slips", "completions", "pages",
 )
 # The parts that take longest.
 LONG = ("random_runs", "clients", "failing_calls", "crashes", "embedding", "mirror", "copies", "file_crashes", "edge",

@@ -16,8 +16,9 @@ MOST_SECONDS = 120
 # Pages, and the section of each that has such blocks.
 SECTIONS = (
     ("docs/STORAGE.md", "By storage"),
-    ("README.md", "A tour"), ("docs/FILES.md", "Try it"), ("docs/AUDIT.md", "Try it"), ("clients/README.md", "Try it"),
-    ("docs/VIRTUAL_DISKS.md", "Try it"), ("docs/MOUNT.md", "Try it"),
+    ("README.md", "A tour"), ("docs/FILES.md", "Try it"), ("docs/FILES.md", "Asks as frames"),
+    ("docs/AUDIT.md", "Try it"), ("clients/README.md", "Try it"), ("docs/VIRTUAL_DISKS.md", "Try it"),
+    ("docs/MOUNT.md", "Try it"),
 )
 # What the blocks use beside the program, and what those of some pages use besides.
 TOOLS = ("bash", "timeout", "yes", "tail", "od", "awk")
@@ -70,7 +71,7 @@ def tried(context: Context, page: str, section: str) -> Iterator[Result]:
     if missing:
         yield skipped(page, missing)
         return
-    folder = context.folder / page.replace("/", "-")
+    folder = context.folder / f"{page} {section}".replace("/", "-").replace(" ", "-")
     folder.mkdir()
     for name in FOLDERS if page in MORE_TOOLS else ():
         (folder / name).symlink_to(context.top / name)

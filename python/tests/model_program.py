@@ -28,15 +28,15 @@ class ModelProgram(ShellProgram):
     def __init__(self, model: FileModel, asks: Optional[int] = None) -> None:
         self.model = model
         self.left = asks
-        self.lines: List[bytes] = []
+        self.bodies: List[bytes] = []
 
-    def pieces(self, line: bytes) -> Iterator[bytes]:
+    def pieces(self, body: bytes) -> Iterator[bytes]:
         if self.left is not None:
             if self.left == 0:
                 raise Gone
             self.left -= 1
-        self.lines.append(line)
-        answer = self.model.answer(line).rstrip(b"\n")
+        self.bodies.append(body)
+        answer = self.model.answer_body(body).rstrip(b"\n")
         if answer.startswith(b"no "):
             raise refusal(answer[3:].decode())
         for at in range(0, len(answer), PIECE):

@@ -14,9 +14,10 @@ from support import InFolder
 
 from tsd.plain import plain, plain_content
 from tsd.shell import bar
+from tsd.shell.asks import CODES
 from tsd.shell.commands import COMMANDS, Commands
-from tsd.shell.files import Stopped
-from tsd.shell.lines import path_from
+from tsd.shell.files import Files, Stopped
+from tsd.shell.paths import path_from
 from tsd.shell.refusals import ShellRefused
 
 LONG = bytes(range(256)) * 40
@@ -56,16 +57,38 @@ class OverModel(InFolder):
         self.assertEqual(["ls /nothing: nothing of that name", "ls /b/c: that is a file, or a name on the way is"],
                          error)
 
-    def test_sizes_that_are_known_are_not_read_again(self) -> None:
+    def test_no_file_is_read_for_its_size(self) -> None:
+        self.told(f"put {self.folder}/long a")
         files = files_of(self.model)
-        commands = Commands(files, False)
-        self.put("/a", b"12345")
-        with contextlib.redirect_stdout(io.StringIO()):
-            for line in ("ls -l", "ls -l", f"put {self.folder}/long b", "ls -l", f"put {self.folder}/short a", "ls -l"):
-                commands.run(line)
-        lines = files._program.lines  # type: ignore[attr-defined]
-        asked = [line.split()[1] for line in lines if line.startswith(b"cat ")]
-        self.assertEqual([b"/a"], asked)
+        with contextlib.redirect_stdout(io.StringIO()) as output:
+            Commands(files, False).run("ls -l")
+        self.assertEqual("         10,240  a\n", output.getvalue())
+        self.assertEqual([CODES["ls"], CODES["size"]], codes_of(files))
+
+    def test_a_transfer_knows_how_much_comes(self) -> None:
+        self.told(f"put {self.folder}/long a")
+        for line, total in ((f"get a {self.folder}/back", 10240), ("cat a", 10240), ("cat a 10000", 240)):
+            with mock.patch("tsd.shell.commands.Transfer", wraps=bar.Transfer) as made:
+                self.told(line, True)
+            self.assertEqual(total, made.call_args.args[1], line)
+        self.assertEqual(LONG, (self.folder / "back").read_bytes())
+
+    def test_parts_of_files(self) -> None:
+        """Such a part alone is read, in asks of 4,096 bytes at most; a whole file by one ask."""
+        (self.folder / "text").write_text("0123456789" * 1000)
+        self.told(f"put {self.folder}/text a")
+        output, error = self.told("cat a 9995\ncat a 3 4\ncat a 9998 100\ncat a 10000\ncat a 20000 5\ncat a 5 0\n"
+                                  "cat a x\ncat a -1\ncat a 0 1234567890123456789\ncat a 1 2 3\ncat b 1", True)
+        self.assertEqual(["56789", "3456", "89"], output)
+        self.assertEqual(["cat: 'x' is no number of bytes", "cat: '-1' is no number of bytes",
+                          "cat: '1234567890123456789' is no number of bytes", "usage: cat PATH [START] [COUNT]",
+                          "cat /b: nothing of that name"], error)
+        for words, codes in (("a", "size cat"), ("a 0 10000", "size cat"), ("a 1 5", "size read"),
+                             ("a 1", "size read read read"), ("a 10 8192", "size read read"), ("a 10000", "size")):
+            files = files_of(self.model)
+            with contextlib.redirect_stdout(io.StringIO()):
+                Commands(files, True).run(f"cat {words}")
+            self.assertEqual([CODES[name] for name in codes.split()], codes_of(files), words)
 
     def test_directories(self) -> None:
         output, error = self.told("mkdir d\nmkdir d/e\ncd d\npwd\nput /dev/null x\nls\ncd e\npwd\nls ..\n"
@@ -145,7 +168,8 @@ class OverModel(InFolder):
     def test_no_control_byte_reaches_the_terminal(self) -> None:
         """From names that a disk tells, from a refusal, from names of this machine, and from what is typed."""
         evil = "a\x1b[2J\x07\x9b\u202eb"
-        with mock.patch.object(FileModel, "answer", lambda self, line: f"names {evil}\n".encode("latin-1", "replace")):
+        listed = f"names {evil}\n".encode("latin-1", "replace")
+        with mock.patch.object(FileModel, "answer_body", lambda self, body: listed):
             output, _ = self.told("ls")
         self.assertEqual(["a?[2J???b"], output)
         name = os.path.join(os.fsdecode(self.folder), evil)
@@ -157,6 +181,11 @@ class OverModel(InFolder):
             self.assertTrue(text.isprintable(), repr(text))
         self.assertEqual(6, len(error))
         self.assertEqual("x\t\n?[?ü", plain_content("x\t\n\x1b[\x85ü"))
+
+
+def codes_of(files: Files) -> List[int]:
+    """The codes of what was asked."""
+    return [body[0] for body in files._program.bodies]  # type: ignore[attr-defined]
 
 
 class Bars(unittest.TestCase):

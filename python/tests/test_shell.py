@@ -1,4 +1,4 @@
-"""tsd-shell in a pipe and at a terminal: over the program where it has the command `shell`, and over a stand-in."""
+"""tsd-shell in a pipe and at a terminal: over the program where it has the command `files`, and over a stand-in."""
 
 from __future__ import annotations
 
@@ -22,9 +22,9 @@ USAGE = 2
 PAUSE = 0.2
 
 
-def has_shell() -> bool:
+def has_files() -> bool:
     """Whether the program that is tried has the command."""
-    done = subprocess.run([PROGRAM, "-", "shell", "inode", "0", WRITE, "near"], stdin=subprocess.DEVNULL,
+    done = subprocess.run([PROGRAM, "-", "files", "inode", "0", WRITE, "near"], stdin=subprocess.DEVNULL,
                           capture_output=True, timeout=MOST_SECONDS)
     return done.returncode != USAGE
 
@@ -337,13 +337,13 @@ class Only(InFolder):
         self.assertEqual(["cap"], sorted(os.listdir(self.folder)))
 
     def test_a_program_without_the_command(self) -> None:
-        if has_shell():
+        if has_files():
             self.skipTest("the program has the command")
         (self.folder / "cap").write_text(WRITE)
         words = [sys.executable, str(SHELL), "x.img", "inode", "0", "--cap-file", "cap", "--program", PROGRAM]
         done = subprocess.run(words, input=b"", capture_output=True, cwd=self.folder)
         self.assertEqual(USAGE, done.returncode)
-        self.assertIn(b"no command is called shell", done.stderr)
+        self.assertIn(b"no command is called files", done.stderr)
 
 
 class OverProgram(OverFake):
@@ -354,8 +354,8 @@ class OverProgram(OverFake):
 
     @classmethod
     def setUpClass(cls) -> None:
-        if not has_shell():
-            raise unittest.SkipTest("the program has no command shell yet")
+        if not has_files():
+            raise unittest.SkipTest("the program has no command files yet")
 
     def image_of(self, kind: str) -> str:
         blocks, sectors = {"small": ("8", "1"), "middle": ("100", "1")}.get(kind, ("8192", "8"))

@@ -1,4 +1,4 @@
-"""The pieces of tsd-shell: lines, answers, refusals, bars and what Tab offers."""
+"""The pieces of tsd-shell: asks, answers, refusals, bars and what Tab offers."""
 
 from __future__ import annotations
 
@@ -9,13 +9,15 @@ from pathlib import Path
 from typing import List, Optional
 from unittest import mock
 
+from file_text import Ask, ask_body
 from support import MOST_SECONDS, tsd
 
 from tsd.peers import ProgramPeer
-from tsd.shell import bar, lines
+from tsd.shell import asks, bar, paths
 from tsd.shell.commands import Commands
 from tsd.shell.completion import Completer, last_word, local_files, spelled
-from tsd.shell.files import Files, Stopped, bytes_of, no_progress
+from tsd.frames import MOST_BODY
+from tsd.shell.files import DIRECTORY, FILE, Files, Stat, Stopped, bytes_of, no_progress, stat_of
 from tsd.shell.program import ShellProgram
 from tsd.shell.puts import Puts
 from tsd.shell.refusals import WORDS, Limits, refusal
@@ -30,21 +32,36 @@ def bytes_for(size: int) -> bytes:
 
 
 class Pieces(unittest.TestCase):
-    """Lines, answers and paths."""
+    """Asks, answers and paths."""
 
     def test_paths(self) -> None:
         for text, path in (("a", "/a"), ("/", "/"), ("", "/"), ("a/b/", "/a/b"), ("/" + "x" * 28, "/" + "x" * 28)):
-            self.assertEqual(path, lines.disk_path(text))
+            self.assertEqual(path, paths.disk_path(text))
         for text in ("a//b", "..", "a/.", "-", "x" * 29, "a b", "ä", "a\n", "/".join("a" * 17)):
-            self.assertRaises(lines.BadPath, lines.disk_path, text)
-        self.assertEqual([("/", "a"), ("/a", "b"), ("/", "")], [lines.split_path(path) for path in ("/a", "/a/b", "/")])
+            self.assertRaises(paths.BadPath, paths.disk_path, text)
+        self.assertEqual([("/", "a"), ("/a", "b"), ("/", "")], [paths.split_path(path) for path in ("/a", "/a/b", "/")])
 
-    def test_no_line_is_too_long(self) -> None:
-        for path in ("/a", "/" + "/".join(["x" * 28] * 16)):
-            length = lines.piece_length(path)
-            line = lines.bringing_line("append", path, bytes(length))
-            self.assertLessEqual(len(line), lines.MOST_LINE)
-            self.assertTrue(length == lines.PIECE or len(line) >= lines.MOST_LINE - 1)
+    def test_asks_are_those_of_another_encoder(self) -> None:
+        longest = "/" + "/".join(["x" * 28] * 16)
+        for path in ("/", "/a", "/a/b.c", longest):
+            names = tuple(name.encode() for name in path.split("/") if name)
+            for name in ("cat", "ls", "mkdir", "rm", "size"):
+                self.assertEqual(ask_body(Ask(name, names)), asks.ask_of(name, path))
+            self.assertEqual(ask_body(Ask("cp", names, new_path=(b"d",))), asks.ask_of("cp", path, "/d"))
+            for data in (b"", b"hi", bytes(asks.MOST_DATA)):
+                for name in ("put", "append"):
+                    self.assertEqual(ask_body(Ask(name, names, data)), asks.bringing(name, path, data))
+            for start, count in ((0, 0), (5, 4096), (2 ** 64 - 1, 2 ** 32 - 1)):
+                right = ask_body(Ask("read", names, start=start, count=count))
+                self.assertEqual(right, asks.reading(path, start, count))
+        self.assertEqual([ask_body(Ask("mkfs")), ask_body(Ask("df"))], [asks.ask_of("mkfs"), asks.ask_of("df")])
+        self.assertLessEqual(len(asks.bringing("put", longest, bytes(asks.MOST_DATA))), MOST_BODY)
+
+    def test_what_is_told_of_a_path(self) -> None:
+        self.assertEqual([Stat(DIRECTORY), Stat(FILE, 0), Stat(FILE, 2 ** 40)],
+                         [stat_of(text.split(" ")) for text in ("dir", "file 0", f"file {2 ** 40}")])
+        for text in ("", "file", "file -", "file -1", "file x", "file 1 2", "dir 1", "data -", "ok"):
+            self.assertRaises(tsd.NoReply, stat_of, text.split(" "))
 
     def test_refusals_in_words(self) -> None:
         self.assertEqual("no room: 5 blocks free, 9 needed", str(refusal("full 5 9")))
@@ -70,7 +87,7 @@ class Pieces(unittest.TestCase):
         self.assertEqual("a: 1.5 MB", bar.bar_text("a", 1500000, None))
 
     def test_a_stopped_transfer_keeps_in_step(self) -> None:
-        program = ShellProgram(ProgramPeer([str(FAKE), "x.img", "shell", "inode", "0", WRITE, "near"]), MOST_SECONDS)
+        program = ShellProgram(ProgramPeer([str(FAKE), "x.img", "files", "inode", "0", WRITE, "near"]), MOST_SECONDS)
         files = Files(program, Limits("inode"))
         puts = Puts(files)
         files.do("mkfs")
@@ -87,6 +104,10 @@ class Pieces(unittest.TestCase):
             puts.put(io.BytesIO(bytes(500000)), "/a", stop_later)
         self.assertEqual(["a"], files.names("/"))
         self.assertEqual(500000, sum(map(len, files.get("/a"))))
+        with self.assertRaises(Stopped):
+            list(files.part("/a", 100, 400000, stop_later))
+        self.assertEqual(["a"], files.names("/"))
+        self.assertEqual(bytes(400000), b"".join(files.part("/a", 100, 400000)))
         program.close()
 
     def test_candidates(self) -> None:
@@ -108,6 +129,7 @@ class Pieces(unittest.TestCase):
         self.assertEqual(["docs/x "], completer.candidates("cp ab docs/"))
         self.assertEqual([], completer.candidates("ls / d"))
         self.assertEqual([], completer.candidates("frob d"))
+        self.assertEqual([], completer.candidates("cat ab "))
         self.assertEqual([], completer.candidates("cat nothing/"))
         self.assertEqual([str(FAKE)], local_files(str(FAKE)[:-1]))
 

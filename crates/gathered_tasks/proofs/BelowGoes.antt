@@ -54,8 +54,8 @@ module _ (told : Type 0) (c0 c1 : Core) (ring : List JournalRecord) (b0 b1 : Lis
     size = ran.size;
     spent = tt;
     sent = λ t. ran.sent t ∙ sent t;
-    any_moment = λ t. ∣ moments t (ran.any_moment t) ∣₁;
-    behind = λ t. ∣ part_then (behind c0.volume.tables.geometry) v u w (sound t) (aside t) (ran.behind t) ∣₁;
+    any_moment = λ t. moments t (ran.any_moment t);
+    behind = λ t. part_then (behind c0.volume.tables.geometry) v u w (sound t) (aside t) (ran.behind t);
     works = works_then v u w works ran.works;
     faults = ran.faults ∙ same;
   }
@@ -65,8 +65,8 @@ module _ (told : Type 0) (c0 c1 : Core) (ring : List JournalRecord) (b0 b1 : Lis
     size = ran.size;
     spent = ran.spent;
     sent = λ t. ran.sent t ∙ sent t;
-    any_moment = λ t. ∣ moments t (ran.any_moment t) ∣₁;
-    behind = λ t. ∣ part_then (behind c0.volume.tables.geometry) v u w (sound t) (aside t) (ran.behind t) ∣₁;
+    any_moment = λ t. moments t (ran.any_moment t);
+    behind = λ t. part_then (behind c0.volume.tables.geometry) v u w (sound t) (aside t) (ran.behind t);
     works = works_then v u w works ran.works;
     faults = subst (λ n. Rose n w.faults) same ran.faults;
   }

@@ -103,3 +103,14 @@ finds_slot v is_owed pointers g ready not_owed owes count size few =
 
     fewer : (a b c d : ℕ) → nat_lt a b ≡ true → a ≡ c → b ≡ d → c < d
     fewer a b c d less e h = grind (arith, nat_tests)
+
+-- and so there is one if those on the disk leave one
+pub leaves_slot : (v : Volume) (pointers : ℕ) (g : Geometry) → IsVolumeReady v → pointers ≡ length (told_by v).pairs → g ≡ v.tables.geometry → owed v.tables ≡ 0 → length (pairs_of v.tables) < v.tables.geometry.slots
+    → nat_lt pointers g.slots ≡ true
+leaves_slot v pointers g ready count size none few =
+    let same : length (told_by v).pairs ≡ length (pairs_of v.tables) = ap length (settled_pairs v.tables ready.1 none) in
+    let slots : g.slots ≡ v.tables.geometry.slots = ap (λ (h : Geometry). h.slots) size in
+    fewer pointers g.slots (length (pairs_of v.tables)) v.tables.geometry.slots few (count ∙ same) slots
+  where
+    fewer : (a b c d : ℕ) → c < d → a ≡ c → b ≡ d → nat_lt a b ≡ true
+    fewer a b c d less e h = grind (arith, nat_tests)

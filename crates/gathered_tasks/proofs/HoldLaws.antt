@@ -130,11 +130,11 @@ spent_size c d is = record { geometry = ap (λ (k : Core). k.volume.tables.geome
 
 module _ (told : Type 0) (c : Core) (rs : List JournalRecord) (batch : List Patch) (v w : View) (empty : c.volume.ring ≡ []) (at : told → IsInMemory c rs batch v)
     (leaves : told → LeavesOnly v w (λ x f. IsBeforeOrAfter batch v x × (f ≡ v.sent))) where
-  commit_moments : (next : World) → told → ∥ LeavesOnly v w (λ x f. StandsForAny (world_of v.reads) (world_of (gone_on batch v.reads)) next x × (f ≡ v.sent)) ∥₁
-  commit_moments next t = ∣ weakened v w (λ x f. IsBeforeOrAfter batch v x × (f ≡ v.sent)) (λ x f. StandsForAny (world_of v.reads) (world_of (gone_on batch v.reads)) next x × (f ≡ v.sent)) (leaves t) (λ x f left. (commit_left c rs batch v empty (at t) next x left.0, left.1)) ∣₁
+  commit_moments : (next : World) → told → LeavesOnly v w (λ x f. StandsForAny (world_of v.reads) (world_of (gone_on batch v.reads)) next x × (f ≡ v.sent))
+  commit_moments next t = weakened v w (λ x f. IsBeforeOrAfter batch v x × (f ≡ v.sent)) (λ x f. StandsForAny (world_of v.reads) (world_of (gone_on batch v.reads)) next x × (f ≡ v.sent)) (leaves t) (λ x f left. (commit_left c rs batch v empty (at t) next x left.0, left.1))
 
-  commit_aside : told → ∥ LeavesPart (behind c.volume.tables.geometry) v w ∥₁
-  commit_aside t = ∣ weakened v w (λ x f. IsBeforeOrAfter batch v x × (f ≡ v.sent)) (λ x f. behind c.volume.tables.geometry x ≡ behind c.volume.tables.geometry v.reads) (leaves t) (λ x f left. commit_behind c rs batch v empty (at t) x left.0) ∣₁
+  commit_aside : told → LeavesPart (behind c.volume.tables.geometry) v w
+  commit_aside t = weakened v w (λ x f. IsBeforeOrAfter batch v x × (f ≡ v.sent)) (λ x f. behind c.volume.tables.geometry x ≡ behind c.volume.tables.geometry v.reads) (leaves t) (λ x f left. commit_behind c rs batch v empty (at t) x left.0)
 
   pub commit_fails : {T : Type 0} (d : Core) (ring : List JournalRecord) (b1 : List Patch) (next : World) → d ≡ record c { volume = record c.volume { is_spent = true } } → (told → w.sent ≡ v.sent) → Works v w → Rose v.faults w.faults
       → GoesOn {T = T} told c d ring batch b1 v w next (Err record {})
@@ -215,8 +215,8 @@ module _ (told : Type 0) (c : Core) (rs : List JournalRecord) (v u : View) (firm
     size = spent_size c d is;
     spent = ap (λ (k : Core). k.volume.is_spent) is;
     sent = sent;
-    any_moment = λ t. ∣ emptied_moments (world_of (gone_on b0 v.reads)) next t ∣₁;
-    behind = λ t. ∣ emptied_aside t ∣₁;
+    any_moment = emptied_moments (world_of (gone_on b0 v.reads)) next;
+    behind = emptied_aside;
     works = works;
     faults = rose;
   }

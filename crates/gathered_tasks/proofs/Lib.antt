@@ -4,3 +4,6 @@ pub mod BoundLaws
 pub mod TaskLaws
 pub mod PartGoes
 pub mod BelowGoes
+pub mod AskedLaws
+pub mod RunLaws
+pub mod CarryLaws

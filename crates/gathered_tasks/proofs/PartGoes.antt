@@ -1,6 +1,5 @@
 -- A task in memory, said of the device below.
 use Rattle.std.proofs.Common.{◌≡◌, ◌⊎◌, inl, inr, ⊎_elim, ℕ, ◌+◌, ◌≤◌, ◌<◌, true, List, [], length, refl, sym, ◌∙◌, ap, subst, arith}
-use Rattle.std.proofs.Math.Logic.{∥∥₁_elim}
 use Rattle.std.specs.Prelude.{Result, Ok, Err, IfOk, OnOk, OnErr}
 use Rattle.tsd_model.specs.World.{World}
 use Rattle.tsd_model.specs.Step.{State}
@@ -50,7 +49,7 @@ pub record IsLeftOff (told : Type 0) (b0 b1 : List Patch) (p1 v w : View) : Type
   pub reads : told → w.reads ≡ v.reads
   pub loose : told → w.loose ≡ v.loose
   pub sent : told → w.sent ≡ v.sent
-  pub any_moment : told → ∥ LeavesOnly v w (IsLeftNow v) ∥₁
+  pub any_moment : told → LeavesOnly v w (IsLeftNow v)
   pub counts : Uses 0 v w
   pub holds : told → AgreeBut is_journal p1.reads (gone_on b1 v.reads) ⊎ LeavesStray p1
   pub is : IsBatch b1
@@ -58,24 +57,20 @@ pub record IsLeftOff (told : Type 0) (b0 b1 : List Patch) (p1 v w : View) : Type
   pub unfailed : p1.faults ≡ 0 → w.faults ≡ v.faults
 
 module _ (told : Type 0) (c0 c1 : Core) (rs : List JournalRecord) (b0 b1 : List Patch) (v w p0 p1 : View) (next : World) (most : ℕ)
-    (at0 : told → IsInMemory c0 rs b0 v) (reads0 : p0.reads ≡ gone_on b0 v.reads) (clock0 : p0.clock ≡ 0) (faults0 : p0.faults ≡ 0) (writes0 : p0.writes ≡ 0) (sound1 : told → IsSound p1)
+    (at0 : told → IsInMemory c0 rs b0 v) (reads0 : p0.reads ≡ gone_on b0 v.reads) (clock0 : p0.clock ≡ 1) (faults0 : p0.faults ≡ 0) (writes0 : p0.writes ≡ 0) (sound1 : told → IsSound p1)
     (fits : length b0 + most ≤ bodies) (left : IsLeftOff told b0 b1 p1 v w) where
   rose_some : (m n : ℕ) → m ≡ 0 → Rose m n → 0 < n
   rose_some m n is rose = let one : Rose 0 n = subst (λ k. Rose k n) is rose in grind arith
 
-  moments : (t : told) → ∥ LeavesOnly v w (λ x f. StandsForAny (world_of v.reads) (world_of (gone_on b0 v.reads)) next x × (f ≡ v.sent)) ∥₁
+  moments : (t : told) → LeavesOnly v w (λ x f. StandsForAny (world_of v.reads) (world_of (gone_on b0 v.reads)) next x × (f ≡ v.sent))
   moments t =
-      let prop : IsProp (∥ LeavesOnly v w (λ x f. StandsForAny (world_of v.reads) (world_of (gone_on b0 v.reads)) next x × (f ≡ v.sent)) ∥₁) = hlevel in
-      ∥∥₁_elim (left.any_moment t) prop (λ (so_far : LeavesOnly v w (IsLeftNow v)).
-      ∣ weakened v w (IsLeftNow v) (λ x f. StandsForAny (world_of v.reads) (world_of (gone_on b0 v.reads)) next x × (f ≡ v.sent)) so_far
-      (λ x f now. (inl (subst (λ (y : Image). Stands y (world_of v.reads)) (sym (firm_image v (at0 t).firm x f now)) (record { good = (at0 t).good; world = refl })), now.1)) ∣₁)
+      weakened v w (IsLeftNow v) (λ x f. StandsForAny (world_of v.reads) (world_of (gone_on b0 v.reads)) next x × (f ≡ v.sent)) (left.any_moment t)
+      (λ x f now. (inl (subst (λ (y : Image). Stands y (world_of v.reads)) (sym (firm_image v (at0 t).firm x f now)) (record { good = (at0 t).good; world = refl })), now.1))
 
-  aside : (t : told) → ∥ LeavesPart (behind c0.volume.tables.geometry) v w ∥₁
+  aside : (t : told) → LeavesPart (behind c0.volume.tables.geometry) v w
   aside t =
-      let prop : IsProp (∥ LeavesPart (behind c0.volume.tables.geometry) v w ∥₁) = hlevel in
-      ∥∥₁_elim (left.any_moment t) prop (λ (so_far : LeavesOnly v w (IsLeftNow v)).
-      ∣ weakened v w (IsLeftNow v) (λ x f. behind c0.volume.tables.geometry x ≡ behind c0.volume.tables.geometry v.reads) so_far
-      (λ x f now. ap (behind c0.volume.tables.geometry) (firm_image v (at0 t).firm x f now)) ∣₁)
+      weakened v w (IsLeftNow v) (λ x f. behind c0.volume.tables.geometry x ≡ behind c0.volume.tables.geometry v.reads) (left.any_moment t)
+      (λ x f now. ap (behind c0.volume.tables.geometry) (firm_image v (at0 t).firm x f now))
 
   fits_p0 : (t : told) → FitsReads c0 p0.reads
   fits_p0 t = subst (λ (x : Image). FitsReads c0 x) (sym reads0) (at0 t).fits

@@ -52,16 +52,16 @@ bytes_of k less = record { size = length-replicate {A = ℕ} 512 k; each = λ i.
     same (suc n) zero = less
     same (suc n) (suc i) = same n i
 
-module _ (c : Core) (v w : View) (next : World) (fits : FitsReads c v.reads) (clock : v.clock ≡ 0) (leaves : LeavesEither v w next) (aside : LeavesPart (behind c.volume.tables.geometry) v w) where
+module _ (c : Core) (v w : View) (next : World) (fits : FitsReads c v.reads) (clock : v.clock ≡ 1) (leaves : LeavesEither v w next) (aside : LeavesPart (behind c.volume.tables.geometry) v w) where
   formatted : (x : Image) → StandsForEither (world_on v) next x → says_open (x 1) ≡ true
   formatted x (inl s) = s.good.formatted
   formatted x (inr s) = s.good.formatted
 
-  begun : (x : Image) (f : List ℕ) → w.left 0 x f → w.left v.clock x f
+  begun : (x : Image) (f : List ℕ) → w.left 1 x f → w.left v.clock x f
   begun x f left = subst (λ t. w.left t x f) (sym clock) left
 
   -- what a crash leaves in such a sector behind the image is what was there
-  kept : (sector : ℕ) → is_lawful_home sector ≡ false → 8462726 ≤ sector → (x : Image) (f : List ℕ) → w.left 0 x f → x sector ≡ home v.reads sector
+  kept : (sector : ℕ) → is_lawful_home sector ≡ false → 8462726 ≤ sector → (x : Image) (f : List ℕ) → w.left 1 x f → x sector ≡ home v.reads sector
   kept sector unlawful far x f left =
       let g = c.volume.tables.geometry in
       let few = total_most g (lawful_size c v.reads fits) in

@@ -22,7 +22,7 @@ use Rattle.tsd_core.specs.Work.{SameSize}
 abbrev pub held_state : Core → List Patch → View → State
 held_state c batch v = state_on c (gone_on batch v.reads)
 
--- It may be used: its journal is empty, since others hold the records on the device.
+-- It may be used: its journal is empty, since its room has the records on the device.
 pub record IsReadyInMemory (c : Core) : Type 0 where
   pub ready : IsCoreReady c
   pub empty : c.volume.ring ≡ []
@@ -49,8 +49,8 @@ pub record GoesOn {T : Type 0} (told : Type 0) (c0 c1 : Core) (ring : List Journ
   pub size : SameSize c0 c1
   pub spent : OnErr result (c1.volume.is_spent ≡ true)
   pub sent : told → w.sent ≡ v.sent
-  pub any_moment : told → ∥ LeavesOnly v w
-      (λ x f. StandsForAny (world_of v.reads) (world_of (gone_on b0 v.reads)) next x × (f ≡ v.sent)) ∥₁
-  pub behind : told → ∥ LeavesPart (behind c0.volume.tables.geometry) v w ∥₁
+  pub any_moment : told → LeavesOnly v w
+      (λ x f. StandsForAny (world_of v.reads) (world_of (gone_on b0 v.reads)) next x × (f ≡ v.sent))
+  pub behind : told → LeavesPart (behind c0.volume.tables.geometry) v w
   pub works : Works v w
   pub faults : CountsFault result v.faults w.faults

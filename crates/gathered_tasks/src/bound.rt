@@ -1,15 +1,16 @@
 // How often a request writes at most.
-ghost use Rattle.std.specs.Prelude.{◌≡◌, ◌≤◌, ◌<◌, length, true, IfSome};
+ghost use Rattle.std.specs.Prelude.{◌≡◌, ◌≤◌, ◌<◌, length, true, Some, IfSome};
+ghost use Rattle.image_layout.specs.Ring.{bodies};
 ghost use Rattle.image_world.specs.Tables.{pairs_of};
-ghost use Rattle.volume_laws.specs.Writes.{zeroed_cost};
+ghost use Rattle.volume_laws.specs.Writes.{batch_cost, zeroed_cost};
 ghost use Rattle.image_world.specs.Debt.{owed};
 ghost use Rattle.tsd_core.specs.Core.{IsCoreReady, told_world};
-ghost use Rattle.gathered_tasks.specs.Bounds.{IsBound, once_cost};
+ghost use Rattle.gathered_tasks.specs.Bounds.{IsBound, ReclaimsNothing, once_cost, room_for};
 
 use tsd_core::Core;
 use tsd_model::{Geometry, Request};
 
-/// More blocks, and more sectors of one, than a batch holds.
+/// More blocks, or more sectors of one, than a batch holds.
 const MANY: u32 = 114;
 
 /// How often a request writes at most where the journal is empty before it and emptied behind it; none where it waits,
@@ -17,7 +18,15 @@ const MANY: u32 = 114;
 pub fn writes_at_most(core: &Core, request: &Request) -> Option<u32>
     requires { IsCoreReady core.now }
     /// promise: A request writes so often at most where the journal is empty before it and emptied behind it.
-    ensures { IfSome result (λ most. IsBound core.now.volume request.now most) }
+    ensures most { IfSome result (λ most. IsBound core.now.volume request.now most) }
+    /// promise: For a request for which nothing is reclaimed, and that a batch holds, it is the room that the request
+    /// is given.
+    ensures room { ReclaimsNothing core.now request.now
+        → room_for core.now.volume.tables.geometry request.now ≤ bodies
+        → result ≡ Some (room_for core.now.volume.tables.geometry request.now) }
+    /// promise: It is that room or none, and it is none where something is reclaimed before the request or by it.
+    ensures some { IfSome result (λ most. ReclaimsNothing core.now request.now
+        × (most ≡ room_for core.now.volume.tables.geometry request.now)) }
 {
     let geometry = core.geometry();
     match request {
@@ -36,7 +45,11 @@ pub fn writes_at_most(core: &Core, request: &Request) -> Option<u32>
 fn has_slot(core: &Core, geometry: &Geometry) -> bool
     requires ready { IsCoreReady core.now }
     requires size { geometry.now ≡ core.now.volume.tables.geometry }
-    ensures { result ≡ true → length (pairs_of core.now.volume.tables) < core.now.volume.tables.geometry.slots }
+    ensures finds { result ≡ true
+        → length (pairs_of core.now.volume.tables) < core.now.volume.tables.geometry.slots }
+    ensures settled { result ≡ true → owed core.now.volume.tables ≡ 0 }
+    ensures has { owed core.now.volume.tables ≡ 0
+        → length (pairs_of core.now.volume.tables) < core.now.volume.tables.geometry.slots → result ≡ true }
 {
     !core.is_owed() && core.pointers() < geometry.slots
 }
@@ -44,8 +57,12 @@ fn has_slot(core: &Core, geometry: &Geometry) -> bool
 /// The same for so many new blocks.
 fn blocks_at_most(core: &Core, count: u32) -> Option<u32>
     requires { IsCoreReady core.now }
-    ensures { IfSome result (λ most. (owed core.now.volume.tables ≡ 0)
+    ensures most { IfSome result (λ most. (owed core.now.volume.tables ≡ 0)
         × (zeroed_cost (told_world core.now).geometry count ≤ most)) }
+    ensures some { IfSome result (λ most. (owed core.now.volume.tables ≡ 0)
+        × (most ≡ zeroed_cost (told_world core.now).geometry count)) }
+    ensures room { owed core.now.volume.tables ≡ 0 → zeroed_cost (told_world core.now).geometry count ≤ bodies
+        → result ≡ Some (zeroed_cost (told_world core.now).geometry count) }
 {
     if core.is_owed() {
         return None;
@@ -55,7 +72,9 @@ fn blocks_at_most(core: &Core, count: u32) -> Option<u32>
 
 /// How often one batch of so many homes writes at most, its records in place behind it.
 fn of_homes(homes: u32) -> Option<u32>
-    ensures { IfSome result (λ most. once_cost homes ≤ most) }
+    ensures most { IfSome result (λ most. once_cost homes ≤ most) }
+    ensures some { IfSome result (λ most. most ≡ batch_cost homes) }
+    ensures room { batch_cost homes ≤ bodies → result ≡ Some (batch_cost homes) }
 {
     if homes > MANY {
         return None;
@@ -65,10 +84,13 @@ fn of_homes(homes: u32) -> Option<u32>
 
 /// How often so many new blocks write at most.
 fn of_blocks(geometry: &Geometry, count: u32) -> Option<u32>
-    ensures { IfSome result (λ most. zeroed_cost geometry.now count ≤ most) }
+    ensures most { IfSome result (λ most. zeroed_cost geometry.now count ≤ most) }
+    ensures some { IfSome result (λ most. most ≡ zeroed_cost geometry.now count) }
+    ensures room { zeroed_cost geometry.now count ≤ bodies → result ≡ Some (zeroed_cost geometry.now count) }
 {
-    if count > MANY || geometry.sectors > MANY {
+    if count > MANY {
         return None;
     }
-    Some(geometry.sectors * count + 2 * (3 * count) + 3)
+    let zeros = geometry.sectors.checked_mul(count)?;
+    zeros.checked_add(2 * (3 * count) + 3)
 }

@@ -5,6 +5,7 @@ ghost use Rattle.image_layout.specs.Ring.{bodies};
 ghost use Rattle.image_world.specs.Stands.{world_of};
 ghost use Rattle.gathered_tasks.specs.Held.{GoesOn, IsInMemory, IsReadyInMemory, held_state};
 ghost use Rattle.gathering.specs.Gathered.{gone_on, HasRested};
+ghost use Rattle.gathering.specs.Left.{most_writes};
 ghost use Rattle.gathered_tasks.specs.Rooms.{gathered};
 
 use crate::room::AskRoom;
@@ -25,7 +26,7 @@ struct Below<'a, P: Device> {
     dev: &'a mut P,
 }
 
-/// Does it in memory: the device is only read.
+/// Does a task in memory: the device is only read.
 pub fn in_memory<P: Device, T: Task>(
     core: &mut Core,
     dev: &mut P,
@@ -51,6 +52,9 @@ pub fn in_memory<P: Device, T: Task>(
     ensures reads { P.told → (P.view dev.new).reads ≡ (P.view dev.old).reads }
     ensures ring { room.new.ring ≡ room.old.ring }
     ensures writes { (P.view dev.new).writes ≡ (P.view dev.old).writes }
+    /// promise: What was gathered grows by one home at most for each time that it writes.
+    ensures few { (most : ℕ) → T.is_bound task.now core.old.volume most
+        → length (gathered room.new) ≤ length (gathered room.old) + most }
 {
     let mut outcome = Err(Failed);
     let below = Below { dev };
@@ -86,6 +90,8 @@ fn in_slots<'a, P: Device, T: Task, K: Going>(
     ensures reads { P.told → (P.view result.dev.now).reads ≡ K.start.reads }
     ensures ring { room.new.ring ≡ room.old.ring }
     ensures writes { (P.view result.dev.now).writes ≡ K.start.writes }
+    ensures few { (most : ℕ) → T.is_bound task.now core.old.volume most
+        → length (gathered room.new) ≤ length K.batch + most }
 {
     let kept = room.room.take().unwrap();
     let (below, kept, done) = in_part::<P, T, K>(core, below, kept, &room.ring, task);
@@ -118,6 +124,8 @@ fn in_part<'a, P: Device, T: Task, K: Going>(
     ensures told { IfOk result.2 (λ r. T.told_given task.now core.old r core.new) }
     ensures reads { P.told → (P.view result.0.dev.now).reads ≡ K.start.reads }
     ensures writes { (P.view result.0.dev.now).writes ≡ K.start.writes }
+    ensures few { (most : ℕ) → T.is_bound task.now core.old.volume most
+        → length result.1.batch ≤ length K.batch + most }
 {
     let base = Base {
         dev: below.dev,
@@ -129,7 +137,7 @@ fn in_part<'a, P: Device, T: Task, K: Going>(
     (Below { dev }, room, outcome)
 }
 
-/// Does it on the device itself, with nothing gathered: the records of the journal are put in place before it and
+/// Does a task on the device itself, with nothing gathered: the records of the journal are put in place before it and
 /// behind it.
 pub fn on_device<D: Device, T: Task>(
     core: &mut Core,
@@ -179,8 +187,10 @@ pub fn commit<D: Device>(core: &mut Core, dev: &mut D, room: &mut AskRoom) -> Re
     ensures base { D.told → OnOk result (world_of (D.view dev.new).reads ≡ world_of (gone_on (gathered room.old)
         (D.view dev.old).reads)) }
     ensures none { OnOk result (gathered room.new ≡ []) }
-    /// promise: It writes 236 sectors at most.
+    /// promise (with few): It writes 236 sectors at most; nothing where nothing was gathered, and else at most 123 more
+    /// than homes were.
     ensures most { (D.view dev.new).writes ≤ (D.view dev.old).writes + 236 }
+    ensures few { (D.view dev.new).writes ≤ (D.view dev.old).writes + most_writes (length (gathered room.old)) }
 {
     let mut kept = room.room.take().unwrap();
     let outcome = kept.commit(dev, &mut room.ring);
@@ -195,7 +205,9 @@ pub fn commit<D: Device>(core: &mut Core, dev: &mut D, room: &mut AskRoom) -> Re
 /// Whether so many writes more fit into what was gathered.
 pub fn has_room(room: &AskRoom, writes: u32) -> bool
     requires { writes ≤ bodies }
-    ensures { result ≡ true → length (gathered room.now) + writes ≤ bodies }
+    /// promise (with has): True exactly where so many writes more fit.
+    ensures fits { result ≡ true → length (gathered room.now) + writes ≤ bodies }
+    ensures has { is_some room.now.room ≡ true → length (gathered room.now) + writes ≤ bodies → result ≡ true }
 {
     match &room.room {
         Some(room) => room.homes() + writes as usize <= HOMES_MAX,

@@ -7,3 +7,4 @@ mod Flushing
 pub mod Merely
 pub mod Closed
 pub mod PartLaws
+pub mod BelowLaws

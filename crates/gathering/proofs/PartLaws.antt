@@ -1,17 +1,14 @@
 -- What one call of a disk in memory for a part of a group does to it.
 use Rattle.std.specs.Global.{Box}
-use Rattle.std.proofs.Common.{◌≡◌, ◌⊎◌, inl, inr, ⊎_elim, ℕ, zero, suc, ◌+◌, ◌-◌, ◌≤◌, ◌==◌, ◌||◌, ◌&&◌, not, Bool, true, false, cond, List, [], ◌∷◌, ◌++◌, length, refl, sym, ◌∙◌, ap, subst, arith}
+use Rattle.std.proofs.Common.{◌≡◌, ◌⊎◌, inl, inr, ℕ, ◌+◌, ◌-◌, ◌≤◌, ◌==◌, ◌||◌, not, Bool, true, false, cond, List, [], ◌∷◌, ◌++◌, length, refl, sym, ◌∙◌, ap, subst, arith}
 use Rattle.std.proofs.lemmas.Bool.{cases_Bool}
 use Rattle.std.proofs.lemmas.Bool.Decides.{nat_tests}
-use Rattle.image_device.specs.Calls.{Elapses, Rests, Settles, Touches}
 use Rattle.image_device.specs.declared.event.Event.{Event}
 use Rattle.image_device.specs.declared.event.Event.TheVariants.{Write, Sync, Put, Poke}
-use Rattle.image_device.specs.History.{HistoryState, step, after, loosened, Had, HadSince}
+use Rattle.image_device.specs.History.{HistoryState, step, after, loosened, Had}
 use Rattle.image_device.specs.Image.{Image, IsImage, IsSector, put_at}
 use Rattle.image_device.proofs.Sets.{or_false_left}
-use Rattle.image_device.specs.MemStation.{history_view}
-use Rattle.image_device.specs.View.{View, IsLeftNow, IsSound}
-use Rattle.image_device.proofs.Pushes.{touches, touches_not, settles}
+use Rattle.image_device.specs.View.{View}
 use Rattle.image_layout.specs.declared.offset.Patch.{Patch}
 use Rattle.intent_journal.specs.Batch.{has_home, homes_of, with_patch, IsBatch}
 use Rattle.std.specs.Prelude.{min, ◌^◌, Result, Ok, Err, OnOk, OnErr, ◌<◌}
@@ -19,14 +16,14 @@ use Rattle.image_layout.specs.Image.{says_open}
 use Rattle.image_layout.specs.Ring.{bodies, gate_sector, records}
 use Rattle.intent_journal.specs.Home.{overlaid, is_journal}
 use Rattle.intent_journal.specs.Homes.{is_lawful_home}
-use Rattle.intent_journal.proofs.Bools.{and_true_parts, not_true, equal_numbers}
+use Rattle.intent_journal.proofs.Bools.{and_true_parts, equal_numbers}
 use Rattle.intent_journal.specs.Records.{is_gate_open}
 use Rattle.intent_journal.proofs.Overlays.{overlaid_missed}
 use Rattle.intent_journal.proofs.Places.{gate_in}
 use Rattle.intent_journal.proofs.Uses.{lawful_missed, overlaid_with_patch}
-use Rattle.tsd_model.specs.World.{are_apart, has_number}
+use Rattle.tsd_model.specs.World.{are_apart}
 use Rattle.gathering.specs.Gathered.{cleared, gone_on}
-use Rattle.gathering.specs.Parts.{after_whole, chosen_whole, has_stray, is_stray, part_view, went_on, AreWholeWrites, IsNetOver, LeavesStray}
+use Rattle.gathering.specs.Parts.{chosen_whole, has_stray, is_stray, part_view, went_on, AreWholeWrites, IsNetOver, LeavesStray}
 use Rattle.gathering.proofs.Closed.{cleared_closed}
 use Rattle.gathering.proofs.Events.{pushed}
 
@@ -58,7 +55,7 @@ whole_pushed [] sector box whole now = (now, tt)
 whole_pushed (Write k b ∷ es) sector box whole now = (whole.0, whole_pushed es sector box whole.1 now)
 whole_pushed (Poke k b ∷ es) sector box whole now = (whole.0, whole_pushed es sector box whole.1 now)
 whole_pushed (Sync ∷ es) sector box whole now = whole_pushed es sector box whole now
-whole_pushed (Put p ∷ es) sector box whole now = whole_pushed es sector box whole now
+whole_pushed (Put p ∷ es) sector box whole now = absurd whole
 
 pub whole_write : (es new : List Event) (sector : ℕ) (box : Box (List ℕ)) → new ≡ es ++ Write sector box ∷ [] → AreWholeWrites es → IsSector box.value → AreWholeWrites new
 whole_write es new sector box is whole now = subst AreWholeWrites (sym is) (whole_pushed es sector box whole now)
@@ -68,7 +65,7 @@ whole_synced [] whole = tt
 whole_synced (Write k b ∷ es) whole = (whole.0, whole_synced es whole.1)
 whole_synced (Poke k b ∷ es) whole = (whole.0, whole_synced es whole.1)
 whole_synced (Sync ∷ es) whole = whole_synced es whole
-whole_synced (Put p ∷ es) whole = whole_synced es whole
+whole_synced (Put p ∷ es) whole = absurd whole
 
 pub whole_sync : (es new : List Event) → new ≡ es ++ Sync ∷ [] → AreWholeWrites es → AreWholeWrites new
 whole_sync es new is whole = subst AreWholeWrites (sym is) (whole_synced es whole)
@@ -185,9 +182,7 @@ stray_left [] s base whole is = absurd (cc)
 stray_left (Sync ∷ es) s base whole is =
     let more = stray_left es (step s Sync) base whole is in
     (more.0, more.1, more.2, λ bytes sized. let left = more.3 bytes sized in (left.0, left.1, left.2, inr left.3))
-stray_left (Put p ∷ es) s base whole is =
-    let more = stray_left es (step s (Put p)) base whole is in
-    (more.0, more.1, more.2, λ bytes sized. let left = more.3 bytes sized in (left.0, left.1, left.2, inr left.3))
+stray_left (Put p ∷ es) s base whole is = absurd whole
 stray_left (Poke k b ∷ es) s base whole is =
     let more = stray_left es (step s (Poke k b)) (λ m. chosen_whole (m == k) b.value (s.reads m) whole.0 (base m)) whole.1 is in
     (more.0, more.1, more.2, λ bytes sized. let left = more.3 bytes sized in (left.0, left.1, left.2, inr left.3))
@@ -222,6 +217,6 @@ stray_left (Write k b ∷ es) s base whole is = elim (cases_Bool (is_journal k))
       whole = λ n. chosen_whole (n == k) bytes (s.reads n) sized (base n);
     }
 
-pub leaves_stray : (start : View) (batch : List Patch) (es : List Event) (faults writes : ℕ) → ((n : ℕ) → IsSector (gone_on batch start.reads n)) → AreWholeWrites es → has_stray es ≡ true
-    → LeavesStray (part_view start batch es faults writes)
-leaves_stray start batch es faults writes base whole is = stray_left es (went_on start batch) base whole is
+pub leaves_stray : (start : View) (batch : List Patch) (es : List Event) (faults writes : ℕ) (below : View) → ((n : ℕ) → IsSector (gone_on batch start.reads n)) → AreWholeWrites es → has_stray es ≡ true
+    → LeavesStray (part_view start batch es faults writes below)
+leaves_stray start batch es faults writes below base whole is = stray_left es (went_on start batch) base whole is

@@ -1,10 +1,10 @@
 -- A disk in memory for a part of a group: it goes on with a batch over a device that is only read.
-use Rattle.std.specs.Prelude.{ℕ, ◌≡◌, ◌||◌, Bool, true, false, not, List, [], ◌∷◌}
+use Rattle.std.specs.Prelude.{ℕ, zero, suc, ◌≡◌, ◌≤◌, ◌||◌, Bool, true, false, not, List, [], ◌∷◌, drop, length}
 use Rattle.image_device.specs.declared.event.Event.{Event}
 use Rattle.image_device.specs.declared.event.Event.TheVariants.{Write, Sync, Put, Poke}
 use Rattle.image_device.specs.Image.{Image, IsSector}
-use Rattle.image_device.specs.View.{View, IsSound}
-use Rattle.image_device.specs.History.{HistoryState, step, after}
+use Rattle.image_device.specs.View.{View, IsLeftNow, IsSound}
+use Rattle.image_device.specs.History.{HistoryState, step, after, Had, HadSince}
 use Rattle.image_device.specs.MemStation.{history_view}
 use Rattle.image_device.specs.Laws.{counts_now, only_now}
 use Rattle.image_layout.specs.declared.offset.Patch.{Patch}
@@ -12,22 +12,39 @@ use Rattle.intent_journal.specs.Home.{overlaid, is_journal}
 use Rattle.intent_journal.specs.Homes.{is_lawful_home}
 use Rattle.gathering.specs.Gathered.{cleared, gone_on}
 use Rattle.std.proofs.Props.{props}
-use Rattle.std.proofs.Common.{refl, cond, ◌==◌}
+use Rattle.std.proofs.Common.{refl, sym, ◌∙◌, ap, subst, cond, ◌==◌}
+use Rattle.std.proofs.Math.Seq.{drop-length}
 
 -- the disk in memory as a part begins over this device with this batch: nothing is loose
 abbrev pub went_on : View → List Patch → HistoryState
 went_on v batch = record { reads = gone_on batch v.reads; synced = gone_on batch v.reads; loose = λ n. false; sent = v.sent }
 
--- the disk in memory after these events
-abbrev pub part_view : View → List Patch → List Event → ℕ → ℕ → View
-part_view start batch es faults writes = history_view (went_on start batch) es faults 0 writes
+-- What a crash may have left since before a part began, by what was sent behind what was sent then. Where that is
+-- nothing, the crash was of the disk in memory. Where it is a number and some bytes, which no part ever sends, it was
+-- of the device below: a crash since this moment of it may have left the image, with these bytes sent.
+abbrev pub below_or_past : View → HistoryState → List Event → View → List ℕ → Image → List ℕ → Type 0
+below_or_past start s es below [] x f = Had es s x f
+below_or_past start s es below (t ∷ sent) x f = (t ≤ start.clock) × below.left t x sent
 
--- each write of these is of 512 bytes
+-- What a crash may have left since each moment of a part. It begins at moment 1, and moment 0 lies before it.
+abbrev pub left_in_part : View → HistoryState → List Event → View → ℕ → Image → List ℕ → Type 0
+left_in_part start s es below zero x f = below_or_past start s es below (drop (length start.sent) f) x f
+left_in_part start s es below (suc t) x f = HadSince t es s x f
+
+-- the disk in memory after these events, over the device as it is now
+abbrev pub part_view : View → List Patch → List Event → ℕ → ℕ → View → View
+part_view start batch es faults writes below = record (history_view (went_on start batch) es faults 0 writes) {
+  clock = suc (length es);
+  left = left_in_part start (went_on start batch) es below;
+}
+
+-- each write of these is of 512 bytes, and nothing is put
 abbrev pub AreWholeWrites : List Event → Type 0
 AreWholeWrites [] = Unit {0}
 AreWholeWrites (Write sector bytes ∷ es) = IsSector bytes.value × AreWholeWrites es
 AreWholeWrites (Poke sector bytes ∷ es) = IsSector bytes.value × AreWholeWrites es
-AreWholeWrites (e ∷ es) = AreWholeWrites es
+AreWholeWrites (Sync ∷ es) = AreWholeWrites es
+AreWholeWrites (Put piece ∷ es) = ⊥
 
 -- outside the journal the disk in memory reads as these patches make what the device stands for
 abbrev pub IsNetOver : View → List Patch → List Event → List Patch → Type 0
@@ -48,7 +65,7 @@ abbrev pub LeavesStray : View → Type 0
 LeavesStray v =
     (sector : ℕ) × (is_journal sector ≡ false) × (is_lawful_home sector ≡ false)
     × ((bytes : List ℕ) → IsSector bytes → (x : Image) × (f : List ℕ) × (x sector ≡ bytes)
-    × v.left 0 x f)
+    × v.left 1 x f)
 
 -- ---- what holds at each moment
 
@@ -64,13 +81,31 @@ after_whole (Write sector bytes ∷ es) s base whole n =
 after_whole (Poke sector bytes ∷ es) s base whole n =
     after_whole es (step s (Poke sector bytes)) (λ m. chosen_whole (m == sector) bytes.value (s.reads m) whole.0 (base m)) whole.1 n
 after_whole (Sync ∷ es) s base whole n = after_whole es (step s Sync) base whole n
-after_whole (Put piece ∷ es) s base whole n = after_whole es (step s (Put piece)) base whole n
+after_whole (Put piece ∷ es) s base whole n = absurd whole
 
-pub part_sound : (start : View) (batch : List Patch) (es : List Event) (faults writes : ℕ)
+sent_kept : (es : List Event) (s : HistoryState) → AreWholeWrites es → (after es s).sent ≡ s.sent
+sent_kept [] s whole = refl
+sent_kept (Write sector bytes ∷ es) s whole = sent_kept es (step s (Write sector bytes)) whole.1
+sent_kept (Poke sector bytes ∷ es) s whole = sent_kept es (step s (Poke sector bytes)) whole.1
+sent_kept (Sync ∷ es) s whole = sent_kept es (step s Sync) whole
+sent_kept (Put piece ∷ es) s whole = absurd whole
+
+pub part_counts : (start : View) (batch : List Patch) (es : List Event) (faults writes : ℕ) (below : View)
+    → AreWholeWrites es → (t : ℕ) (x : Image) (f : List ℕ)
+    → IsLeftNow (part_view start batch es faults writes below) x f
+    → (part_view start batch es faults writes below).left t x f
+part_counts start batch es faults writes below whole zero x f now =
+    let none : drop (length start.sent) f ≡ [] =
+    ap (drop (length start.sent)) (now.1 ∙ sent_kept es (went_on start batch) whole) ∙ drop-length start.sent in
+    subst (λ (l : List ℕ). below_or_past start (went_on start batch) es below l x f) (sym none)
+    (counts_now zero es (went_on start batch) x f now)
+part_counts start batch es faults writes below whole (suc t) x f now = counts_now t es (went_on start batch) x f now
+
+pub part_sound : (start : View) (batch : List Patch) (es : List Event) (faults writes : ℕ) (below : View)
     → ((n : ℕ) → IsSector (gone_on batch start.reads n)) → AreWholeWrites es
-    → IsSound (part_view start batch es faults writes)
-part_sound start batch es faults writes base whole = record {
-  counts_now = λ t x f le now. counts_now t es (went_on start batch) x f now;
+    → IsSound (part_view start batch es faults writes below)
+part_sound start batch es faults writes below base whole = record {
+  counts_now = λ t x f le now. part_counts start batch es faults writes below whole t x f now;
   only_now = λ x f left. only_now es (went_on start batch) x f left;
   own = record { agrees = λ n h. refl; whole = after_whole es (went_on start batch) base whole };
 }
@@ -80,4 +115,4 @@ whole_prop [] = hlevel props
 whole_prop (Write sector bytes ∷ es) = let more = whole_prop es in hlevel (props, more)
 whole_prop (Poke sector bytes ∷ es) = let more = whole_prop es in hlevel (props, more)
 whole_prop (Sync ∷ es) = whole_prop es
-whole_prop (Put piece ∷ es) = whole_prop es
+whole_prop (Put piece ∷ es) = hlevel props

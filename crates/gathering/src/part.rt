@@ -4,8 +4,8 @@ ghost use Rattle.image_device.specs.Calls.{Uses};
 ghost use Rattle.image_device.specs.Counts.{Rose};
 ghost use Rattle.image_device.specs.History.{after};
 ghost use Rattle.image_device.specs.Image.{IsSector};
-ghost use Rattle.image_device.specs.View.{View, untold, IsLeftNow};
-ghost use Rattle.image_device.specs.Runs.{IsFirm, LeavesOnly};
+ghost use Rattle.image_device.specs.View.{View, untold};
+ghost use Rattle.image_device.specs.Runs.{IsFirm};
 ghost use Rattle.image_layout.specs.Ring.{bodies};
 ghost use Rattle.image_layout.specs.declared.offset.Patch.{Patch};
 ghost use Rattle.intent_journal.specs.Batch.{homes_of, IsBatch};
@@ -50,7 +50,8 @@ pub struct Base<'a, P: Device> {
 
 /// A disk in memory that begins as a batch makes what a device stands for, its journal closed. What is written stays in
 /// memory, and none of it fails but where a batch has no home left: it is not flushed, but left off, and its net change
-/// is in the batch then.
+/// is in the batch then. Its view also tells, under bytes that it never sends, what a crash may have left of the
+/// device.
 #[derive(Drop)]
 pub struct Part<'a, 'r, P: Device, K: Going> {
     dev: &'a mut P,
@@ -76,7 +77,6 @@ pub struct Part<'a, 'r, P: Device, K: Going> {
     ghost reads: { P.told → (P.view dev.now).reads ≡ K.start.reads },
     ghost loose: { P.told → (P.view dev.now).loose ≡ K.start.loose },
     ghost sent: { P.told → (P.view dev.now).sent ≡ K.start.sent },
-    ghost leaves: { P.told → ∥ LeavesOnly K.start (P.view dev.now) (IsLeftNow K.start) ∥₁ },
     ghost counts: { Uses 0 K.start (P.view dev.now) },
     ghost failed: { device_failed ≡ true → Rose K.start.faults (P.view dev.now).faults },
     ghost unfailed: { device_failed ≡ false → (P.view dev.now).faults ≡ K.start.faults },
@@ -143,13 +143,13 @@ impl<'a, 'r, P: Device, K: Going> Part<'a, 'r, P, K> {
     /// Leaves the part off: its batch stays in the room. A sector that no batch may hold is not kept, nor is the batch
     /// then.
     pub fn leave(self) -> Base<'a, P>
-        /// promise (with dev, reads, loose, sent, any_moment, counts): The device was only read.
+        /// promise (with dev, reads, loose, sent, counts): The device was only read. What a crash may have
+        /// left of it follows from what the calls on the part left, since the view of a part tells of both.
         ensures device { result.dev.ghost_name ≡ K.device }
         ensures dev { result.dev.now ≡ self.entry.dev.now }
         ensures reads { P.told → (P.view result.dev.now).reads ≡ K.start.reads }
         ensures loose { P.told → (P.view result.dev.now).loose ≡ K.start.loose }
         ensures sent { P.told → (P.view result.dev.now).sent ≡ K.start.sent }
-        ensures any_moment { P.told → ∥ LeavesOnly K.start (P.view result.dev.now) (IsLeftNow K.start) ∥₁ }
         ensures counts { Uses 0 K.start (P.view result.dev.now) }
         /// promise: What the disk in memory holds outside the journal is what the batch in the room makes of what the
         /// device stands for, or a crash of that disk may have left any bytes in a sector that no batch may hold.
@@ -240,10 +240,10 @@ impl<'a, 'r, P: Device, K: Going> Device for Part<'a, 'r, P, K> {
 
     ghost told = { P.told };
 
-    ghost view = { λ m. part_view K.start K.batch m.past.events m.faults m.writes };
+    ghost view = { λ m. part_view K.start K.batch m.past.events m.faults m.writes (P.view m.dev.now) };
 
-    ghost sound = { λ m told. part_sound K.start K.batch m.past.events m.faults m.writes (m.began_whole told)
-        m.whole };
+    ghost sound = { λ m told. part_sound K.start K.batch m.past.events m.faults m.writes (P.view m.dev.now)
+        (m.began_whole told) m.whole };
 
     fn read(&mut self, sector: u32, into: &mut [u8; 512]) -> Result<(), Failed> {
         if let Some(bytes) = self.last_write(sector) {

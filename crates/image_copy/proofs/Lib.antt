@@ -2,6 +2,7 @@ pub mod TrimLaws
 pub mod BetweenLaws
 pub mod SessionLaws
 pub mod OpenedLaws
+pub mod GatheredLaws
 pub mod SharedLaws
 pub mod ImageLaws
 pub mod PutLaws

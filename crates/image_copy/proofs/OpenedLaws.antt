@@ -1,15 +1,8 @@
 -- A copy on a core, joined from its steps.
-use Rattle.std.proofs.Common.{◌≡◌, ◌≤◌, ◌⊎◌, inl, inr, ℕ, Bool, true, false, cond, nat_lt, refl, sym, ◌∙◌, ap, subst, arith}
-use Rattle.std.proofs.lemmas.Bool.{ltb-true}
-use Rattle.std.specs.Prelude.{Result, Ok, Err, OnOk, IfOk, IfErr, IsTrue, slice_get}
+use Rattle.std.proofs.Common.{◌≡◌, ◌⊎◌, inl, inr, ℕ, refl, sym, ◌∙◌, ap, subst, arith}
+use Rattle.std.specs.Prelude.{Result, Ok, Err, IfOk, IfErr}
 use Rattle.tsd_model.specs.World.{World}
-use Rattle.tsd_model.specs.Records.{kept_of}
-use Rattle.tsd_model.specs.Sessions.{is_open}
-use Rattle.tsd_model.specs.Attained.{record_level}
 use Rattle.tsd_model.specs.declared.geometry.Geometry.{Geometry}
-use Rattle.tsd_model.specs.declared.requests.Level.{Level}
-use Rattle.tsd_model.specs.declared.requests.Level.TheVariants as level
-use Rattle.tsd_model.specs.declared.requests.PlaceKind.{PlaceKind}
 use Rattle.image_device.specs.Counts.{CountsFault, CountsFaultOf, Rose}
 use Rattle.image_device.specs.View.{IsSound, View as DeviceView}
 use Rattle.image_device.specs.Runs.{LeavesOnly, LeavesPart}
@@ -21,69 +14,17 @@ use Rattle.volume_laws.specs.Moments.{LeavesWorld}
 use Rattle.volume_laws.specs.Writes.{Works}
 use Rattle.tsd_words.specs.declared.status.Status.{Status}
 use Rattle.tsd_words.specs.declared.status.Status.TheVariants as status
-use Rattle.tsd_core.specs.Core.{Core, IsCoreAt, IsCoreReady, sessions_of, told_world}
+use Rattle.tsd_core.specs.Core.{Core, IsCoreAt, IsCoreReady, told_world}
 use Rattle.fs_laws.specs.Apart.{AreApart}
-use Rattle.fs_port.specs.View.{DiskView}
-use Rattle.fs_port.specs.Files.{FilesView, IsClientReady}
+use Rattle.fs_port.specs.Files.{FilesView}
 use Rattle.core_blocks.specs.Behind.{KeepsBehind}
-use Rattle.core_blocks.specs.CoreView.{core_view}
 use Rattle.core_blocks.proofs.BehindLaws.{behind_between, behind_on, same_size, size_at}
-use Rattle.core_blocks.proofs.ImageLaws.{IsImageOf, images_left}
 use Rattle.image_shell.specs.FromCore.{IsAtStart}
-use Rattle.image_shell.specs.Served.{level_at}
 use Rattle.image_shell.proofs.FromLaws.{level_like, moments_of_start}
 use Rattle.image_copy.specs.Ends.{EndsAs, IsFirstShared, IsUnderWay}
-use Rattle.image_copy.specs.Steps.{AreBegun, AreBothOpen, CopiesBetween, CopiesOn, IsLeftBy, IsStartOf, RunsOn}
+use Rattle.image_copy.specs.Steps.{AreBegun, AreBothOpen, CopiesOn, IsLeftBy, IsStartOf, RunsOn}
 use Rattle.image_copy.specs.declared.ending.CopyEnd.{CopyEnd}
 use Rattle.image_copy.specs.declared.ending.CopyEnd.TheVariants as end
-
--- ---- what a session needs at a core
-
-split_level : (b : Bool) (x : Level) → cond b x level.Bare ≡ level.Write → (b ≡ true) × (x ≡ level.Write)
-split_level true x e = (refl, e)
-split_level false x e = absurd (cc)
-
-pub client_ready : (f : FilesView) (l : ℕ × ℕ) (kind : PlaceKind) (c : Core) (v : DeviceView) (n : ℕ) → n ≤ 64 → c.volume.is_spent ≡ false → f.session ≡ n → IsTrue (is_open (sessions_of c) n) → level_at (told_world c) f.root f.cap ≡ level.Write
-    → IsClientReady f (core_view l kind c v)
-client_ready f l kind c v n few unspent asks begun attained =
-    let both = split_level (nat_lt f.root (told_world c).geometry.primaries) (record_level (slice_get (told_world c).records f.root) (kept_of (told_world c).version f.cap)) attained in
-    record {
-      unspent = unspent;
-      number = subst (λ (s : ℕ). s ≤ 64) (sym asks) few;
-      begun = subst (λ (s : ℕ). IsTrue (is_open (sessions_of c) s)) (sym asks) begun;
-      primary = ltb-true f.root (told_world c).geometry.primaries both.0;
-      attains = both.1;
-    }
-
--- ---- mounted and copied on a disk that a core is
-
-module _ (told : Type 0) (f g : FilesView) (l m : ℕ × ℕ) (kind placement : PlaceKind) (c0 c1 : Core) (v w : DeviceView) where
-  abbrev old : DiskView
-  old = core_view l kind c0 v
-
-  abbrev new : DiskView
-  new = core_view m placement c1 w
-
-  on_unspent : {P : Type 0} (r : Result CopyEnd Status) → (c1.volume.is_spent ≡ false → P) → OnOk r (c1.volume.is_spent ≡ false) → OnOk r P
-  on_unspent (Ok e) then unspent = then unspent
-  on_unspent (Err why) then unspent = tt
-
-  pub runs_by : (r : Result CopyEnd Status) → (c1.volume.is_spent ≡ false → IsCoreReady c1) → (told → c1.volume.is_spent ≡ false → IsCoreAt c1 w) → CopiesBetween told f g old new r → (told → IsCoreAt c0 v) → KeepsBehind told c0 c1 v w → RunsOn told f g c1 v w r
-  runs_by r ready at copies was aside = record {
-    ready = on_unspent r ready copies.unspent;
-    at = λ t. on_unspent r (at t) copies.unspent;
-    ends = copies.ends;
-    words = copies.words;
-    sent = λ t. (copies.crash t).sent;
-    any_moment = λ t. weakened v w (IsImageOf (IsUnderWay f g (world_of v.reads)) v.sent) (λ x s. ((u : World) × Stands x u × IsUnderWay f g (world_of v.reads) u) × (s ≡ v.sent))
-        (images_left l m kind placement c0 c1 v w (IsUnderWay f g (world_of v.reads)) (copies.crash t)) (λ x s left. ((left.0, left.1, left.2), left.3));
-    size = λ t. aside.size ∙ size_at c0 v (was t);
-    behind = behind_on told c0 c1 v w was aside;
-    clock = omega (arith, copies.counts.clock);
-    put_faults = copies.counts.put_faults;
-    stops = copies.stops;
-    faults = copies.faults;
-  }
 
 -- ---- with the sessions opened before
 

@@ -1,5 +1,6 @@
 -- The line of a copy that has ended, put.
-use Rattle.std.proofs.Common.{◌≡◌, ◌⊎◌, inl, inr, ℕ, List, [], refl, sym, ◌∙◌, ap, subst, append-nil}
+use Rattle.std.proofs.Common.{◌≡◌, ◌⊎◌, inl, inr, ℕ, List, [], refl, sym, ◌∙◌, ap, subst, arith, append-nil}
+use Rattle.std.specs.Prelude.{Err}
 use Rattle.image_device.specs.View.{IsLeftInPut, IsPart, IsSound, View}
 use Rattle.image_device.specs.Runs.{IsFirm, LeavesOnly}
 use Rattle.image_device.proofs.Moments.{firm_image, joined, started, weakened}
@@ -9,15 +10,17 @@ use Rattle.image_world.specs.Behind.{LeavesBehind, behind, size_of_image}
 use Rattle.image_world.specs.Faults.{IsGood}
 use Rattle.image_world.specs.Stands.{Stands, world_of}
 use Rattle.recovery.specs.Opening.{StandAlike}
+use Rattle.recovery.proofs.SparedLaws.{spared_start}
 use Rattle.tsd_words.specs.declared.status.Status.{Status}
 use Rattle.tsd_words.specs.declared.status.Status.TheVariants as status
 use Rattle.volume_laws.specs.Quiet.{IsQuiet}
 use Rattle.image_copy.specs.Copied.{HasCopied, HasEnded, IsCopyEnding, IsLeftOfCopy, source, target}
 use Rattle.image_copy.specs.Ends.{EndsAs, IsUnderWay}
 use Rattle.image_copy.specs.Lines.{end_line}
-use Rattle.image_copy.specs.Steps.{IsLeftBy, IsLeftFrom, IsUnended}
+use Rattle.image_copy.specs.Steps.{CarriesOut, IsLeftBy, IsLeftFrom, IsUnended}
 use Rattle.image_copy.specs.declared.ending.CopyEnd.{CopyEnd}
 use Rattle.tsd_words.specs.declared.commands.CopyFs.{CopyFs}
+use Rattle.image_copy.proofs.ImageLaws.{not_carried_out}
 
 alike_here : (old x : Image) → IsGood old → Stands x (world_of old) → StandAlike old x
 alike_here old x good stands w = (λ s. record { good = stands.good; world = s.world ∙ stands.world }, λ s. record { good = good; world = s.world ∙ sym stands.world })
@@ -102,3 +105,9 @@ idle_left words v sound firm = weakened v v (λ x s. StandAlike v.reads x × (s 
 
 pub idle_behind : (v : View) → IsSound v → IsFirm v → LeavesBehind v v
 idle_behind v sound firm = part_stays (behind (size_of_image v.reads)) v sound firm
+
+-- There was no memory for the room, and nothing was done.
+pub nothing_done : (told : Type 0) (words : CopyFs) (v : View) → (told → IsSound v) → CarriesOut told words v v (Err status.NoMemory)
+nothing_done told words v sound =
+    not_carried_out told words v v status.NoMemory tt (λ t. tt) (λ t. refl) (λ t firm. idle_moments v (sound t) firm) (λ t foreign. record { writes = refl; reads = refl }) (λ t bad. spared_start v (sound t)) refl
+    ((λ is. absurd (cc)), λ ne. refl) (λ t firm. idle_behind v (sound t) firm) (λ t. record { quiet = λ quiet. refl; most = omega arith })

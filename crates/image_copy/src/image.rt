@@ -1,6 +1,7 @@
 //! One copy over an image.
 
 ghost use Rattle.std.specs.Prelude.{◌≡◌, ◌≢◌, false};
+ghost use Rattle.gathered_tasks.specs.Rooms.{IsFree};
 ghost use Rattle.image_device.specs.Counts.{Rose};
 ghost use Rattle.image_device.specs.Runs.{IsFirm, LeavesOnly};
 ghost use Rattle.image_world.specs.Behind.{LeavesBehind};
@@ -19,6 +20,7 @@ use crate::shared::first_shared;
 use core_blocks::Placing;
 use fs_port::Files;
 use fs_walks::Walks;
+use gathered_tasks::AskRoom;
 use image_device::{Device, Port, put_all};
 use image_runs::open_volume;
 use std::alloc::Global;
@@ -78,7 +80,7 @@ pub fn copy_over_image<A: Walks, B: Files, L: Placing, P: Port>(
     }
 }
 
-/// Opens an image and copies.
+/// Takes room for what is gathered, opens an image and copies.
 fn carry_out<A: Walks, B: Files, L: Placing, D: Device>(
     alloc: Global,
     from: &mut A,
@@ -91,8 +93,29 @@ fn carry_out<A: Walks, B: Files, L: Placing, D: Device>(
     requires target { B.view into.old ≡ target words.now }
     ensures { CarriesOut D.told words.now (D.view dev.old) (D.view dev.new) result }
 {
+    match AskRoom::new(alloc) {
+        Ok(mut room) => carry_out_in(alloc, &mut room, from, into, words, placement, dev),
+        Err(_) => Err(Status::NoMemory),
+    }
+}
+
+/// The same in a room for what is gathered.
+fn carry_out_in<A: Walks, B: Files, L: Placing, D: Device>(
+    alloc: Global,
+    room: &mut AskRoom,
+    from: &mut A,
+    into: &mut B,
+    words: &CopyFs,
+    placement: &L,
+    dev: &mut D,
+) -> Result<CopyEnd, Status>
+    requires room { IsFree room.old }
+    requires source { A.view from.old ≡ source words.now }
+    requires target { B.view into.old ≡ target words.now }
+    ensures { CarriesOut D.told words.now (D.view dev.old) (D.view dev.new) result }
+{
     match open_volume(alloc, dev) {
-        Ok(volume) => copy_opened(alloc, volume, from, into, words, placement, dev),
+        Ok(volume) => copy_opened(alloc, room, volume, from, into, words, placement, dev),
         Err(why) => Err(why),
     }
 }
@@ -100,6 +123,7 @@ fn carry_out<A: Walks, B: Files, L: Placing, D: Device>(
 /// Copies on a volume that was opened, where both capabilities attain write.
 fn copy_opened<A: Walks, B: Files, L: Placing, D: Device>(
     alloc: Global,
+    room: &mut AskRoom,
     volume: Volume,
     from: &mut A,
     into: &mut B,
@@ -107,6 +131,7 @@ fn copy_opened<A: Walks, B: Files, L: Placing, D: Device>(
     placement: &L,
     dev: &mut D,
 ) -> Result<CopyEnd, Status>
+    requires room { IsFree room.old }
     requires source { A.view from.old ≡ source words.now }
     requires target { B.view into.old ≡ target words.now }
     requires ready { IsVolumeReady volume }
@@ -119,13 +144,14 @@ fn copy_opened<A: Walks, B: Files, L: Placing, D: Device>(
             let_volume_go(volume);
             Err(Status::RootDenied(attained))
         }
-        None => copy_admitted(alloc, volume, from, into, words, placement, dev),
+        None => copy_admitted(alloc, room, volume, from, into, words, placement, dev),
     }
 }
 
 /// Copies on a volume where no block is shared.
 fn copy_admitted<A: Walks, B: Files, L: Placing, D: Device>(
     alloc: Global,
+    room: &mut AskRoom,
     volume: Volume,
     from: &mut A,
     into: &mut B,
@@ -133,6 +159,7 @@ fn copy_admitted<A: Walks, B: Files, L: Placing, D: Device>(
     placement: &L,
     dev: &mut D,
 ) -> Result<CopyEnd, Status>
+    requires room { IsFree room.old }
     requires source { A.view from.old ≡ source words.now }
     requires target { B.view into.old ≡ target words.now }
     requires ready { IsVolumeReady volume }
@@ -145,7 +172,7 @@ fn copy_admitted<A: Walks, B: Files, L: Placing, D: Device>(
     match first_shared(alloc, &volume, words.from.root, words.into.root) {
         Ok(shared) => {
             let mut core = Core::new(alloc, volume);
-            let end = copy_and_close(shared, &mut core, from, into, placement, dev);
+            let end = copy_and_close(shared, &mut core, from, into, placement, dev, room);
             let_core_go(core);
             end
         }

@@ -1,12 +1,14 @@
 //! The command `copyfs`: a tree of files copied from one root of an image to another, in either layout.
 //!
-//! What it stands on: `image_runs` opens an image, `image_audit` tells what a root reaches, `core_blocks` is the disk
-//! as a file system asks it, `fs_copy` copies, and `inode_fs` and `chain_fs` are the two file systems.
+//! What it stands on: `image_runs` opens an image, `image_audit` tells what a root reaches, `gathered_tasks` is the
+//! disk as a file system asks it, `fs_copy` copies, and `inode_fs` and `chain_fs` are the two file systems.
 //!
 //! - `image`, `kinds`: a copy over an image, by any two file systems, and by these.
 //! - `opened`: the same from a core that is open.
 //! - `denied`, `shared`, `sessions`: who may copy, the blocks that both roots reach, and the sessions.
 //! - `between`: a tree mounted and copied on a disk.
+//! - `gathered`: the same on the disk in memory, committed each time when a batch is full, and once in the end.
+//! - `onward`: the device as it is lent for that.
 //! - `ending`, `lines`: how a copy ends, and the line that says it.
 //!
 //! What it promises (`specs/Copied`, `specs/Ends`): after `copied` the target's root has the source's tree. A crash at
@@ -19,9 +21,11 @@
 mod between;
 mod denied;
 mod ending;
+mod gathered;
 mod image;
 mod kinds;
 mod lines;
+mod onward;
 mod opened;
 mod sessions;
 mod shared;

@@ -23,11 +23,12 @@ use Rattle.tsd_words.specs.declared.status.Status.{Status}
 use Rattle.tsd_words.specs.declared.status.Status.TheVariants as status
 use Rattle.fs_trees.specs.Outside.{OthersStay}
 use Rattle.fs_trees.specs.Tree.{is_there, nothing}
-use Rattle.fs_trees.specs.declared.ask.ShellAsk.{ShellAsk}
 use Rattle.fs_trees.specs.declared.ask.ShellKind.{ShellKind}
 use Rattle.fs_trees.specs.declared.refusal.FsRefusal.{FsRefusal}
 use Rattle.fs_trees.specs.declared.refusal.FsRefusal.TheVariants as no
 use Rattle.fs_port.specs.Files.{FilesView}
+use Rattle.shell_text.specs.declared.file_ask.FileAsk.{FileAsk}
+use Rattle.serving.specs.Input.{Spelling}
 use Rattle.serving.specs.Prompt.{Mark}
 use Rattle.serving.specs.Ran.{ByStatus, Ends, Moments, Ran, Taking}
 use Rattle.serving.specs.Runs.{texts}
@@ -36,7 +37,6 @@ use Rattle.serving.specs.Service.{Service}
 use Rattle.tsd_core.specs.Core.{Core, sessions_of, told_world}
 use Rattle.tsd_core.specs.Core.{IsCoreAt}
 use Rattle.tsd_core.proofs.AtLaws.{at_volume, like_at}
-use Rattle.shell_server.specs.Lines.{shell_spelling}
 use Rattle.shell_server.specs.Shell.{ShellState, IsLeftOf, resting, shell_service, shell_work, tree_by, tree_under, unmounted}
 use Rattle.shell_server.specs.Kept.{IsClient, shell_state}
 use Rattle.image_shell.specs.Served.{IsPromptShell, IsFirstState, IsNotServed, IsOpeningAlone, level_at}
@@ -90,7 +90,7 @@ allowed_by root cap start status.Truncated in_here is = is
 -- ---- the first moment
 
 -- with nothing answered, an image of the first state
-pub first_moment : (start : World) (seen : Image → List ℕ → Type 0) (s : ShellState) (before : List ℕ) (qs : List ShellAsk) (x : Image) (f : List ℕ) → IsLeftOf start s x → f ≡ before → IsLeftInRun (shell_service start) seen s before qs x f
+pub first_moment : (start : World) (seen : Image → List ℕ → Type 0) (s : ShellState) (before : List ℕ) (qs : List FileAsk) (x : Image) (f : List ℕ) → IsLeftOf start s x → f ≡ before → IsLeftInRun (shell_service start) seen s before qs x f
 first_moment start seen s before qs x f left e = inl (
   record {
     answered = [];
@@ -146,13 +146,13 @@ done_or_fault r e f = cc
 
 -- ---- mounting before the loop
 
-module _ (r : Status) (f g : FilesView) (kind : ShellKind) (limit : ℕ) (source : Taking) (told later_same same : Type 0) (start : World) (c : Core) (v m new : View) (due : ℕ)
+module _ (r : Status) (f g : FilesView) (p : Spelling FileAsk) (limit : ℕ) (source : Taking) (told later_same same : Type 0) (start : World) (c : Core) (v m new : View) (due : ℕ)
     (valid : told → IsValid start) (sent : told → m.sent ≡ v.sent) (any : told → LeavesOnly v m (λ x h. IsLeftOf start (resting f start) x × (h ≡ v.sent))) (clock : v.clock ≤ m.clock)
     (first : told → IsFirstState f start (shell_state g m.reads)) (at : r ≢ status.DeviceFault → told → IsCoreAt c new) (closed : r ≡ status.Done → told → IsQuiet new.reads) where
   abbrev one : ShellState
   one = shell_state g m.reads
 
-  ends_mounted : (t : told) (final : ShellState) (asked : List ShellAsk) → final.world ≡ world_of new.reads → final.under_way ≡ None → Ends r (shell_service start) shell_work one final due m new asked → EndsFrom r f start v new asked
+  ends_mounted : (t : told) (final : ShellState) (asked : List FileAsk) → final.world ≡ world_of new.reads → final.under_way ≡ None → Ends r (shell_service start) shell_work one final due m new asked → EndsFrom r f start v new asked
   ends_mounted t final asked last still ends =
       let k = shell_service start in
       let later : (n : ℕ) → n ≤ v.clock → n ≤ m.clock = λ n le. omega (arith, le, clock) in
@@ -174,7 +174,7 @@ module _ (r : Status) (f g : FilesView) (kind : ShellKind) (limit : ℕ) (source
             record { firm = here.0; stands = record { good = here.1.good; world = last }; quiet = closed e t };
       }
 
-  pub ran_mounted : (ran : (final : ShellState) × Ran r (shell_service start) shell_work (shell_spelling kind) one final limit source due (record { tells = told; untouched = later_same; old = m; new = new }) × (final.world ≡ world_of new.reads) × (final.under_way ≡ None)) → RanFrom r f kind limit source start (record { tells = told; untouched = same; old = v; new = new })
+  pub ran_mounted : (ran : (final : ShellState) × Ran r (shell_service start) shell_work p one final limit source due (record { tells = told; untouched = later_same; old = m; new = new }) × (final.world ≡ world_of new.reads) × (final.under_way ≡ None)) → RanFrom r f p limit source start (record { tells = told; untouched = same; old = v; new = new })
   ran_mounted ran = record {
     bytes = ran.1.bytes;
     came_in = ran.1.came_in;
@@ -184,7 +184,7 @@ module _ (r : Status) (f g : FilesView) (kind : ShellKind) (limit : ℕ) (source
 
 -- ---- a session begun before that
 
-module _ (r : Status) (f : FilesView) (kind : ShellKind) (limit : ℕ) (source : Taking) (told later_same same : Type 0) (start : World) (v m new : View)
+module _ (r : Status) (f : FilesView) (p : Spelling FileAsk) (limit : ℕ) (source : Taking) (told later_same same : Type 0) (start : World) (v m new : View)
     (sent : told → m.sent ≡ v.sent) (any : told → LeavesOnly v m (λ x h. Stands x start × (h ≡ v.sent))) (clock : v.clock ≤ m.clock) where
   abbrev later : Moments
   later = record { tells = told; untouched = later_same; old = m; new = new }
@@ -192,7 +192,7 @@ module _ (r : Status) (f : FilesView) (kind : ShellKind) (limit : ℕ) (source :
   abbrev all : Moments
   all = record { tells = told; untouched = same; old = v; new = new }
 
-  ends_earlier : told → (asked : List ShellAsk) → EndsFrom r f start m new asked → EndsFrom r f start v new asked
+  ends_earlier : told → (asked : List FileAsk) → EndsFrom r f start m new asked → EndsFrom r f start v new asked
   ends_earlier t asked ends =
       let k = shell_service start in
       let later : (n : ℕ) → n ≤ v.clock → n ≤ m.clock = λ n le. omega (arith, le, clock) in
@@ -212,7 +212,7 @@ module _ (r : Status) (f : FilesView) (kind : ShellKind) (limit : ℕ) (source :
         done = ends.done;
       }
 
-  not_earlier : (asked : List ShellAsk) → NoAskServedFrom r f source start later asked → NoAskServedFrom r f source start all asked
+  not_earlier : (asked : List FileAsk) → NoAskServedFrom r f source start later asked → NoAskServedFrom r f source start all asked
   not_earlier asked none = record {
     why = none.why;
     untouched = none.untouched;
@@ -223,7 +223,7 @@ module _ (r : Status) (f : FilesView) (kind : ShellKind) (limit : ℕ) (source :
         (none.alike t) (λ x h left. (left.0, left.1 ∙ sent t));
   }
 
-  pub ran_earlier : RanFrom r f kind limit source start later → RanFrom r f kind limit source start all
+  pub ran_earlier : RanFrom r f p limit source start later → RanFrom r f p limit source start all
   ran_earlier ran = record {
     bytes = ran.bytes;
     came_in = ran.came_in;

@@ -18,9 +18,10 @@ use Rattle.recovery.specs.Opening.{StandAlike}
 use Rattle.image_runs.specs.Opened.{IsUnopened}
 use Rattle.tsd_words.specs.declared.status.Status.{Status}
 use Rattle.tsd_words.specs.declared.status.Status.TheVariants as status
-use Rattle.fs_trees.specs.declared.ask.ShellAsk.{ShellAsk}
 use Rattle.fs_trees.specs.declared.ask.ShellKind.{ShellKind}
 use Rattle.fs_port.specs.Files.{FilesView}
+use Rattle.shell_text.specs.declared.file_ask.FileAsk.{FileAsk}
+use Rattle.serving.specs.Input.{Spelling}
 use Rattle.serving.specs.Ran.{ByStatus, Moments, Taking}
 use Rattle.serving.specs.Seen.{IsLeftInRun}
 use Rattle.tsd_core.specs.Core.{Core, state_on, told_world}
@@ -66,9 +67,9 @@ not_served_by status.PutFault h = absurd h
 not_served_by status.TooLong h = absurd h
 not_served_by status.Truncated h = absurd h
 
-pub ran_unopened : (r : Status) (kind : ShellKind) (root : ℕ) (cap : Cap) (limit : ℕ) (source : Taking) (told same : Type 0) (old new : View)
-    → IsUnopened r → source.came [] → source.untouched → (told → new.sent ≡ old.sent) → (told → IsFirm old → LeavesOnly old new (λ x s. StandAlike old.reads x × (s ≡ old.sent))) → ShellRan r kind root cap limit source (record { tells = told; untouched = same; old = old; new = new })
-ran_unopened r kind root cap limit source told same old new why came_in untouched sent any = record {
+pub ran_unopened : (r : Status) (kind : ShellKind) (p : Spelling FileAsk) (root : ℕ) (cap : Cap) (limit : ℕ) (source : Taking) (told same : Type 0) (old new : View)
+    → IsUnopened r → source.came [] → source.untouched → (told → new.sent ≡ old.sent) → (told → IsFirm old → LeavesOnly old new (λ x s. StandAlike old.reads x × (s ≡ old.sent))) → ShellRan r kind p root cap limit source (record { tells = told; untouched = same; old = old; new = new })
+ran_unopened r kind p root cap limit source told same old new why came_in untouched sent any = record {
   bytes = [];
   came_in = came_in;
   asked = [];
@@ -82,9 +83,9 @@ ran_unopened r kind root cap limit source told same old new why came_in untouche
 }
 
 -- nothing was begun: no memory was found
-pub ran_unstarted : (kind : ShellKind) (root : ℕ) (cap : Cap) (limit : ℕ) (source : Taking) (told same : Type 0) (v : View) → (told → IsSound v) → source.came [] → source.untouched
-    → ShellRan status.NoMemory kind root cap limit source (record { tells = told; untouched = same; old = v; new = v })
-ran_unstarted kind root cap limit source told same v sound came_in untouched = record {
+pub ran_unstarted : (kind : ShellKind) (p : Spelling FileAsk) (root : ℕ) (cap : Cap) (limit : ℕ) (source : Taking) (told same : Type 0) (v : View) → (told → IsSound v) → source.came [] → source.untouched
+    → ShellRan status.NoMemory kind p root cap limit source (record { tells = told; untouched = same; old = v; new = v })
+ran_unstarted kind p root cap limit source told same v sound came_in untouched = record {
   bytes = [];
   came_in = came_in;
   asked = [];
@@ -106,7 +107,7 @@ alike_of old x good stands w = (λ s. record { good = stands.good; world = s.wor
 stands_by : (old x : Image) → IsGood old → StandAlike old x → Stands x (world_of old)
 stands_by old x good alike = (alike (world_of old)).0 (record { good = good; world = refl })
 
-module _ (r : Status) (kind : ShellKind) (root : ℕ) (cap : Cap) (limit : ℕ) (source : Taking) (told later_same same : Type 0) (start : World) (old mid new : View)
+module _ (r : Status) (kind : ShellKind) (p : Spelling FileAsk) (root : ℕ) (cap : Cap) (limit : ℕ) (source : Taking) (told later_same same : Type 0) (start : World) (old mid new : View)
     (is : told → start ≡ world_of old.reads) (good : told → IsGood old.reads) (sent : told → mid.sent ≡ old.sent) (any : told → IsFirm old → LeavesOnly old mid (λ x s. StandAlike old.reads x × (s ≡ old.sent))) (clock : old.clock ≤ mid.clock) where
   abbrev files : FilesView
   files = unmounted kind root cap
@@ -121,7 +122,7 @@ module _ (r : Status) (kind : ShellKind) (root : ℕ) (cap : Cap) (limit : ℕ) 
   as_it_was t x (inl stands) = inl (alike_of old.reads x (good t) (subst (λ (w : World). Stands x w) (is t) stands))
   as_it_was t x (inr left) = inr (left.0, good t, subst (λ (w : World). IsLeftOf w (resting files w) x) (is t) left.1)
 
-  none_from : (asked : List ShellAsk) → NoAskServedFrom r files source start later asked → NoAskServed r files source all asked
+  none_from : (asked : List FileAsk) → NoAskServedFrom r files source start later asked → NoAskServed r files source all asked
   none_from asked none = record {
     why = none.why;
     untouched = none.untouched;
@@ -132,7 +133,7 @@ module _ (r : Status) (kind : ShellKind) (root : ℕ) (cap : Cap) (limit : ℕ) 
         (none.alike t) (λ x s left. (as_it_was t x left.0, left.1 ∙ sent t));
   }
 
-  ends_from : told → (asked : List ShellAsk) → EndsFrom r files (world_of old.reads) mid new asked → ShellEnds r files old new asked
+  ends_from : told → (asked : List FileAsk) → EndsFrom r files (world_of old.reads) mid new asked → ShellEnds r files old new asked
   ends_from t asked ends =
       let k = shell_service (world_of old.reads) in
       record {
@@ -151,7 +152,7 @@ module _ (r : Status) (kind : ShellKind) (root : ℕ) (cap : Cap) (limit : ℕ) 
         done = ends.done;
       }
 
-  ran_here : RanFrom r files kind limit source start later → ShellRan r kind root cap limit source all
+  ran_here : RanFrom r files p limit source start later → ShellRan r kind p root cap limit source all
   ran_here ran = record {
     bytes = ran.bytes;
     came_in = ran.came_in;
@@ -162,5 +163,5 @@ module _ (r : Status) (kind : ShellKind) (root : ℕ) (cap : Cap) (limit : ℕ) 
     ];
   }
 
-  pub ran_opened : (f : FilesView) → f ≡ files → RanFrom r f kind limit source start later → ShellRan r kind root cap limit source all
-  ran_opened f is_new ran = ran_here (subst (λ (h : FilesView). RanFrom r h kind limit source start later) is_new ran)
+  pub ran_opened : (f : FilesView) → f ≡ files → RanFrom r f p limit source start later → ShellRan r kind p root cap limit source all
+  ran_opened f is_new ran = ran_here (subst (λ (h : FilesView). RanFrom r h p limit source start later) is_new ran)

@@ -15,18 +15,17 @@ use Rattle.image_layout.specs.Image.{Image}
 use Rattle.image_world.specs.Stands.{Stands, world_of}
 use Rattle.tsd_words.specs.declared.status.Status.{Status}
 use Rattle.tsd_words.specs.declared.status.Status.TheVariants as status
-use Rattle.fs_trees.specs.declared.ask.ShellAsk.{ShellAsk}
-use Rattle.fs_trees.specs.declared.ask.ShellKind.{ShellKind}
 use Rattle.fs_trees.specs.declared.refusal.FsRefusal.{FsRefusal}
 use Rattle.fs_trees.specs.declared.refusal.FsRefusal.TheVariants as no
 use Rattle.fs_port.specs.Files.{FilesView, OnAnswer}
+use Rattle.shell_text.specs.declared.file_ask.FileAsk.{FileAsk}
 use Rattle.serving.specs.Handling.{FitsDevice}
+use Rattle.serving.specs.Input.{Spelling}
 use Rattle.serving.specs.Ran.{AskedBy, ByStatus, Moments, Taking}
 use Rattle.serving.specs.Seen.{IsLeftInRun, IsSeenRun}
 use Rattle.tsd_core.specs.Core.{Core, IsCoreAt, IsCoreReady, sessions_of, told_world}
 use Rattle.core_blocks.specs.Behind.{KeepsBehind}
 use Rattle.image_runs.specs.Served.{IsAtEase}
-use Rattle.shell_server.specs.Lines.{shell_spelling}
 use Rattle.shell_server.specs.Shell.{ShellState, IsLeftOf, resting, shell_service}
 use Rattle.shell_server.specs.Kept.{AreReady, FitsShell, shell_state}
 use Rattle.image_shell.specs.Served.{IsRootDenied, IsFirstState, IsNotServed, level_at}
@@ -105,7 +104,7 @@ IsAsAtStart r f start x = Stands x start ⊎ ((r ≡ status.DeviceFault)
 
 -- No ask was served.
 pub record NoAskServedFrom (r : Status) (f : FilesView) (source : Taking) (start : World) (port : Moments)
-    (asked : List ShellAsk) : Type 0 where
+    (asked : List FileAsk) : Type 0 where
   pub why : IsNotServed r
   pub untouched : source.untouched
   pub none : asked ≡ []
@@ -113,7 +112,7 @@ pub record NoAskServedFrom (r : Status) (f : FilesView) (source : Taking) (start
   pub alike : port.tells → LeavesOnly port.old port.new (λ x sent. IsAsAtStart r f start x × (sent ≡ port.old.sent))
 
 -- How a run over these asks ended.
-pub record EndsFrom (r : Status) (f : FilesView) (start : World) (old new : View) (asked : List ShellAsk) : Type 0 where
+pub record EndsFrom (r : Status) (f : FilesView) (start : World) (old new : View) (asked : List FileAsk) : Type 0 where
   pub first : ShellState
   pub is_first : IsFirstState f start first
   -- an image of the world at the start is one of the first state
@@ -128,14 +127,14 @@ pub record EndsFrom (r : Status) (f : FilesView) (start : World) (old new : View
       → (shell_service start).acked (seen t le).front ≡ 0
   pub done : r ≡ status.Done → IsAtEase new final.world
 
--- Bytes that came in, the asks that they hold, and how the run over these ended, where the port tells.
-pub record RanFrom (r : Status) (f : FilesView) (kind : ShellKind) (limit : ℕ) (source : Taking) (start : World)
+-- Bytes that came in, the asks that they spell, and how the run over these ended, where the port tells.
+pub record RanFrom (r : Status) (f : FilesView) (p : Spelling FileAsk) (limit : ℕ) (source : Taking) (start : World)
     (port : Moments) : Type 0 where
   pub bytes : List ℕ
   pub came_in : source.came bytes
-  pub asked : List ShellAsk
+  pub asked : List FileAsk
   pub these : NoAskServedFrom r f source start port asked
-      ⊎ (AskedBy r (shell_spelling kind) limit bytes source.at_end asked
+      ⊎ (AskedBy r p limit bytes source.at_end asked
       × (port.tells → EndsFrom r f start port.old port.new asked))
 
 -- A count of faults rose only where the status is that fault's.

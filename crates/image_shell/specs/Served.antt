@@ -16,15 +16,15 @@ use Rattle.volume_laws.specs.Quiet.{IsQuiet}
 use Rattle.tsd_words.specs.declared.status.Status.{Status}
 use Rattle.tsd_words.specs.declared.status.Status.TheVariants as status
 use Rattle.fs_trees.specs.Tree.{is_there}
-use Rattle.fs_trees.specs.declared.ask.ShellAsk.{ShellAsk}
 use Rattle.fs_trees.specs.declared.ask.ShellKind.{ShellKind}
 use Rattle.fs_port.specs.Files.{FilesView, OnlyDeletes}
+use Rattle.shell_text.specs.declared.file_ask.FileAsk.{FileAsk}
+use Rattle.serving.specs.Input.{Spelling}
 use Rattle.serving.specs.Prompt.{Mark, Promptly}
 use Rattle.serving.specs.Ran.{AskedBy, ByStatus, Moments, Taking}
 use Rattle.serving.specs.Seen.{IsLeftInRun, IsSeenRun}
 use Rattle.image_runs.specs.Opened.{IsJudged}
 use Rattle.image_runs.specs.Served.{IsAtEase}
-use Rattle.shell_server.specs.Lines.{shell_spelling}
 use Rattle.shell_server.specs.Shell.{ShellState, IsKeptSince, IsLeftOf, resting, shell_service, shell_work}
 use Rattle.shell_server.specs.Shell.{tree_under, unmounted}
 
@@ -80,7 +80,7 @@ IsAsItWas r f old x = StandAlike old x ⊎ ((r ≡ status.DeviceFault) × IsGood
 
 -- No ask was served: none was taken, and nothing was sent. A crash at any moment leaves all as it was.
 pub record NoAskServed (r : Status) (f : FilesView) (source : Taking) (port : Moments)
-    (asked : List ShellAsk) : Type 0 where
+    (asked : List FileAsk) : Type 0 where
   pub why : IsNotServed r
   pub untouched : source.untouched
   pub none : asked ≡ []
@@ -92,7 +92,7 @@ pub record NoAskServed (r : Status) (f : FilesView) (source : Taking) (port : Mo
 -- the disk was firm, what a crash at any moment may have left, opening and mounting included: within an ask, the tree
 -- before it or the one that its very answer tells, by a state that was seen, so that an ask that is refused changes
 -- nothing at any moment; in which images the states of the run rested; and after Done, what the disk is.
-pub record ShellEnds (r : Status) (f : FilesView) (old new : View) (asked : List ShellAsk) : Type 0 where
+pub record ShellEnds (r : Status) (f : FilesView) (old new : View) (asked : List FileAsk) : Type 0 where
   pub good : IsGood old.reads
   pub first : ShellState
   pub is_first : IsFirstState f (world_of old.reads) first
@@ -106,14 +106,14 @@ pub record ShellEnds (r : Status) (f : FilesView) (old new : View) (asked : List
   pub all_seen : r ≢ status.DeviceFault → (shell_service (world_of old.reads)).acked seen.front ≡ 0
   pub done : r ≡ status.Done → IsAtEase new final.world
 
--- Bytes that came in, the asks that they hold, and how the run over these ended, where the port tells.
-pub record ShellRan (r : Status) (kind : ShellKind) (root : ℕ) (cap : Cap) (limit : ℕ) (source : Taking)
-    (port : Moments) : Type 0 where
+-- Bytes that came in, the asks that they spell, and how the run over these ended, where the port tells.
+pub record ShellRan (r : Status) (kind : ShellKind) (p : Spelling FileAsk) (root : ℕ) (cap : Cap) (limit : ℕ)
+    (source : Taking) (port : Moments) : Type 0 where
   pub bytes : List ℕ
   pub came_in : source.came bytes
-  pub asked : List ShellAsk
+  pub asked : List FileAsk
   pub these : NoAskServed r (unmounted kind root cap) source port asked
-      ⊎ (AskedBy r (shell_spelling kind) limit bytes source.at_end asked
+      ⊎ (AskedBy r p limit bytes source.at_end asked
       × (port.tells → ShellEnds r (unmounted kind root cap) port.old port.new asked))
 
 -- ---- how much is done

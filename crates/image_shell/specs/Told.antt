@@ -5,8 +5,8 @@ use Rattle.image_layout.specs.Image.{Image}
 use Rattle.fs_trees.specs.Tree.{is_there}
 use Rattle.fs_trees.specs.Layouts.{IsTidy}
 use Rattle.fs_trees.specs.Outside.{OthersStay}
-use Rattle.fs_trees.specs.declared.ask.ShellAsk.{ShellAsk}
 use Rattle.fs_port.specs.Files.{FilesView}
+use Rattle.shell_text.specs.declared.file_ask.FileAsk.{FileAsk}
 use Rattle.serving.specs.Runs.{IsBroken, IsCutOff}
 use Rattle.serving.specs.Service.{IsNotYetAfter}
 use Rattle.image_world.specs.Stands.{world_of}
@@ -27,7 +27,7 @@ pub record IsFoundAgain (start : World) (s second : ShellState) : Type 0 where
 -- where an answer was under way, with the tree of the very state in which its ask came, or with the one that it tells.
 abbrev pub WhatACrashLeftIsMounted : Type 0
 WhatACrashLeftIsMounted =
-    (f : FilesView) (start : World) (first second : ShellState) (before : List ℕ) (asked : List ShellAsk) (x : Image)
+    (f : FilesView) (start : World) (first second : ShellState) (before : List ℕ) (asked : List FileAsk) (x : Image)
     (sent : List ℕ)
     → IsFirstState f start first → IsFirstState f (world_of x) second
     → ((b : IsBroken (shell_service start) first before asked sent) → IsLeftOf start b.state x

@@ -1,6 +1,7 @@
 //! One run of the shell over an image.
 
-ghost use Rattle.std.specs.Prelude.{◌≡◌, ◌≢◌, ◌≤◌};
+ghost use Rattle.std.specs.Prelude.{◌≡◌, ◌≢◌, ◌≤◌, []};
+ghost use Rattle.gathered_tasks.specs.Rooms.{IsFree};
 ghost use Rattle.image_device.specs.Counts.{Rose};
 ghost use Rattle.image_device.specs.Runs.{IsFirm};
 ghost use Rattle.image_world.specs.Behind.{LeavesBehind};
@@ -15,37 +16,48 @@ ghost use Rattle.image_shell.specs.Served.{ShellRan};
 use crate::opened::serve_opened;
 use core_blocks::Placing;
 use fs_walks::Walks;
+use gathered_tasks::AskRoom;
 use image_device::{Port, Source};
 use image_runs::open_core;
-use serving::INPUT_MAX;
+use serving::{INPUT_MAX, Protocol};
 use shell_server::{Started, TreeLayout};
+use shell_text::FileAsk;
 use std::alloc::Global;
 use std::marker::Brand;
 use tsd_model::Cap;
 use tsd_words::Status;
 
 /// Opens an image, mounts the tree under a root, and serves the asks of an input until it ends. Where no tree is there,
-/// none is mounted until one is made.
+/// none is mounted until one is made. A protocol says how asks are spelled.
 ///
 /// The status is NotImage where the image stands for no world, RootDenied where the capability doesn't attain write at
 /// the root, NoMemory where none was found, DeviceFault where that count rose, or else how the loop ended: Done,
-/// SourceFault or PutFault where that count rose, or TooLong.
-pub fn serve_shell_image<F: Walks, L: Placing, Y: TreeLayout, S: Source, P: Port>(
+/// SourceFault or PutFault where that count rose, TooLong, or Truncated.
+pub fn serve_shell_image<
+    F: Walks,
+    L: Placing,
+    Y: TreeLayout,
+    M: Protocol<Request = FileAsk>,
+    S: Source,
+    P: Port,
+>(
     alloc: Global,
     files: &mut F,
     root: u32,
     cap: &Cap,
     placement: &L,
+    protocol: &mut M,
     source: &mut S,
     port: &mut P,
     limit: u64,
 ) -> Status
     requires few { limit ≤ INPUT_MAX }
+    requires fresh { M.was_fed [] protocol.old }
     requires files { F.view files.old ≡ unmounted Y.layout root cap.now }
     ensures read { P.told → IsShellJudged root cap.now (P.view port.old).reads result }
     // What came in and what was sent, by status; what a crash at any moment may have left; in which images the states
     // rested; and what the disk is after Done.
-    ensures ran { ShellRan result Y.layout root cap.now limit
+    ensures ran { ShellRan result Y.layout M.spelling root cap.now limit
         (taking S.told S.taken S.left_bytes S.ended source.old source.new) (moments P.told P.view port.old port.new) }
     // How promptly the asks were answered. Where none was, no more was written than opening writes.
     ensures prompt { P.told → ¬ IsNotServed result → IsPromptShell result (unmounted Y.layout root cap.now)
@@ -67,27 +79,46 @@ pub fn serve_shell_image<F: Walks, L: Placing, Y: TreeLayout, S: Source, P: Port
     ensures no_device_fault { result ≢ Status.DeviceFault → (P.view port.new).faults ≡ (P.view port.old).faults }
     ensures no_put_fault { result ≢ Status.PutFault → (P.view port.new).put_faults ≡ (P.view port.old).put_faults }
 {
-    serve_from::<F, L, Brand, Y, S, P>(alloc, files, root, cap, placement, source, port, limit)
+    match AskRoom::new(alloc) {
+        Ok(mut room) => {
+            serve_from::<F, L, Brand, Y, M, S, P>(
+                alloc, files, root, cap, placement, &mut room, protocol, source, port, limit,
+            )
+        }
+        Err(_) => Status::NoMemory,
+    }
 }
 
-/// The same, where the world at the start is named.
-fn serve_from<F: Walks, L: Placing, K: Started, Y: TreeLayout, S: Source, P: Port>(
+/// The same in a room for its asks, where the world at the start is named.
+fn serve_from<
+    F: Walks,
+    L: Placing,
+    K: Started,
+    Y: TreeLayout,
+    M: Protocol<Request = FileAsk>,
+    S: Source,
+    P: Port,
+>(
     alloc: Global,
     files: &mut F,
     root: u32,
     cap: &Cap,
     placement: &L,
+    room: &mut AskRoom,
+    protocol: &mut M,
     source: &mut S,
     port: &mut P,
     limit: u64,
 ) -> Status
     requires few { limit ≤ INPUT_MAX }
+    requires fresh { M.was_fed [] protocol.old }
     requires start { P.told → K.start ≡ world_of (P.view port.old).reads }
+    requires room { IsFree room.old }
     requires files { F.view files.old ≡ unmounted Y.layout root cap.now }
     ensures read { P.told → IsShellJudged root cap.now (P.view port.old).reads result }
     // What came in and what was sent, by status; what a crash at any moment may have left; in which images the states
     // rested; and what the disk is after Done.
-    ensures ran { ShellRan result Y.layout root cap.now limit
+    ensures ran { ShellRan result Y.layout M.spelling root cap.now limit
         (taking S.told S.taken S.left_bytes S.ended source.old source.new) (moments P.told P.view port.old port.new) }
     // How promptly the asks were answered. Where none was, no more was written than opening writes.
     ensures prompt { P.told → ¬ IsNotServed result → IsPromptShell result (unmounted Y.layout root cap.now)
@@ -111,8 +142,8 @@ fn serve_from<F: Walks, L: Placing, K: Started, Y: TreeLayout, S: Source, P: Por
 {
     match open_core(alloc, port) {
         Ok(mut core) => {
-            serve_opened::<F, L, K, Y, S, P>(
-                files, root, cap, &mut core, placement, source, port, limit,
+            serve_opened::<F, L, K, Y, M, S, P>(
+                files, root, cap, &mut core, placement, room, protocol, source, port, limit,
             )
         }
         Err(why) => why,

@@ -1,6 +1,6 @@
 //! The two file systems, each over an image.
 
-ghost use Rattle.std.specs.Prelude.{◌≡◌, ◌≢◌, ◌≤◌};
+ghost use Rattle.std.specs.Prelude.{◌≡◌, ◌≢◌, ◌≤◌, []};
 ghost use Rattle.image_device.specs.Counts.{Rose};
 ghost use Rattle.image_device.specs.Runs.{IsFirm};
 ghost use Rattle.image_world.specs.Behind.{LeavesBehind};
@@ -18,8 +18,9 @@ use chain_fs::ChainFs;
 use image_device::{Port, Source};
 use inode_fs::InodeFs;
 use place_policy::Placement;
-use serving::INPUT_MAX;
+use serving::{INPUT_MAX, Protocol};
 use shell_server::{ChainLayout, InodeLayout};
+use shell_text::FileAsk;
 use std::alloc::Global;
 use tsd_model::Cap;
 use tsd_words::Status;
@@ -27,17 +28,20 @@ use tsd_words::Status;
 /// The session as which the shell asks: the only one.
 const SESSION: u32 = 1;
 
-/// Opens an image and serves the shell of inodes until the input ends, as `serve_shell_image` does.
-pub fn serve_inode_image<S: Source, P: Port>(
+/// Opens an image and serves the tree of inodes until the input ends, as `serve_shell_image` does. A protocol says how
+/// asks are spelled: as lines or as frames.
+pub fn serve_inode_image<M: Protocol<Request = FileAsk>, S: Source, P: Port>(
     alloc: Global,
     root: u32,
     cap: &Cap,
     placement: &Placement,
+    protocol: &mut M,
     source: &mut S,
     port: &mut P,
     limit: u64,
 ) -> Status
     requires few { limit ≤ INPUT_MAX }
+    requires fresh { M.was_fed [] protocol.old }
     /// promise: Unless memory or the device is at fault, NotImage comes exactly where the image stands for no world,
     /// and RootDenied exactly where the capability gives no write access to the root, with the access that it gives.
     ensures read { P.told → IsShellJudged root cap.now (P.view port.old).reads result }
@@ -45,9 +49,10 @@ pub fn serve_inode_image<S: Source, P: Port>(
     /// deletes pairs alone, with what they held, and moves nothing. Where none is there nothing is mounted, and the
     /// world is as it was.
     /// promise: **What was sent** are the lines of the answers of the asks, each by the step of its ask on the tree and
-    /// the room that the world has then; from the state after one answer to the state after the next the world changes
-    /// only by an ask that is done, is tidy, and has taken no block that the tree doesn't name. After a fault of the
-    /// device within a `cat` or an `ls`, a front of that answer may be sent after them.
+    /// the room that the world has then, or where it only looks by what the tree has; from the state after one answer
+    /// to the state after the next the world changes only by an ask that is done, is tidy, and has taken no block that
+    /// the tree doesn't name. After a fault of the device within a `cat` or an `ls`, a front of that answer may be sent
+    /// after them.
     /// promise: **A crash at any moment**, opening and mounting included, leaves an image of a valid world whose tree
     /// under the root is the one after the asks whose answers were sent whole, or that of the step of one more, from a
     /// state that was seen with those answers sent: so an ask that is refused changes the tree at no moment. The
@@ -61,7 +66,7 @@ pub fn serve_inode_image<S: Source, P: Port>(
     /// promise: Where no ask was served, nothing was sent, and a crash leaves the world as it was; where the device
     /// failed while a tree was mounted, the tree under the root.
     /// promise: After Done nothing is loose, the disk stands for the last world, and nothing is left to be done.
-    ensures ran { ShellRan result kind.Inode root cap.now limit
+    ensures ran { ShellRan result kind.Inode M.spelling root cap.now limit
         (taking S.told S.taken S.left_bytes S.ended source.old source.new) (moments P.told P.view port.old port.new) }
     /// promise: After SourceFault and TooLong the disk is as it was at some state of the port's type at which the last
     /// answer was sent; where no ask was answered, as it was once the tree was mounted.
@@ -89,28 +94,30 @@ pub fn serve_inode_image<S: Source, P: Port>(
 {
     match InodeFs::new(alloc, root, cap, SESSION) {
         Ok(mut files) => {
-            serve_shell_image::<InodeFs, Placement, InodeLayout, S, P>(
-                alloc, &mut files, root, cap, placement, source, port, limit,
+            serve_shell_image::<InodeFs, Placement, InodeLayout, M, S, P>(
+                alloc, &mut files, root, cap, placement, protocol, source, port, limit,
             )
         }
         Err(_) => Status::NoMemory,
     }
 }
 
-/// Opens an image and serves the shell of chains until the input ends, as `serve_shell_image` does.
-pub fn serve_chain_image<S: Source, P: Port>(
+/// Opens an image and serves the tree of chains until the input ends, as `serve_shell_image` does.
+pub fn serve_chain_image<M: Protocol<Request = FileAsk>, S: Source, P: Port>(
     alloc: Global,
     root: u32,
     cap: &Cap,
     placement: &Placement,
+    protocol: &mut M,
     source: &mut S,
     port: &mut P,
     limit: u64,
 ) -> Status
     requires few { limit ≤ INPUT_MAX }
+    requires fresh { M.was_fed [] protocol.old }
     /// promise (with ran): As for `serve_inode_image`, of the tree of chains.
     ensures read { P.told → IsShellJudged root cap.now (P.view port.old).reads result }
-    ensures ran { ShellRan result kind.Chain root cap.now limit
+    ensures ran { ShellRan result kind.Chain M.spelling root cap.now limit
         (taking S.told S.taken S.left_bytes S.ended source.old source.new) (moments P.told P.view port.old port.new) }
     ensures prompt { P.told → ¬ IsNotServed result → IsPromptShell result (unmounted kind.Chain root cap.now)
         (IsOfPort P.view) (world_of (P.view port.old).reads) (P.view port.old).sent (mark (P.view port.new)) }
@@ -132,8 +139,8 @@ pub fn serve_chain_image<S: Source, P: Port>(
 {
     match ChainFs::new(alloc, root, cap, SESSION) {
         Ok(mut files) => {
-            serve_shell_image::<ChainFs, Placement, ChainLayout, S, P>(
-                alloc, &mut files, root, cap, placement, source, port, limit,
+            serve_shell_image::<ChainFs, Placement, ChainLayout, M, S, P>(
+                alloc, &mut files, root, cap, placement, protocol, source, port, limit,
             )
         }
         Err(_) => Status::NoMemory,

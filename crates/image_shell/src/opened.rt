@@ -1,8 +1,9 @@
 //! A run of the shell from a core that was opened.
 
-ghost use Rattle.std.specs.Prelude.{◌≡◌, ◌≤◌};
+ghost use Rattle.std.specs.Prelude.{◌≡◌, ◌≤◌, []};
 ghost use Rattle.tsd_model.specs.Sessions.{no_sessions};
 ghost use Rattle.tsd_model.specs.declared.requests.Level.TheVariants as level;
+ghost use Rattle.gathered_tasks.specs.Rooms.{IsFree};
 ghost use Rattle.image_device.specs.Runs.{LeavesPart};
 ghost use Rattle.image_world.specs.Behind.{behind};
 ghost use Rattle.tsd_core.specs.Core.{IsCoreReady, told_world};
@@ -17,20 +18,32 @@ ghost use Rattle.image_shell.specs.FromCore.{TellsFaults, is_below_write, is_dev
 use core_blocks::{CoreBlocks, Placing};
 use fs_port::{Files, FsRefusal};
 use fs_walks::Walks;
+use gathered_tasks::AskRoom;
 use image_device::{Device, Port, Source};
-use serving::INPUT_MAX;
+use serving::{INPUT_MAX, Protocol};
 use shell_server::{Started, TreeLayout, serve_shell};
+use shell_text::FileAsk;
 use tsd_core::Core;
 use tsd_model::{Cap, Level, Reply, Request, Shown};
 use tsd_words::Status;
 
 /// Tests the level at the root, opens a session, mounts the tree, and serves.
-pub fn serve_opened<F: Walks, L: Placing, K: Started, Y: TreeLayout, S: Source, P: Port>(
+pub fn serve_opened<
+    F: Walks,
+    L: Placing,
+    K: Started,
+    Y: TreeLayout,
+    M: Protocol<Request = FileAsk>,
+    S: Source,
+    P: Port,
+>(
     files: &mut F,
     root: u32,
     cap: &Cap,
     core: &mut Core,
     placement: &L,
+    room: &mut AskRoom,
+    protocol: &mut M,
     source: &mut S,
     port: &mut P,
     limit: u64,
@@ -39,9 +52,11 @@ pub fn serve_opened<F: Walks, L: Placing, K: Started, Y: TreeLayout, S: Source, 
     requires ready { IsCoreReady core.old }
     requires none { core.old.grants.sessions ≡ no_sessions }
     requires at { P.told → IsAtStart K.start core.old (P.view port.old) }
+    requires room { IsFree room.old }
+    requires fresh { M.was_fed [] protocol.old }
     requires files { F.view files.old ≡ unmounted Y.layout root cap.now }
     ensures allowed { P.told → IsAdmitted root cap.now K.start result }
-    ensures ran { RanFrom result (F.view files.old) Y.layout limit
+    ensures ran { RanFrom result (F.view files.old) M.spelling limit
         (taking S.told S.taken S.left_bytes S.ended source.old source.new) K.start
         (moments P.told P.view port.old port.new) }
     ensures prompt { P.told → ¬ IsNotServed result → IsPromptShell result (F.view files.old) (IsOfPort P.view) K.start
@@ -59,7 +74,9 @@ pub fn serve_opened<F: Walks, L: Placing, K: Started, Y: TreeLayout, S: Source, 
         return Status::RootDenied(attained);
     }
     match begin_on::<P, L, K>(core, placement, port) {
-        Ok(()) => serve_begun::<F, L, K, Y, S, P>(files, core, placement, source, port, limit),
+        Ok(()) => serve_begun::<F, L, K, M, S, P>(
+            files, core, placement, room, protocol, source, port, limit,
+        ),
         Err(why) => why,
     }
 }
@@ -110,10 +127,19 @@ pub fn mount_on<F: Files, D: Device, L: Placing, K: Started>(
 }
 
 /// Mounts the tree and serves.
-pub fn serve_begun<F: Walks, L: Placing, K: Started, Y: TreeLayout, S: Source, P: Port>(
+pub fn serve_begun<
+    F: Walks,
+    L: Placing,
+    K: Started,
+    M: Protocol<Request = FileAsk>,
+    S: Source,
+    P: Port,
+>(
     files: &mut F,
     core: &mut Core,
     placement: &L,
+    room: &mut AskRoom,
+    protocol: &mut M,
     source: &mut S,
     port: &mut P,
     limit: u64,
@@ -121,8 +147,10 @@ pub fn serve_begun<F: Walks, L: Placing, K: Started, Y: TreeLayout, S: Source, P
     requires few { limit ≤ INPUT_MAX }
     requires ready { AreReady (F.view files.old) core.old }
     requires at { P.told → IsAtStart K.start core.old (P.view port.old) }
+    requires room { IsFree room.old }
+    requires fresh { M.was_fed [] protocol.old }
     ensures let_in { IsLetIn result }
-    ensures ran { RanFrom result (F.view files.old) Y.layout limit
+    ensures ran { RanFrom result (F.view files.old) M.spelling limit
         (taking S.told S.taken S.left_bytes S.ended source.old source.new) K.start
         (moments P.told P.view port.old port.new) }
     ensures prompt { P.told → ¬ IsNotServed result → IsPromptShell result (F.view files.old) (IsOfPort P.view) K.start
@@ -134,12 +162,16 @@ pub fn serve_begun<F: Walks, L: Placing, K: Started, Y: TreeLayout, S: Source, P
         (P.view port.new) }
 {
     match mount_on::<F, P, L, K>(files, core, placement, port) {
-        Ok(()) => serve_shell::<F, L, K, Y, S, P>(files, core, placement, source, port, limit),
+        Ok(()) => serve_shell::<F, L, K, M, S, P>(
+            files, core, placement, room, protocol, source, port, limit,
+        ),
         Err(why) => {
             if is_device(&why) {
                 return Status::DeviceFault;
             }
-            serve_shell::<F, L, K, Y, S, P>(files, core, placement, source, port, limit)
+            serve_shell::<F, L, K, M, S, P>(
+                files, core, placement, room, protocol, source, port, limit,
+            )
         }
     }
 }

@@ -60,7 +60,7 @@ line_parts x n =
     ap (λ l. l ++ 10 ∷ []) (sym (headed x) ∙ ap (λ y. data_head (is_empty x) ++ encode_lower y) (sym (take-append-drop n x)) ∙ ap (λ l. data_head (is_empty x) ++ l) (digits_more lower_digits (take n x) (drop n x)) ∙ sym (append_assoc (data_head (is_empty x)) (encode_lower (take n x)) (encode_lower (drop n x))))
     ∙ append_assoc (up_to x n) (encode_lower (drop n x)) (10 ∷ [])
 
-le_or_lt : (a b : ℕ) → (a ≤ b) ⊎ (b < a)
+pub le_or_lt : (a b : ℕ) → (a ≤ b) ⊎ (b < a)
 le_or_lt zero b = inl (omega arith)
 le_or_lt (suc a) zero = inr (omega arith)
 le_or_lt (suc a) (suc b) = ⊎_elim (λ h. inl (omega (arith, h))) (λ h. inr (omega (arith, h))) (le_or_lt a b)

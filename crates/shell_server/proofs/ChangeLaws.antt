@@ -7,6 +7,7 @@ use Rattle.tsd_model.specs.Sessions.{Fits}
 use Rattle.tsd_model.specs.Valid.{IsValid}
 use Rattle.fs_trees.specs.Layouts.{IsTidy}
 use Rattle.fs_trees.specs.declared.ask.ShellAsk.TheVariants as ask
+use Rattle.shell_text.specs.declared.file_ask.FileAsk.TheVariants as file
 use Rattle.fs_trees.specs.declared.refusal.FsRefusal.TheVariants as no
 use Rattle.shell_server.specs.Changed.{IsChanged, is_change}
 use Rattle.shell_server.specs.Shell.{is_heard}
@@ -86,7 +87,7 @@ module _ (start : World) (f : FilesView) (q : ShellAsk) (changes : IsTrue (is_ch
 
   module _ (old : DiskView) (rests : RestsIn start state v.reads) (there : f.mounted ≡ true → IsTrue (is_there (tree_under f w0))) where
     -- a tree, before or after
-    crash_in : (u : World) (x : Image) → Stands x u → (tree_under f u ≡ tree_under f w0 → tree_under f w0 ≡ nothing → IsLeftBeforeOrAfter start state q x) → IsEitherTree f (at_start old) q u → IsLeftBeforeOrAfter start state q x
+    crash_in : (u : World) (x : Image) → Stands x u → (tree_under f u ≡ tree_under f w0 → tree_under f w0 ≡ nothing → IsLeftBeforeOrAfter start state (file.Shell q) x) → IsEitherTree f (at_start old) q u → IsLeftBeforeOrAfter start state (file.Shell q) x
     crash_in u x stands gone either = elim either.0 [
       | inl e ↦ before e
       | inr e ↦ elim (step_of_change f w0 q changes) [
@@ -117,14 +118,14 @@ module _ (start : World) (f : FilesView) (q : ShellAsk) (changes : IsTrue (is_ch
         size : u.geometry ≡ start.geometry
         size = either.1.geometry ∙ rests.kept.geometry
 
-        before : tree_under f u ≡ tree_under f w0 → IsLeftBeforeOrAfter start state q x
+        before : tree_under f u ≡ tree_under f w0 → IsLeftBeforeOrAfter start state (file.Shell q) x
         before e = elim (nothing_or_there (tree_under f w0)) [
           | inl none ↦ gone e none
           | inr some ↦ inl (record { world = u; stands = stands; valid = either.1.valid; geometry = size; tree = e; others = others; still = λ none. absurd (not_nothing _ some none) })
         ]
 
     -- an empty tree is made where none is
-    crash_making : q ≡ ask.Make → (u : World) (x : Image) → Stands x u → IsEitherTree f (at_start old) q u → IsLeftBeforeOrAfter start state q x
+    crash_making : q ≡ ask.Make → (u : World) (x : Image) → Stands x u → IsEitherTree f (at_start old) q u → IsLeftBeforeOrAfter start state (file.Shell q) x
     crash_making make u x stands either = crash_in u x stands
         (λ e none. inr (
           answer_text done ++ 10 ∷ [],
@@ -158,19 +159,19 @@ module _ (start : World) (f : FilesView) (q : ShellAsk) (changes : IsTrue (is_ch
     from_start : told → (u : World) → IsEitherTree f old q u → IsEitherTree f (at_start old) q u
     from_start t u either = subst (λ (y : World). IsEitherTree f (record old { world = y }) q u) (was t) either
 
-    moments : told → LeavesOnly v w (λ x f. IsLeftBeforeOrAfter start state q x × (f ≡ v.sent))
+    moments : told → LeavesOnly v w (λ x f. IsLeftBeforeOrAfter start state (file.Shell q) x × (f ≡ v.sent))
     moments t = elim (make_or_not q) [
       | inl make ↦ either (λ u x stands is. crash_making old (rests_now t) (keeps t).there make u x stands is)
       | inr other ↦ by_mount other f.mounted refl
     ]
       where
-        either : ((u : World) (x : Image) → Stands x u → IsEitherTree f (at_start old) q u → IsLeftBeforeOrAfter start state q x) → LeavesOnly v w (λ x f. IsLeftBeforeOrAfter start state q x × (f ≡ v.sent))
-        either from = weakened v w (IsImageOf (IsEitherTree f old q) v.sent) (λ x f. IsLeftBeforeOrAfter start state q x × (f ≡ v.sent)) (left t (IsEitherTree f old q) (changed.runs.crash t))
+        either : ((u : World) (x : Image) → Stands x u → IsEitherTree f (at_start old) q u → IsLeftBeforeOrAfter start state (file.Shell q) x) → LeavesOnly v w (λ x f. IsLeftBeforeOrAfter start state (file.Shell q) x × (f ≡ v.sent))
+        either from = weakened v w (IsImageOf (IsEitherTree f old q) v.sent) (λ x f. IsLeftBeforeOrAfter start state (file.Shell q) x × (f ≡ v.sent)) (left t (IsEitherTree f old q) (changed.runs.crash t))
             (λ x sent is. (from is.0 x is.1 (from_start t is.0 is.2), is.3))
 
-        by_mount : q ≢ ask.Make → (b : Bool) → f.mounted ≡ b → LeavesOnly v w (λ x f. IsLeftBeforeOrAfter start state q x × (f ≡ v.sent))
+        by_mount : q ≢ ask.Make → (b : Bool) → f.mounted ≡ b → LeavesOnly v w (λ x f. IsLeftBeforeOrAfter start state (file.Shell q) x × (f ≡ v.sent))
         by_mount other true on = either (λ u x stands is. crash_in old (rests_now t) (keeps t).there u x stands (λ e none. absurd (not_nothing _ ((keeps t).there on) none)) is)
-        by_mount other false off = weakened v w (IsImageOf (λ u. u ≡ old.world) v.sent) (λ x f. IsLeftBeforeOrAfter start state q x × (f ≡ v.sent)) (left t (λ u. u ≡ old.world) (changed.unmounted t other off))
+        by_mount other false off = weakened v w (IsImageOf (λ u. u ≡ old.world) v.sent) (λ x f. IsLeftBeforeOrAfter start state (file.Shell q) x × (f ≡ v.sent)) (left t (λ u. u ≡ old.world) (changed.unmounted t other off))
             (λ x sent is. (inl (crash_still old (rests_now t) (keeps t).there x is.0 is.1 (is.2 ∙ was t)), is.3))
 
     -- ---- afterwards

@@ -34,9 +34,10 @@ pub use Rattle.script_text.specs.Pieces.{line_feeds}
 pub use Rattle.serving.specs.Service.{IsAnswering, IsInAnswer, LeftBy}
 pub use Rattle.shell_server.specs.Carried.{IsCarried, IsLeftBeforeOrAfter, IsLooked, IsOneLine, IsServed, change_line}
 pub use Rattle.shell_server.specs.Kept.{AreReady, FitsShell, IsClient, shell_rests, shell_stands, shell_state}
-pub use Rattle.shell_server.specs.Shell.{AnswersByLine, IsInParts, IsKeptSince, IsLeftOf, IsMaking, IsTakenForTree, RestsIn, ShellState, resting, files_after, heard, shell_service, shell_step, tree_by, tree_in, tree_of, tree_under, unmounted}
+pub use Rattle.shell_server.specs.Shell.{Answers as AnswersFile, AnswersByLine, LooksByLine, IsInParts, IsKeptSince, IsLeftOf, IsMaking, IsTakenForTree, RestsIn, ShellState, resting, files_after, heard, shell_service, shell_step, tree_by, tree_in, tree_of, tree_under, unmounted}
 pub use Rattle.shell_server.specs.Speaking.{IsSpeaking}
 pub use Rattle.shell_text.specs.Texts.{answer_text, data_head, names_head}
+pub use Rattle.shell_text.specs.declared.file_ask.FileAsk.{FileAsk}
 pub use Rattle.std.proofs.lemmas.Bool.Decides.{nat_tests}
 pub use Rattle.std.specs.Prelude.{Err, IfErr, IfOk, IsTrue, MatchResult, Ok, OnOk, Result, codes, find, flat_map, is_some, slice_get, slice_index, slice_index_or}
 pub use Rattle.tsd_core.specs.Core.{Core, FitsReads, IsCoreAt, IsCoreReady}

@@ -1,6 +1,10 @@
 -- What the definitions say, worked out.
 use Rattle.std.proofs.Common.{◌≡◌, [], ◌∷◌, refl}
 use Rattle.shell_server.proofs.Common.{codes, World, empty_tree, answer_text, ShellState, resting, heard, shell_step, unmounted}
+use Rattle.fs_trees.specs.declared.refusal.FsRefusal.TheVariants as no
+use Rattle.shell_text.specs.Looked.{not_heard, not_looked}
+use Rattle.shell_text.specs.declared.file_ask.FileAsk.TheVariants as file
+use Rattle.shell_server.specs.Shell.{look_of}
 use Rattle.tsd_model.specs.declared.caps.Cap.{Cap}
 use Rattle.fs_trees.specs.declared.ask.ShellAsk.TheVariants as ask
 use Rattle.fs_trees.specs.declared.ask.ShellKind.TheVariants as kind
@@ -26,3 +30,10 @@ a_made_tree w cap = refl
 -- its line
 pub a_made_tree_is_done : (w : World) (cap : Cap) → answer_text (shell_step (before w cap) ask.Make).answer ≡ codes "ok"
 a_made_tree_is_done w cap = refl
+
+-- what only looks is refused as what it reads is, and not heard where its name is none
+pub an_unmounted_size : (w : World) (cap : Cap) → look_of (before w cap) (file.Size []) ≡ not_looked no.NotThisFs
+an_unmounted_size w cap = refl
+
+pub above_a_dot : (w : World) (cap : Cap) → look_of (before w cap) (file.Next [] (codes ".")) ≡ not_heard
+above_a_dot w cap = refl

@@ -2,6 +2,7 @@ pub mod Common
 pub mod AfterLaws
 pub mod CatLaws
 pub mod ChangeLaws
+mod GatheredLaws
 pub mod Examples
 pub mod LookLaws
 pub mod SendLaws
@@ -12,3 +13,5 @@ pub mod LsLaws
 pub mod FreeLaws
 pub mod KeptLaws
 pub mod AheadLaws
+pub mod LookingLaws
+pub mod SeenLaws

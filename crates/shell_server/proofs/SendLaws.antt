@@ -1,8 +1,9 @@
 -- The answer of an ask that changes the tree, sent after it was carried out.
 use Rattle.std.proofs.Common.{◌≡◌, ◌≢◌, ◌⊎◌, inl, inr, ℕ, ◌<◌, true, false, List, [], ◌∷◌, ◌++◌, length, take, drop, refl, sym, ◌∙◌, ap, subst, arith, append-nil, take-append-drop, length-drop}
-use Rattle.shell_server.proofs.Common.{Result, Ok, Err, IfErr, World, Rose, View, IsLeftInPut, IsSound, LeavesOnly, PutsAll, firm_image, joined, started, weakened, world_of, line_feeds, bad, AskOutcome, step_in, ShellAsk, answer_text, FsRefusal, FilesView, OnAnswer, Status, IsAnswering, IsInAnswer, LeftBy, Core, KeepsBehind, behind_put, behind_stays, behind_then, ShellState, AnswersByLine, IsLeftOf, files_after, heard, shell_service, shell_step, tree_in, AreReady, FitsShell, shell_state, shell_rests, shell_stands, IsLeftBeforeOrAfter, IsCarried, IsOneLine, IsServed, change_line}
+use Rattle.shell_server.proofs.Common.{Result, Ok, Err, IfErr, World, Rose, View, IsLeftInPut, IsSound, LeavesOnly, PutsAll, firm_image, joined, started, weakened, world_of, line_feeds, bad, AskOutcome, step_in, ShellAsk, answer_text, FsRefusal, FilesView, OnAnswer, Status, IsAnswering, IsInAnswer, LeftBy, Core, KeepsBehind, behind_put, behind_stays, behind_then, ShellState, AnswersByLine, AnswersFile, FileAsk, IsLeftOf, files_after, heard, shell_service, shell_step, tree_in, AreReady, FitsShell, shell_state, shell_rests, shell_stands, IsLeftBeforeOrAfter, IsCarried, IsOneLine, IsServed, change_line}
 use Rattle.std.specs.Prelude.{IsErr, IsErrAnd}
 use Rattle.fs_trees.specs.declared.ask.ShellAsk.TheVariants as ask
+use Rattle.shell_text.specs.declared.file_ask.FileAsk.TheVariants as file
 use Rattle.fs_trees.specs.declared.refusal.FsRefusal.TheVariants as no
 use Rattle.tsd_words.specs.declared.status.Status.TheVariants as status
 use Rattle.shell_server.specs.ShellLaws.{shell_counted}
@@ -15,8 +16,8 @@ error_is (Err e) why given = ap Err given.1
 
 -- ---- what a crash leaves
 
-module _ (start : World) (s : ShellState) (q : ShellAsk) where
-  unfoldable pub answering : (before now line : List ℕ) (t : ShellState) (front back : List ℕ) → AnswersByLine start s q line t → line ≡ front ++ back → now ≡ before ++ front → IsAnswering (shell_service start) s q before now
+module _ (start : World) (s : ShellState) (q : FileAsk) where
+  unfoldable pub answering : (before now line : List ℕ) (t : ShellState) (front back : List ℕ) → AnswersFile start s q line t → line ≡ front ++ back → now ≡ before ++ front → IsAnswering (shell_service start) s q before now
   answering before now line t front back given whole sent = record { answer = line; next = t; given = given; front = front; back = back; whole = whole; sent = sent }
 
   module _ (v w : View) (leaves : LeavesOnly v w (λ x f. IsLeftBeforeOrAfter start s q x × (f ≡ v.sent))) where
@@ -33,7 +34,7 @@ module _ (start : World) (s : ShellState) (q : ShellAsk) where
         ])
 
     -- then the line is sent, or a front of it
-    pub any_sent : (z : View) (line : List ℕ) (t : ShellState) → w.sent ≡ v.sent → AnswersByLine start s q line t → ((n : ℕ) → w.loose n ≡ false) → IsLeftOf start t w.reads → LeavesOnly w z (IsLeftInPut line w) → LeavesOnly v z (IsInAnswer (shell_service start) s q v.sent)
+    pub any_sent : (z : View) (line : List ℕ) (t : ShellState) → w.sent ≡ v.sent → AnswersFile start s q line t → ((n : ℕ) → w.loose n ≡ false) → IsLeftOf start t w.reads → LeavesOnly w z (IsLeftInPut line w) → LeavesOnly v z (IsInAnswer (shell_service start) s q v.sent)
     unfolding answering
     any_sent z line t sent given firm stands puts = joined v w z (IsInAnswer (shell_service start) s q v.sent) (IsLeftInPut line w) any_carried puts
         (λ x f left.
@@ -41,15 +42,15 @@ module _ (start : World) (s : ShellState) (q : ShellAsk) where
         inr (answering v.sent f line t left.1.front left.1.back given left.1.whole (left.1.sent ∙ ap (λ l. l ++ left.1.front) sent), inl (subst (λ y. IsLeftOf start t y) (sym same) stands)))
 
   -- a put that failed sent a proper front
-  pub put_failed : (before now line : List ℕ) (t final : ShellState) → AnswersByLine start s q line t → final ≡ t → (n : ℕ) → n < length line → now ≡ before ++ take n line → (a : IsAnswering (shell_service start) s q before now) × (0 < length a.back) × (final ≡ a.next)
+  pub put_failed : (before now line : List ℕ) (t final : ShellState) → AnswersFile start s q line t → final ≡ t → (n : ℕ) → n < length line → now ≡ before ++ take n line → (a : IsAnswering (shell_service start) s q before now) × (0 < length a.back) × (final ≡ a.next)
   unfolding answering
   put_failed before now line t final given same n less sent =
       (answering before now line t (take n line) (drop n line) given (sym (take-append-drop n line)) sent, omega (arith, length-drop n line, less), same)
 
 -- ---- a line
 
-module _ (told : Type 0) (start : World) (q : ShellAsk) (f0 f1 : FilesView) (c0 c1 : Core) (v w z : View) (line : List ℕ) (are_ready : AreReady f1 c1) (at : told → ((n : ℕ) → w.loose n ≡ false) × FitsShell start f1 c1 w.reads)
-    (answers : told → AnswersByLine start (shell_state f0 v.reads) q line (shell_state f1 w.reads)) (sent : told → w.sent ≡ v.sent) (any : told → LeavesOnly v w (λ x f. IsLeftBeforeOrAfter start (shell_state f0 v.reads) q x × (f ≡ v.sent)))
+module _ (told : Type 0) (start : World) (q : FileAsk) (f0 f1 : FilesView) (c0 c1 : Core) (v w z : View) (line : List ℕ) (are_ready : AreReady f1 c1) (at : told → ((n : ℕ) → w.loose n ≡ false) × FitsShell start f1 c1 w.reads)
+    (answers : told → AnswersFile start (shell_state f0 v.reads) q line (shell_state f1 w.reads)) (sent : told → w.sent ≡ v.sent) (any : told → LeavesOnly v w (λ x f. IsLeftBeforeOrAfter start (shell_state f0 v.reads) q x × (f ≡ v.sent)))
     (faults : w.faults ≡ v.faults) (put_faults : w.put_faults ≡ v.put_faults) (aside : KeepsBehind told c0 c1 v w) where
   at_there : told → z.reads ≡ w.reads → z.loose ≡ w.loose → ((n : ℕ) → z.loose n ≡ false) × FitsShell start f1 c1 z.reads
   at_there t reads loose = (λ n. ap (λ g. g n) loose ∙ (at t).0 n, subst (λ x. FitsShell start f1 c1 x) (sym reads) (at t).1)
@@ -66,7 +67,7 @@ module _ (told : Type 0) (start : World) (q : ShellAsk) (f0 f1 : FilesView) (c0 
     ready = λ ne. are_ready;
     at = λ ne t. at_there t (puts.reads t) (puts.loose t);
     spent = λ e. absurd (cc);
-    answered = λ t. (line, subst (λ x. AnswersByLine start (shell_state f0 v.reads) q line (shell_state f1 x)) (sym (puts.reads t)) (answers t), puts.sent t ∙ ap (λ l. l ++ line) (sent t));
+    answered = λ t. (line, subst (λ x. AnswersFile start (shell_state f0 v.reads) q line (shell_state f1 x)) (sym (puts.reads t)) (answers t), puts.sent t ∙ ap (λ l. l ++ line) (sent t));
     left = λ t. tt;
     any_moment = sent_any (Ok y) puts;
     behind = sent_behind (Ok y) puts;
@@ -95,10 +96,10 @@ module _ (told : Type 0) (start : World) (q : ShellAsk) (f0 f1 : FilesView) (c0 
 
 -- what isn't heard is answered so, and nothing else is done
 pub served_bad : {Y : Type 0} (told : Type 0) (start : World) (q : ShellAsk) (f : FilesView) (c : Core) (v z : View) → AreReady f c → (told → IsSound v) → (told → ((n : ℕ) → v.loose n ≡ false) × FitsShell start f c v.reads) → heard f.kind q ≡ ask.Bad
-    → (result : Result Y Status) → IfErr result (λ why. why ≡ status.PutFault) → PutsAll told (answer_text bad ++ 10 ∷ []) v z result → IsServed told start q f f c c v z result
+    → (result : Result Y Status) → IfErr result (λ why. why ≡ status.PutFault) → PutsAll told (answer_text bad ++ 10 ∷ []) v z result → IsServed told start (file.Shell q) f f c c v z result
 served_bad told start q f c v z ready sound at is =
     let step : shell_step (shell_state f v.reads) q ≡ step_in f.kind (world_of v.reads) f.root (tree_in (shell_state f v.reads)) ask.Bad = ap (λ b. step_in f.kind (world_of v.reads) f.root (tree_in (shell_state f v.reads)) b) is in
-    line_served told start q f f c c v v z (answer_text bad ++ 10 ∷ []) ready at
+    line_served told start (file.Shell q) f f c c v v z (answer_text bad ++ 10 ∷ []) ready at
     (λ t. record {
       from = v.reads;
       at_rest = shell_rests start f c v.reads (at t).1;
@@ -110,6 +111,14 @@ served_bad told start q f c v z ready sound at is =
       kept = (at t).1.kept;
       taken = none_taken f (world_of v.reads);
     })
+    (λ t. refl) (λ t. started v _ (sound t) (λ x g left. (inl (subst (λ y. IsLeftOf start (shell_state f v.reads) y) (sym (firm_image v (at t).0 x g left)) (shell_stands start f c v.reads (at t).1)), left.1))) refl refl
+    (behind_stays told c v sound (λ t. (at t).0))
+
+-- what only looks
+pub served_look : {Y : Type 0} (told : Type 0) (start : World) (q : FileAsk) (f : FilesView) (c : Core) (v z : View) (line : List ℕ) → AreReady f c → (told → IsSound v) → (told → ((n : ℕ) → v.loose n ≡ false) × FitsShell start f c v.reads) → (told → AnswersFile start (shell_state f v.reads) q line (shell_state f v.reads))
+    → (result : Result Y Status) → IfErr result (λ why. why ≡ status.PutFault) → PutsAll told line v z result → IsServed told start q f f c c v z result
+served_look told start q f c v z line ready sound at given =
+    line_served told start q f f c c v v z line ready at given
     (λ t. refl) (λ t. started v _ (sound t) (λ x g left. (inl (subst (λ y. IsLeftOf start (shell_state f v.reads) y) (sym (firm_image v (at t).0 x g left)) (shell_stands start f c v.reads (at t).1)), left.1))) refl refl
     (behind_stays told c v sound (λ t. (at t).0))
 
@@ -129,7 +138,7 @@ device_or_not (no.Full free wanted) = inr (λ e. cc)
 device_or_not (no.PointersFull held most) = inr (λ e. cc)
 
 -- an answer other than Device
-on_answer : {X : Type 0} (P : Type 0) (done : Result X FsRefusal) → done ≢ Err no.Device → OnAnswer done P → P
+pub on_answer : {X : Type 0} (P : Type 0) (done : Result X FsRefusal) → done ≢ Err no.Device → OnAnswer done P → P
 on_answer P (Ok x) other on = on.0
 on_answer P (Err e) other on = on.1 (λ is. other (ap Err is))
 
@@ -137,7 +146,7 @@ on_answer P (Err e) other on = on.1 (λ is. other (ap Err is))
 
 module _ {X : Type 0} (told : Type 0) (start : World) (q : ShellAsk) (f0 f1 : FilesView) (c0 c1 : Core) (v w : View) (done : Result X FsRefusal) (carried : IsCarried told start q f0 f1 c0 c1 v w done) where
   -- the device failed
-  served_not : {Y : Type 0} → done ≡ Err no.Device → IsServed {X = Y} told start q f0 f1 c0 c1 v w (Err status.DeviceFault)
+  served_not : {Y : Type 0} → done ≡ Err no.Device → IsServed {X = Y} told start (file.Shell q) f0 f1 c0 c1 v w (Err status.DeviceFault)
   served_not is =
       let spent : c1.volume.is_spent ≡ true = by_device (λ e. e ≡ no.Device → c1.volume.is_spent ≡ true) done is carried.spent refl in
       let cause : Rose v.faults w.faults = by_device (λ e. e ≡ no.Device → Rose v.faults w.faults) done is carried.cause refl in
@@ -147,7 +156,7 @@ module _ {X : Type 0} (told : Type 0) (start : World) (q : ShellAsk) (f0 f1 : Fi
         spent = λ e. spent;
         answered = λ t. tt;
         left = λ t. inl (carried.sent t);
-        any_moment = λ t. any_carried start (shell_state f0 v.reads) q v w (carried.any_moment t);
+        any_moment = λ t. any_carried start (shell_state f0 v.reads) (file.Shell q) v w (carried.any_moment t);
         behind = carried.behind;
         stops = inl refl;
         faults = (λ e. cause, λ ne. absurd (ne refl));
@@ -160,15 +169,15 @@ module _ {X : Type 0} (told : Type 0) (start : World) (q : ShellAsk) (f0 f1 : Fi
 
   module _ (other : done ≢ Err no.Device) (line : IsOneLine done) (z : View) where
     -- its line was sent, or a front of it
-    pub served_line : {Y : Type 0} (result : Result Y Status) → IfErr result (λ why. why ≡ status.PutFault) → PutsAll told (change_line done) w z result → IsServed told start q f0 f1 c0 c1 v z result
+    pub served_line : {Y : Type 0} (result : Result Y Status) → IfErr result (λ why. why ≡ status.PutFault) → PutsAll told (change_line done) w z result → IsServed told start (file.Shell q) f0 f1 c0 c1 v z result
     served_line result stops puts =
-        line_served told start q f0 f1 c0 c1 v w z (change_line done) (on_answer (AreReady f1 c1) done other carried.ready)
+        line_served told start (file.Shell q) f0 f1 c0 c1 v w z (change_line done) (on_answer (AreReady f1 c1) done other carried.ready)
         (λ t. on_answer (((n : ℕ) → w.loose n ≡ false) × FitsShell start f1 c1 w.reads) done other (carried.at t))
         (λ t. on_answer (IsOneLine done → AnswersByLine start (shell_state f0 v.reads) q (change_line done) (shell_state f1 w.reads)) done other (carried.answered t) line)
         carried.sent carried.any_moment (on_answer (w.faults ≡ v.faults) done other carried.faultless) carried.put_faults carried.behind result stops puts
 
   pub served : {Y : Type 0} (z : View) (result : Result Y Status) → (done ≡ Err no.Device → (result ≡ Err status.DeviceFault) × (z ≡ w)) → (done ≢ Err no.Device → IsOneLine done) → (done ≢ Err no.Device → IfErr result (λ why. why ≡ status.PutFault)) → (done ≢ Err no.Device → PutsAll told (change_line done) w z result)
-      → IsServed told start q f0 f1 c0 c1 v z result
+      → IsServed told start (file.Shell q) f0 f1 c0 c1 v z result
   served {Y = Y} z result device line stops puts = elim (is_device done) [
     | inl is ↦ rw ((device is).0, (device is).1) (served_not is)
     | inr other ↦ served_line other (line other) z result (stops other) (puts other)

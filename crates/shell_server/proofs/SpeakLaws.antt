@@ -2,6 +2,7 @@
 use Rattle.std.proofs.Common.{◌≡◌, inl, inr, ℕ, false, List, [], ◌++◌, take, drop, refl, sym, ◌∙◌, ap, subst, arith, append-nil, append_assoc, take-append-drop, length-drop, length-append}
 use Rattle.shell_server.proofs.Common.{Result, Ok, Err, IfErr, World, Rose, View, IsLeftInPut, IsPart, IsSound, LeavesOnly, PutsAll, firm_image, joined, started, weakened, Answer, ShellAsk, FilesView, Status, IsInAnswer, LeftBy, Core, behind_put, behind_stays, behind_then, ShellState, AnswersByLine, IsInParts, IsLeftOf, shell_service, AreReady, FitsShell, shell_state, shell_stands, IsLooked, IsServed, IsSpeaking}
 use Rattle.fs_trees.specs.declared.refusal.FsRefusal.TheVariants as no
+use Rattle.shell_text.specs.declared.file_ask.FileAsk.TheVariants as file
 use Rattle.tsd_words.specs.declared.status.Status.TheVariants as status
 use Rattle.shell_server.proofs.SendLaws.{answering}
 
@@ -67,13 +68,13 @@ module _ (told : Type 0) (start : World) (f0 : FilesView) (c0 : Core) (v : View)
     }
 
     -- what a crash leaves of a line that begins so
-    any_speaking : (q : ShellAsk) (line more : List ℕ) → line ≡ p ++ more → AnswersByLine start state q line state → told → LeavesOnly v w (IsInAnswer (shell_service start) state q v.sent)
+    any_speaking : (q : ShellAsk) (line more : List ℕ) → line ≡ p ++ more → AnswersByLine start state q line state → told → LeavesOnly v w (IsInAnswer (shell_service start) state (file.Shell q) v.sent)
     unfolding answering
-    any_speaking q line more parts given t = weakened v w _ (IsInAnswer (shell_service start) state q v.sent) (so_far.any_moment t)
-        (λ x f left. inr (answering start state q v.sent f line state left.1.front (left.1.back ++ more) given (parts ∙ ap (λ l. l ++ more) left.1.whole ∙ append_assoc left.1.front left.1.back more) left.1.sent, inl left.0))
+    any_speaking q line more parts given t = weakened v w _ (IsInAnswer (shell_service start) state (file.Shell q) v.sent) (so_far.any_moment t)
+        (λ x f left. inr (answering start state (file.Shell q) v.sent f line state left.1.front (left.1.back ++ more) given (parts ∙ ap (λ l. l ++ more) left.1.whole ∙ append_assoc left.1.front left.1.back more) left.1.sent, inl left.0))
 
     -- the whole line was sent
-    speaks_all_at : {Y : Type 0} (z : View) (line : List ℕ) → IsSpeaking told start f0 f1 c0 c1 v z line → (q : ShellAsk) (y : Y) → (told → AnswersByLine start state q line state) → IsServed {X = Y} told start q f0 f1 c0 c1 v z (Ok y)
+    speaks_all_at : {Y : Type 0} (z : View) (line : List ℕ) → IsSpeaking told start f0 f1 c0 c1 v z line → (q : ShellAsk) (y : Y) → (told → AnswersByLine start state q line state) → IsServed {X = Y} told start (file.Shell q) f0 f1 c0 c1 v z (Ok y)
     unfolding answering
     speaks_all_at z line spoken q y given = record {
       ready = λ ne. spoken.ready;
@@ -88,21 +89,21 @@ module _ (told : Type 0) (start : World) (f0 : FilesView) (c0 : Core) (v : View)
       put_faults = (λ e. absurd (cc), λ ne. spoken.put_faults);
     }
       where
-        spoken_any : (z : View) (line : List ℕ) → IsSpeaking told start f0 f1 c0 c1 v z line → (q : ShellAsk) → AnswersByLine start state q line state → told → LeavesOnly v z (IsInAnswer (shell_service start) state q v.sent)
-        spoken_any z line spoken q given t = weakened v z _ (IsInAnswer (shell_service start) state q v.sent) (spoken.any_moment t) (λ x f left. inr (answering start state q v.sent f line state left.1.front left.1.back given left.1.whole left.1.sent, inl left.0))
+        spoken_any : (z : View) (line : List ℕ) → IsSpeaking told start f0 f1 c0 c1 v z line → (q : ShellAsk) → AnswersByLine start state q line state → told → LeavesOnly v z (IsInAnswer (shell_service start) state (file.Shell q) v.sent)
+        spoken_any z line spoken q given t = weakened v z _ (IsInAnswer (shell_service start) state (file.Shell q) v.sent) (spoken.any_moment t) (λ x f left. inr (answering start state (file.Shell q) v.sent f line state left.1.front left.1.back given left.1.whole left.1.sent, inl left.0))
 
     -- the device failed before the next piece
     pub speaks_lost : {X Y : Type 0} (q : ShellAsk) (f2 : FilesView) (c2 : Core) (y : View) (of_answer : X → Answer → Type 0) → IsLooked told start q f1 f2 c1 c2 w y of_answer (Err no.Device)
-        → (told → (line : List ℕ) × (more : List ℕ) × (line ≡ p ++ more) × AnswersByLine start state q line state × IsInParts q line) → IsServed {X = Y} told start q f0 f2 c0 c2 v y (Err status.DeviceFault)
+        → (told → (line : List ℕ) × (more : List ℕ) × (line ≡ p ++ more) × AnswersByLine start state q line state × IsInParts q line) → IsServed {X = Y} told start (file.Shell q) f0 f2 c0 c2 v y (Err status.DeviceFault)
     unfolding answering
     speaks_lost q f2 c2 y of_answer look speech = record {
       ready = λ ne. absurd (ne refl);
       at = λ ne. absurd (ne refl);
       spent = λ e. look.spent refl;
       answered = λ t. tt;
-      left = λ t. let l = speech t in inr (answering start state q v.sent y.sent l.0 state p l.1 l.3 l.2 (look.sent t ∙ so_far.sent t), inr l.4);
-      any_moment = λ t. let l = speech t in joined v w y (IsInAnswer (shell_service start) state q v.sent) (λ x f. IsLeftOf start (shell_state f1 w.reads) x × (f ≡ w.sent)) (any_speaking q l.0 l.1 l.2 l.3 t) (look.any_moment t)
-          (λ x f left. inr (answering start state q v.sent f l.0 state p l.1 l.3 l.2 (left.1 ∙ so_far.sent t), inl (subst (λ (s : ShellState). IsLeftOf start s x) (so_far.state t) left.0)));
+      left = λ t. let l = speech t in inr (answering start state (file.Shell q) v.sent y.sent l.0 state p l.1 l.3 l.2 (look.sent t ∙ so_far.sent t), inr l.4);
+      any_moment = λ t. let l = speech t in joined v w y (IsInAnswer (shell_service start) state (file.Shell q) v.sent) (λ x f. IsLeftOf start (shell_state f1 w.reads) x × (f ≡ w.sent)) (any_speaking q l.0 l.1 l.2 l.3 t) (look.any_moment t)
+          (λ x f left. inr (answering start state (file.Shell q) v.sent f l.0 state p l.1 l.3 l.2 (left.1 ∙ so_far.sent t), inl (subst (λ (s : ShellState). IsLeftOf start s x) (so_far.state t) left.0)));
       behind = behind_then told c0 c1 c2 v w y so_far.behind look.behind;
       stops = inl refl;
       faults = (λ e. subst (λ (n : ℕ). Rose n y.faults) so_far.faults (look.cause refl), λ ne. absurd (ne refl));
@@ -111,7 +112,7 @@ module _ (told : Type 0) (start : World) (f0 : FilesView) (c0 : Core) (v : View)
 
     -- a put failed within the next piece
     pub speaks_cut : {Y : Type 0} (q : ShellAsk) (z : View) (piece : List ℕ) (why : Status) → why ≡ status.PutFault → PutsAll {T = Y} told piece w z (Err why) → (told → (line : List ℕ) × (more : List ℕ) × (line ≡ p ++ (piece ++ more)) × AnswersByLine start state q line state)
-        → IsServed {X = Y} told start q f0 f1 c0 c1 v z (Err why)
+        → IsServed {X = Y} told start (file.Shell q) f0 f1 c0 c1 v z (Err why)
     unfolding answering
     speaks_cut q z piece why is puts speech = record {
       ready = λ ne. so_far.ready;
@@ -123,17 +124,17 @@ module _ (told : Type 0) (start : World) (f0 : FilesView) (c0 : Core) (v : View)
           let part = puts.part t in
           let whole : l.0 ≡ (p ++ take part.0 piece) ++ (drop part.0 piece ++ l.1) =
           l.2 ∙ ap (λ k. p ++ (k ++ l.1)) (sym (take-append-drop part.0 piece)) ∙ ap (λ k. p ++ k) (append_assoc (take part.0 piece) (drop part.0 piece) l.1) ∙ sym (append_assoc p (take part.0 piece) (drop part.0 piece ++ l.1)) in
-          subst (λ r. LeftBy r (shell_service start) state q (shell_state f1 z.reads) v.sent z.sent) (sym is) (
-            answering start state q v.sent z.sent l.0 state (p ++ take part.0 piece) (drop part.0 piece ++ l.1) l.3 whole (part.2 ∙ ap (λ k. k ++ take part.0 piece) (so_far.sent t) ∙ append_assoc v.sent p (take part.0 piece)),
+          subst (λ r. LeftBy r (shell_service start) state (file.Shell q) (shell_state f1 z.reads) v.sent z.sent) (sym is) (
+            answering start state (file.Shell q) v.sent z.sent l.0 state (p ++ take part.0 piece) (drop part.0 piece ++ l.1) l.3 whole (part.2 ∙ ap (λ k. k ++ take part.0 piece) (so_far.sent t) ∙ append_assoc v.sent p (take part.0 piece)),
             omega (arith, length-drop part.0 piece, length-append (drop part.0 piece) l.1, part.1),
             ap (λ x. shell_state f1 x) (puts.reads t) ∙ so_far.state t,
           );
-      any_moment = λ t. let l = speech t in joined v w z (IsInAnswer (shell_service start) state q v.sent) (IsLeftInPut piece w) (any_speaking q l.0 (piece ++ l.1) l.2 l.3 t) (puts.any_moment t)
+      any_moment = λ t. let l = speech t in joined v w z (IsInAnswer (shell_service start) state (file.Shell q) v.sent) (IsLeftInPut piece w) (any_speaking q l.0 (piece ++ l.1) l.2 l.3 t) (puts.any_moment t)
           (λ x f left.
           let same : x ≡ w.reads = (λ i n. left.0.agrees n ((so_far.at t).0 n) i) in
           let whole : l.0 ≡ (p ++ left.1.front) ++ (left.1.back ++ l.1) =
           l.2 ∙ ap (λ k. p ++ (k ++ l.1)) left.1.whole ∙ ap (λ k. p ++ k) (append_assoc left.1.front left.1.back l.1) ∙ sym (append_assoc p left.1.front (left.1.back ++ l.1)) in
-          inr (answering start state q v.sent f l.0 state (p ++ left.1.front) (left.1.back ++ l.1) l.3 whole (left.1.sent ∙ ap (λ k. k ++ left.1.front) (so_far.sent t) ∙ append_assoc v.sent p left.1.front), inl (subst (λ y. IsLeftOf start state y) (sym same) (stands_now t))));
+          inr (answering start state (file.Shell q) v.sent f l.0 state (p ++ left.1.front) (left.1.back ++ l.1) l.3 whole (left.1.sent ∙ ap (λ k. k ++ left.1.front) (so_far.sent t) ∙ append_assoc v.sent p left.1.front), inl (subst (λ y. IsLeftOf start state y) (sym same) (stands_now t))));
       behind = behind_then told c0 c1 c1 v w z so_far.behind (behind_put told c1 piece w z (Err why) (λ t. (so_far.at t).0) puts);
       stops = inr is;
       faults = (λ e. absurd (apart (cc)), λ ne. puts.puts.faults ∙ so_far.faults);
@@ -144,6 +145,6 @@ module _ (told : Type 0) (start : World) (f0 : FilesView) (c0 : Core) (v : View)
         apart e = let both : status.PutFault ≡ status.DeviceFault = sym is ∙ e in cc
 
     -- the end of the line
-    pub speaks_end : {Y : Type 0} (q : ShellAsk) (z : View) (piece : List ℕ) (result : Result Y Status) → IfErr result (λ why. why ≡ status.PutFault) → PutsAll told piece w z result → (told → AnswersByLine start state q (p ++ piece) state) → IsServed told start q f0 f1 c0 c1 v z result
+    pub speaks_end : {Y : Type 0} (q : ShellAsk) (z : View) (piece : List ℕ) (result : Result Y Status) → IfErr result (λ why. why ≡ status.PutFault) → PutsAll told piece w z result → (told → AnswersByLine start state q (p ++ piece) state) → IsServed told start (file.Shell q) f0 f1 c0 c1 v z result
     speaks_end q z piece (Ok y) stops puts given = speaks_all_at z (p ++ piece) (speaks_put z piece y puts) q y given
     speaks_end q z piece (Err why) stops puts given = speaks_cut q z piece why stops puts (λ t. (p ++ piece, [], ap (λ l. p ++ l) (sym (append-nil piece)), given t))

@@ -1,8 +1,9 @@
 -- The tree after an answer, told by its line.
 use Rattle.std.proofs.Common.{◌≡◌, ℕ, List, [], ◌∷◌, ◌++◌, length, refl, sym, ◌∙◌, ap, subst, arith}
-use Rattle.shell_server.proofs.Common.{slice_index_or, World, free_count, Tree, done, refused, need_of, refusal, judged, change, ShellAsk, FsRefusal, FilesView, answer_text, ShellState, AnswersByLine, heard, files_after, shell_service, shell_step, tree_in}
+use Rattle.shell_server.proofs.Common.{slice_index_or, World, free_count, Tree, done, refused, need_of, refusal, judged, change, ShellAsk, FileAsk, FsRefusal, FilesView, answer_text, ShellState, AnswersByLine, AnswersFile, heard, files_after, shell_service, shell_step, tree_in}
 use Rattle.std.specs.Prelude.{Option, Some, None}
 use Rattle.fs_trees.specs.declared.ask.ShellAsk.TheVariants as ask
+use Rattle.shell_text.specs.declared.file_ask.FileAsk.TheVariants as file
 use Rattle.fs_trees.specs.declared.refusal.FsRefusal.TheVariants as no
 use Rattle.serving.specs.Runs.{Run}
 
@@ -66,6 +67,9 @@ same_tree_too t u a b free other o p trees asks =
 abbrev refusal_in : ShellState → ShellAsk → Option FsRefusal
 refusal_in x a = refusal x.files.kind x.world.geometry (tree_in x) (free_count x.world) (length x.world.pairs) (need_of x.files.kind x.world x.files.root (tree_in x) a) a
 
+looks_same : (s u m n : ShellState) → s.files ≡ u.files → tree_in s ≡ tree_in u → m ≡ s → n ≡ u → (m.files ≡ n.files) × (tree_in m ≡ tree_in n)
+looks_same s u m n files tree a b = (ap (λ (x : ShellState). x.files) a ∙ files ∙ sym (ap (λ (x : ShellState). x.files) b), ap tree_in a ∙ tree ∙ sym (ap tree_in b))
+
 module _ (start : World) where
   one_ask : (s u m n : ShellState) (q : ShellAsk) (line : List ℕ) → s.files ≡ u.files → tree_in s ≡ tree_in u → AnswersByLine start s q line m → AnswersByLine start u q line n → (m.files ≡ n.files) × (tree_in m ≡ tree_in n)
   one_ask s u m n q line files tree a b =
@@ -75,10 +79,17 @@ module _ (start : World) where
       trees : (x y : ShellState) → x.files ≡ y.files → tree_in x ≡ tree_in y → answer_text (shell_step x q).answer ++ 10 ∷ [] ≡ answer_text (shell_step y q).answer ++ 10 ∷ [] → (shell_step x q).tree ≡ (shell_step y q).tree
       trees x y f t e = same_tree_too (tree_in x) (tree_in y) (heard x.files.kind q) (heard y.files.kind q) (free_count x.world) (free_count y.world) (refusal_in x (heard x.files.kind q)) (refusal_in y (heard y.files.kind q)) t (ap (λ (v : FilesView). heard v.kind q) f) e
 
-  pub answers_tell : (s t u w : ShellState) (qs : List ShellAsk) (xs : List (List ℕ)) → s.files ≡ u.files → tree_in s ≡ tree_in u → Run (shell_service start) s qs xs t → Run (shell_service start) u qs xs w → (t.files ≡ w.files) × (tree_in t ≡ tree_in w)
+  -- what only looks leaves the state
+  one_file_ask : (s u m n : ShellState) (q : FileAsk) (line : List ℕ) → s.files ≡ u.files → tree_in s ≡ tree_in u → AnswersFile start s q line m → AnswersFile start u q line n → (m.files ≡ n.files) × (tree_in m ≡ tree_in n)
+  one_file_ask s u m n (file.Shell q) line files tree a b = one_ask s u m n q line files tree a b
+  one_file_ask s u m n (file.Size path) line files tree a b = looks_same s u m n files tree a.same b.same
+  one_file_ask s u m n (file.Read path from count) line files tree a b = looks_same s u m n files tree a.same b.same
+  one_file_ask s u m n (file.Next path after) line files tree a b = looks_same s u m n files tree a.same b.same
+
+  pub answers_tell : (s t u w : ShellState) (qs : List FileAsk) (xs : List (List ℕ)) → s.files ≡ u.files → tree_in s ≡ tree_in u → Run (shell_service start) s qs xs t → Run (shell_service start) u qs xs w → (t.files ≡ w.files) × (tree_in t ≡ tree_in w)
   answers_tell s t u w [] [] files tree a b = (ap (λ (x : ShellState). x.files) (sym a) ∙ files ∙ ap (λ (x : ShellState). x.files) b, ap tree_in (sym a) ∙ tree ∙ ap tree_in b)
   answers_tell s t u w [] (x ∷ xs) files tree a b = absurd a
   answers_tell s t u w (q ∷ qs) [] files tree a b = absurd a
   answers_tell s t u w (q ∷ qs) (x ∷ xs) files tree a b =
-      let next = one_ask s u a.0 b.0 q x files tree a.1 b.1 in
+      let next = one_file_ask s u a.0 b.0 q x files tree a.1 b.1 in
       answers_tell a.0 t b.0 w qs xs next.0 next.1 a.2 b.2

@@ -12,20 +12,22 @@ use Rattle.fs_trees.specs.declared.refusal.FsRefusal.{FsRefusal}
 use Rattle.fs_trees.specs.declared.refusal.FsRefusal.TheVariants as no
 use Rattle.fs_port.specs.Files.{FilesView, OnAnswer}
 use Rattle.shell_text.specs.Texts.{answer_text}
+use Rattle.shell_text.specs.declared.file_ask.FileAsk.{FileAsk}
+use Rattle.shell_text.specs.declared.file_ask.FileAsk.TheVariants as file
 use Rattle.tsd_words.specs.declared.status.Status.{Status}
 use Rattle.tsd_words.specs.declared.status.Status.TheVariants as status
 use Rattle.serving.specs.Handling.{FitsDevice}
 use Rattle.serving.specs.Service.{IsInAnswer, LeftBy}
 use Rattle.tsd_core.specs.Core.{Core}
 use Rattle.core_blocks.specs.Behind.{KeepsBehind}
-use Rattle.shell_server.specs.Shell.{ShellState, AnswersByLine, IsLeftOf, IsMaking, shell_service, shell_step}
+use Rattle.shell_server.specs.Shell.{ShellState, Answers, AnswersByLine, IsLeftOf, shell_service, shell_step}
 use Rattle.shell_server.specs.Kept.{AreReady, FitsShell, shell_state}
 
 -- the image stands for the state, or for one that an answer to the ask leads to, or for something between
-abbrev pub IsLeftBeforeOrAfter : World → ShellState → ShellAsk → Image → Type 0
+abbrev pub IsLeftBeforeOrAfter : World → ShellState → FileAsk → Image → Type 0
 IsLeftBeforeOrAfter start s q x = IsLeftOf start s x
-    ⊎ ((line : List ℕ) × (t : ShellState) × AnswersByLine start s q line t
-    × (IsLeftOf start t x ⊎ IsMaking start s q x))
+    ⊎ ((line : List ℕ) × (t : ShellState) × Answers start s q line t
+    × (IsLeftOf start t x ⊎ (shell_service start).between s q x))
 
 -- the line that answers an ask that changes the tree
 abbrev pub change_line : {X : Type 0} → Result X FsRefusal → List ℕ
@@ -46,7 +48,8 @@ pub record IsCarried {X : Type 0} (told : Type 0) (start : World) (q : ShellAsk)
   pub answered : told → OnAnswer result (IsOneLine result
       → AnswersByLine start (shell_state f0 v.reads) q (change_line result) (shell_state f1 w.reads))
   pub sent : told → w.sent ≡ v.sent
-  pub any_moment : told → LeavesOnly v w (λ x f. IsLeftBeforeOrAfter start (shell_state f0 v.reads) q x × (f ≡ v.sent))
+  pub any_moment : told
+      → LeavesOnly v w (λ x f. IsLeftBeforeOrAfter start (shell_state f0 v.reads) (file.Shell q) x × (f ≡ v.sent))
   pub behind : KeepsBehind told c0 c1 v w
   pub put_faults : w.put_faults ≡ v.put_faults
   pub faultless : OnAnswer result (w.faults ≡ v.faults)
@@ -70,13 +73,13 @@ pub record IsLooked {X : Type 0} (told : Type 0) (start : World) (q : ShellAsk) 
   pub cause : IfErr result (λ e. e ≡ no.Device → Rose v.faults w.faults)
 
 -- An ask was answered, as a server of the loop promises.
-pub record IsServed {X : Type 0} (told : Type 0) (start : World) (q : ShellAsk) (f0 f1 : FilesView) (c0 c1 : Core)
+pub record IsServed {X : Type 0} (told : Type 0) (start : World) (q : FileAsk) (f0 f1 : FilesView) (c0 c1 : Core)
     (v w : View) (result : Result X Status) : Type 0 where
   pub ready : result ≢ Err status.DeviceFault → AreReady f1 c1
   pub at : result ≢ Err status.DeviceFault → told → FitsDevice (FitsShell start f1 c1) w
   pub spent : result ≡ Err status.DeviceFault → c1.volume.is_spent ≡ true
   pub answered : told → OnOk result ((line : List ℕ)
-      × AnswersByLine start (shell_state f0 v.reads) q line (shell_state f1 w.reads) × (w.sent ≡ v.sent ++ line))
+      × Answers start (shell_state f0 v.reads) q line (shell_state f1 w.reads) × (w.sent ≡ v.sent ++ line))
   pub left : told
       → IfErr result (λ why. LeftBy why (shell_service start) (shell_state f0 v.reads) q (shell_state f1 w.reads)
       v.sent w.sent)

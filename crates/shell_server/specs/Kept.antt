@@ -10,6 +10,8 @@ use Rattle.image_layout.specs.Image.{Image}
 use Rattle.image_world.specs.Stands.{world_of}
 use Rattle.fs_trees.specs.Tree.{is_there}
 use Rattle.fs_port.specs.Files.{FilesView}
+use Rattle.gathered_tasks.specs.Rooms.{IsFree}
+use Rattle.gathered_tasks.specs.declared.room.AskRoom.{AskRoom}
 use Rattle.tsd_core.specs.Core.{Core, FitsReads, IsCoreReady, told_world, sessions_of}
 use Rattle.shell_server.specs.Shell.{ShellState, IsKeptSince, IsLeftOf, RestsIn, resting, tree_under}
 
@@ -25,6 +27,11 @@ pub record IsClient (f : FilesView) (c : Core) : Type 0 where
 pub record AreReady (f : FilesView) (c : Core) : Type 0 where
   pub core : IsCoreReady c
   pub client : IsClient f c
+
+-- the core and the file system may be used, and the room of asks is free
+pub record IsServerReady (f : FilesView) (c : Core) (a : AskRoom) : Type 0 where
+  pub disk : AreReady f c
+  pub room : IsFree a
 
 -- the state, where the device reads so
 abbrev pub shell_state : FilesView → Image → ShellState

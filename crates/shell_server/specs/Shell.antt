@@ -17,10 +17,14 @@ use Rattle.fs_trees.specs.declared.ask.ShellAsk.{ShellAsk}
 use Rattle.fs_trees.specs.declared.ask.ShellAsk.TheVariants as ask
 use Rattle.fs_trees.specs.declared.ask.ShellKind.{ShellKind}
 use Rattle.fs_port.specs.Files.{FilesView, has_dirs, mounted_now}
+use Rattle.shell_text.specs.Looked.{Looked, looked_text}
 use Rattle.shell_text.specs.Texts.{answer_text}
+use Rattle.shell_text.specs.declared.file_ask.FileAsk.{FileAsk}
+use Rattle.shell_text.specs.declared.file_ask.FileAsk.TheVariants as file
 use Rattle.serving.specs.Service.{Service}
 use Rattle.serving.specs.Work.{WorkCount}
 use Rattle.image_world.specs.Debt.{debt}
+use Rattle.shell_server.specs.Looks.{looked_by}
 
 -- ---- asks
 
@@ -123,6 +127,23 @@ pub record AnswersByLine (start : World) (s : ShellState) (q : ShellAsk) (line :
   pub kept : IsKeptSince start t
   pub taken : IsTakenForTree s.files s.world t.world
 
+-- what an ask that only looks sees in a state
+abbrev pub look_of : ShellState → FileAsk → Looked
+look_of s q = looked_by (λ a. (shell_step s a).answer) q
+
+-- From a state at rest, an ask that only looks is answered by one line, of what it sees there. The state stays.
+pub record LooksByLine (start : World) (s : ShellState) (q : FileAsk) (line : List ℕ) (t : ShellState) : Type 0 where
+  pub from : Image
+  pub at_rest : RestsIn start s from
+  pub text : line ≡ looked_text (look_of s q) ++ 10 ∷ []
+  pub one_line : line_feeds (looked_text (look_of s q)) ≡ 0
+  pub same : t ≡ s
+
+-- An ask of the shell is answered by its step, and any other by what it sees.
+abbrev pub Answers : World → ShellState → FileAsk → List ℕ → ShellState → Type 0
+Answers start s (file.Shell q) line t = AnswersByLine start s q line t
+Answers start s q line t = LooksByLine start s q line t
+
 -- ---- images
 
 -- What a crash may leave of a state: a valid world of the size at the start, with the tree of the state under the root,
@@ -154,20 +175,25 @@ IsInParts (ask.Cat path) line = (x : List ℕ) × (line ≡ answer_text (bytes x
 IsInParts (ask.Ls path) line = (ns : List Name) × (line ≡ answer_text (listed ns) ++ 10 ∷ [])
 IsInParts q line = ⊥
 
+-- it is an ask of the shell of which that holds
+abbrev pub IsOfShell : (ShellAsk → Type 0) → FileAsk → Type 0
+IsOfShell P (file.Shell q) = P q
+IsOfShell P q = ⊥
+
 -- the shell over a disk that began as this world
-abbrev pub shell_service : World → Service ShellAsk
+abbrev pub shell_service : World → Service FileAsk
 shell_service start = record {
   States = ShellState;
-  gives = AnswersByLine start;
+  gives = Answers start;
   stands = IsLeftOf start;
   rests = RestsIn start;
   acked = line_feeds;
-  in_parts = IsInParts;
-  between = IsMaking start;
+  in_parts = λ q line. IsOfShell (λ a. IsInParts a line) q;
+  between = λ s q x. IsOfShell (λ a. IsMaking start s a x) q;
 }
 
 -- how its work is counted: no ask has a bound
-abbrev pub shell_work : WorkCount ShellAsk ShellState
+abbrev pub shell_work : WorkCount FileAsk ShellState
 shell_work = record {
   bounded = λ q. ⊥;
   cost = λ s q. 0;

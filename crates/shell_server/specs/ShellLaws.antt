@@ -1,11 +1,14 @@
--- AnswersByLine of the shell part in one way.
+-- Answers of the shell part in one way.
 use Rattle.std.proofs.Common.{◌≡◌, ℕ, suc, ◌+◌, ◌<◌, List, [], ◌∷◌, ◌++◌, length, refl, sym, ◌∙◌, ap, arith}
 use Rattle.std.proofs.Common.{length-append}
 use Rattle.tsd_model.specs.World.{World}
 use Rattle.script_text.specs.Pieces.{line_feeds}
 use Rattle.script_text.proofs.FeedLaws.{feeds-append, front_few}
+use Rattle.shell_text.specs.Looked.{looked_text}
+use Rattle.shell_text.specs.declared.file_ask.FileAsk.{FileAsk}
+use Rattle.shell_text.specs.declared.file_ask.FileAsk.TheVariants as file
 use Rattle.serving.specs.Service.{IsCounted}
-use Rattle.shell_server.specs.Shell.{shell_service}
+use Rattle.shell_server.specs.Shell.{ShellState, Answers, look_of, shell_service}
 
 -- a line without line feeds, and one
 module _ (w : List ℕ) (none : line_feeds w ≡ 0) where
@@ -25,10 +28,30 @@ module _ (w : List ℕ) (none : line_feeds w ≡ 0) where
   line_some : (line : List ℕ) → line ≡ w ++ 10 ∷ [] → 0 < length line
   line_some line is = let long = ap length is ∙ length-append w (10 ∷ []) in omega (arith, long)
 
+-- each answer is such a line
+abbrev IsLine : List ℕ → Type 0
+IsLine line = (w : List ℕ) × (line_feeds w ≡ 0) × (line ≡ w ++ 10 ∷ [])
+
+is_line : (start : World) (s : ShellState) (q : FileAsk) (line : List ℕ) (t : ShellState) → Answers start s q line t
+    → IsLine line
+is_line start s (file.Shell q) line t given = (_, given.one_line, given.text)
+is_line start s (file.Size path) line t given =
+    (looked_text (look_of s (file.Size path)), given.one_line, given.text)
+is_line start s (file.Read path from count) line t given =
+    (looked_text (look_of s (file.Read path from count)), given.one_line, given.text)
+is_line start s (file.Next path after) line t given =
+    (looked_text (look_of s (file.Next path after)), given.one_line, given.text)
+
 pub shell_counted : (start : World) → IsCounted (shell_service start)
 shell_counted start = record {
   nothing = refl;
-  whole = λ s q line t behind given. line_whole _ given.one_line line behind given.text;
-  part = λ s q line t front back given. line_part _ given.one_line line front back given.text;
-  some = λ s q line t given. line_some _ given.one_line line given.text;
+  whole = λ s q line t behind given.
+      let is = is_line start s q line t given in
+      line_whole is.0 is.1 line behind is.2;
+  part = λ s q line t front back given.
+      let is = is_line start s q line t given in
+      line_part is.0 is.1 line front back is.2;
+  some = λ s q line t given.
+      let is = is_line start s q line t given in
+      line_some is.0 is.1 line is.2;
 }

@@ -1,9 +1,10 @@
 //! One ask, answered.
 
-ghost use Rattle.std.specs.Prelude.{◌≡◌, IsTrue};
-ghost use Rattle.std.specs.List.{list_all};
-ghost use Rattle.fs_trees.specs.Names.{is_name, is_path};
+ghost use Rattle.std.specs.Prelude.{◌≡◌, ◌≢◌, IsTrue, Err};
+ghost use Rattle.fs_trees.specs.Names.{is_path};
 ghost use Rattle.fs_trees.specs.declared.ask.ShellAsk.TheVariants as ask;
+ghost use Rattle.shell_text.specs.declared.file_ask.FileAsk.TheVariants as file;
+ghost use Rattle.gathered_tasks.specs.Rooms.{IsFree};
 ghost use Rattle.serving.specs.Handling.{FitsDevice};
 ghost use Rattle.shell_server.specs.Carried.{IsServed};
 ghost use Rattle.shell_server.specs.Changed.{is_change};
@@ -15,20 +16,49 @@ use crate::changes::change_on;
 use crate::free::answer_df;
 use crate::listing::answer_ls;
 use crate::look::{part_on, size_on};
+use crate::looking::{answer_next, answer_read, answer_size};
+use crate::paths::is_path;
 use crate::send::{send_bad, send_change, send_end, send_text};
 use crate::started::Started;
 use core_blocks::Placing;
-use fs_fields::is_name;
 use fs_port::{Files, FsRefusal, Path};
-use fs_trees::name::PATH_MAX;
-use fs_trees::{Name, ShellAsk};
+use fs_trees::ShellAsk;
 use fs_walks::Walks;
+use gathered_tasks::AskRoom;
 use image_device::Port;
 use script_text::OutBuf;
-use shell_text::{print_data_head, print_data_part};
+use shell_text::{FileAsk, print_data_head, print_data_part};
 use tsd_core::Core;
 use tsd_model::Data;
 use tsd_words::Status;
+
+/// Answers an ask of a tree: one of the shell as it is carried out, and any other by what it sees.
+pub fn answer_file<F: Walks, P: Port, L: Placing, K: Started>(
+    files: &mut F,
+    core: &mut Core,
+    placement: &L,
+    port: &mut P,
+    room: &mut AskRoom,
+    request: &FileAsk,
+) -> Result<(), Status>
+    requires ready { AreReady (F.view files.old) core.old }
+    requires at { P.told → FitsDevice (FitsShell K.start (F.view files.old) core.old) (P.view port.old) }
+    requires room { IsFree room.old }
+    ensures served { IsServed P.told K.start request.now (F.view files.old) (F.view files.new) core.old core.new
+        (P.view port.old) (P.view port.new) result }
+    ensures room { result ≢ Err Status.DeviceFault → IsFree room.new }
+{
+    match request {
+        FileAsk::Shell { ask } => answer_ask::<F, P, L, K>(files, core, placement, port, room, ask),
+        FileAsk::Size { path } => answer_size::<F, P, L, K>(files, core, placement, port, path),
+        FileAsk::Read { path, start, count } => {
+            answer_read::<F, P, L, K>(files, core, placement, port, path, *start, *count)
+        }
+        FileAsk::Next { path, after } => {
+            answer_next::<F, P, L, K>(files, core, placement, port, path, after)
+        }
+    }
+}
 
 /// Carries out an ask that changes the tree, and sends the answer whole.
 pub fn answer_change<F: Files, P: Port, L: Placing, K: Started>(
@@ -36,16 +66,19 @@ pub fn answer_change<F: Files, P: Port, L: Placing, K: Started>(
     core: &mut Core,
     placement: &L,
     port: &mut P,
+    room: &mut AskRoom,
     request: &ShellAsk,
 ) -> Result<(), Status>
     requires changes { IsTrue (is_change request.now) }
     requires heard { IsTrue (is_heard (F.view files.old).kind request.now) }
     requires ready { AreReady (F.view files.old) core.old }
     requires at { P.told → FitsDevice (FitsShell K.start (F.view files.old) core.old) (P.view port.old) }
-    ensures { IsServed P.told K.start request.now (F.view files.old) (F.view files.new) core.old core.new
-        (P.view port.old) (P.view port.new) result }
+    requires room { IsFree room.old }
+    ensures served { IsServed P.told K.start (file.Shell request.now) (F.view files.old) (F.view files.new) core.old
+        core.new (P.view port.old) (P.view port.new) result }
+    ensures room { result ≢ Err Status.DeviceFault → IsFree room.new }
 {
-    let outcome = change_on::<F, P, L, K>(files, core, placement, port, request);
+    let outcome = change_on::<F, P, L, K>(files, core, placement, port, room, request);
     send_change(port, outcome)
 }
 
@@ -60,7 +93,7 @@ pub fn answer_bad<F: Files, P: Port, L: Placing, K: Started>(
     requires ready { AreReady (F.view files.old) core.old }
     requires at { P.told → FitsDevice (FitsShell K.start (F.view files.old) core.old) (P.view port.old) }
     requires unheard { heard (F.view files.old).kind request.now ≡ ask.Bad }
-    ensures { IsServed P.told K.start request.now (F.view files.old) (F.view files.new) core.old core.new
+    ensures { IsServed P.told K.start (file.Shell request.now) (F.view files.old) (F.view files.new) core.old core.new
         (P.view port.old) (P.view port.new) result }
 {
     send_bad(port)
@@ -77,8 +110,8 @@ pub fn answer_cat<F: Walks, P: Port, L: Placing, K: Started>(
     requires ready { AreReady (F.view files.old) core.old }
     requires at { P.told → FitsDevice (FitsShell K.start (F.view files.old) core.old) (P.view port.old) }
     requires named { IsTrue (is_path path.now) }
-    ensures { IsServed P.told K.start (ask.Cat path.now) (F.view files.old) (F.view files.new) core.old core.new
-        (P.view port.old) (P.view port.new) result }
+    ensures { IsServed P.told K.start (file.Shell (ask.Cat path.now)) (F.view files.old) (F.view files.new) core.old
+        core.new (P.view port.old) (P.view port.new) result }
 {
     match size_on::<F, P, L, K>(files, core, placement, port, path) {
         Ok(size) => send_file::<F, P, L, K>(files, core, placement, port, path, size),
@@ -100,8 +133,8 @@ fn send_file<F: Walks, P: Port, L: Placing, K: Started>(
     requires named { IsTrue (is_path path.now) }
     requires told { P.told → TellsSize size (shell_step (shell_state (F.view files.old) (P.view port.old).reads)
         (ask.Cat path.now)).answer }
-    ensures { IsServed P.told K.start (ask.Cat path.now) (F.view files.old) (F.view files.new) core.old core.new
-        (P.view port.old) (P.view port.new) result }
+    ensures { IsServed P.told K.start (file.Shell (ask.Cat path.now)) (F.view files.old) (F.view files.new) core.old
+        core.new (P.view port.old) (P.view port.new) result }
 {
     let mut line = OutBuf::new();
     print_data_head(size == 0, &mut line);
@@ -122,18 +155,21 @@ fn send_file<F: Walks, P: Port, L: Placing, K: Started>(
     send_end(port)
 }
 
-/// Carries out an ask and sends its answer whole.
+/// Carries out an ask of the shell and sends its answer.
 pub fn answer_ask<F: Walks, P: Port, L: Placing, K: Started>(
     files: &mut F,
     core: &mut Core,
     placement: &L,
     port: &mut P,
+    room: &mut AskRoom,
     request: &ShellAsk,
 ) -> Result<(), Status>
     requires ready { AreReady (F.view files.old) core.old }
     requires at { P.told → FitsDevice (FitsShell K.start (F.view files.old) core.old) (P.view port.old) }
-    ensures { IsServed P.told K.start request.now (F.view files.old) (F.view files.new) core.old core.new
-        (P.view port.old) (P.view port.new) result }
+    requires room { IsFree room.old }
+    ensures served { IsServed P.told K.start (file.Shell request.now) (F.view files.old) (F.view files.new) core.old
+        core.new (P.view port.old) (P.view port.new) result }
+    ensures room { result ≢ Err Status.DeviceFault → IsFree room.new }
 {
     if !is_heard(files, request) {
         return answer_bad::<F, P, L, K>(files, core, placement, port, request);
@@ -143,7 +179,7 @@ pub fn answer_ask<F: Walks, P: Port, L: Placing, K: Started>(
         ShellAsk::Cat { path } => answer_cat::<F, P, L, K>(files, core, placement, port, path),
         ShellAsk::Ls { path } => answer_ls::<F, P, L, K>(files, core, placement, port, path),
         ShellAsk::Df => answer_df::<F, P, L, K>(files, core, placement, port),
-        _ => answer_change::<F, P, L, K>(files, core, placement, port, request),
+        _ => answer_change::<F, P, L, K>(files, core, placement, port, room, request),
     }
 }
 
@@ -161,18 +197,4 @@ fn is_heard<F: Files>(files: &F, request: &ShellAsk) -> bool
         ShellAsk::Copy { path, new } => files.has_dirs() && is_path(path) && is_path(new),
         ShellAsk::Bad | ShellAsk::Make | ShellAsk::Df => true,
     }
-}
-
-/// Whether it is a path.
-fn is_path(path: &Path) -> bool
-    ensures { result ≡ is_path path.now }
-{
-    path.len() <= PATH_MAX && are_names(path.as_slice())
-}
-
-/// Whether all are names.
-fn are_names(names: &[Name]) -> bool
-    ensures { result ≡ list_all is_name names.now }
-{
-    names.iter().all(|n| is_name(n.as_slice()))
 }

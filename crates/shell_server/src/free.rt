@@ -3,6 +3,7 @@
 ghost use Rattle.std.specs.Prelude.{◌≡◌};
 ghost use Rattle.fs_trees.specs.Answer.{available};
 ghost use Rattle.fs_trees.specs.declared.ask.ShellAsk.TheVariants as ask;
+ghost use Rattle.shell_text.specs.declared.file_ask.FileAsk.TheVariants as file;
 ghost use Rattle.serving.specs.Handling.{FitsDevice};
 ghost use Rattle.shell_server.specs.Carried.{IsLooked, IsServed};
 ghost use Rattle.shell_server.specs.Kept.{AreReady, FitsShell};
@@ -40,8 +41,8 @@ pub fn answer_df<F: Files, P: Port, L: Placing, K: Started>(
 ) -> Result<(), Status>
     requires ready { AreReady (F.view files.old) core.old }
     requires at { P.told → FitsDevice (FitsShell K.start (F.view files.old) core.old) (P.view port.old) }
-    ensures { IsServed P.told K.start ask.Df (F.view files.old) (F.view files.new) core.old core.new (P.view port.old)
-        (P.view port.new) result }
+    ensures { IsServed P.told K.start (file.Shell ask.Df) (F.view files.old) (F.view files.new) core.old core.new
+        (P.view port.old) (P.view port.new) result }
 {
     match free_on::<F, P, L, K>(files, core, placement, port) {
         Ok(count) => send_free(port, count),

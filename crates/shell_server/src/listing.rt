@@ -3,6 +3,7 @@
 ghost use Rattle.std.specs.Prelude.{◌≡◌, [], IfSome, IsTrue};
 ghost use Rattle.fs_trees.specs.Names.{is_path};
 ghost use Rattle.fs_trees.specs.declared.ask.ShellAsk.TheVariants as ask;
+ghost use Rattle.shell_text.specs.declared.file_ask.FileAsk.TheVariants as file;
 ghost use Rattle.fs_port.specs.Files.{TellsNext};
 ghost use Rattle.fs_walks.specs.Nexts.{AreBehind};
 ghost use Rattle.serving.specs.Handling.{FitsDevice};
@@ -38,8 +39,8 @@ pub fn answer_ls<F: Walks, P: Port, L: Placing, K: Started>(
     requires ready { AreReady (F.view files.old) core.old }
     requires at { P.told → FitsDevice (FitsShell K.start (F.view files.old) core.old) (P.view port.old) }
     requires named { IsTrue (is_path path.now) }
-    ensures { IsServed P.told K.start (ask.Ls path.now) (F.view files.old) (F.view files.new) core.old core.new
-        (P.view port.old) (P.view port.new) result }
+    ensures { IsServed P.told K.start (file.Shell (ask.Ls path.now)) (F.view files.old) (F.view files.new) core.old
+        core.new (P.view port.old) (P.view port.new) result }
 {
     let none = Name::new();
     let mut ahead = ArrayVec::new();
@@ -69,8 +70,8 @@ fn send_names<F: Walks, P: Port, L: Placing, K: Started>(
         (ask.Ls path.now)).answer }
     requires ahead { P.told → IfSome first (λ name. AreBehind name ahead.old.items (shell_step (shell_state (F.view
         files.old) (P.view port.old).reads) (ask.Ls path.now)).answer) }
-    ensures { IsServed P.told K.start (ask.Ls path.now) (F.view files.old) (F.view files.new) core.old core.new
-        (P.view port.old) (P.view port.new) result }
+    ensures { IsServed P.told K.start (file.Shell (ask.Ls path.now)) (F.view files.old) (F.view files.new) core.old
+        core.new (P.view port.old) (P.view port.new) result }
 {
     let mut line = OutBuf::new();
     print_names_head(first.is_none(), &mut line);

@@ -1,6 +1,7 @@
 //! The loop over the shell.
 
-ghost use Rattle.std.specs.Prelude.{◌≡◌, ◌≢◌, ◌≤◌, true, None};
+ghost use Rattle.std.specs.Prelude.{◌≡◌, ◌≢◌, ◌≤◌, [], true, None};
+ghost use Rattle.gathered_tasks.specs.Rooms.{IsFree};
 ghost use Rattle.image_device.specs.Counts.{Rose};
 ghost use Rattle.image_device.specs.Runs.{LeavesPart};
 ghost use Rattle.image_world.specs.Behind.{behind};
@@ -12,25 +13,35 @@ ghost use Rattle.tsd_core.specs.Core.{IsCoreAt, IsCoreReady, told_world};
 ghost use Rattle.volume_laws.specs.Quiet.{IsQuiet};
 ghost use Rattle.volume_laws.specs.Writes.{due};
 ghost use Rattle.shell_server.specs.Kept.{AreReady, FitsShell, shell_state};
-ghost use Rattle.shell_server.specs.Lines.{shell_spelling};
 ghost use Rattle.shell_server.specs.Shell.{ShellState, shell_service, shell_work};
 
-use crate::lines::{ShellLines, TreeLayout};
 use crate::server::ShellServer;
 use crate::started::Started;
 use core_blocks::Placing;
 use fs_walks::Walks;
+use gathered_tasks::AskRoom;
 use image_device::{Port, Source};
-use serving::{INPUT_MAX, serve};
+use serving::{INPUT_MAX, Protocol, serve};
+use shell_text::FileAsk;
 use std::marker::PhantomData;
 use tsd_core::Core;
 use tsd_words::Status;
 
-/// Serves the asks of an input by a file system on a core until it ends, as `serving::serve` does.
-pub fn serve_shell<F: Walks, L: Placing, K: Started, Y: TreeLayout, S: Source, P: Port>(
+/// Serves the asks of an input by a file system on a core until it ends, as `serving::serve` does. A protocol
+/// says how they are spelled.
+pub fn serve_shell<
+    F: Walks,
+    L: Placing,
+    K: Started,
+    M: Protocol<Request = FileAsk>,
+    S: Source,
+    P: Port,
+>(
     files: &mut F,
     core: &mut Core,
     placement: &L,
+    room: &mut AskRoom,
+    protocol: &mut M,
     source: &mut S,
     port: &mut P,
     limit: u64,
@@ -38,11 +49,14 @@ pub fn serve_shell<F: Walks, L: Placing, K: Started, Y: TreeLayout, S: Source, P
     requires few { limit ≤ INPUT_MAX }
     requires ready { AreReady (F.view files.old) core.old }
     requires at { P.told → FitsDevice (FitsShell K.start (F.view files.old) core.old) (P.view port.old) }
+    requires room { IsFree room.old }
+    requires fresh { M.was_fed [] protocol.old }
     // What came in and what was sent, by status; what a crash at any moment may have left; and in which images the
     // states rested.
     /// promise: What came in and what was sent, by the status: the lines of the answers of the asks, each by the step
-    /// of its ask on the tree and the room that the world has then; and what a crash at any moment leaves.
-    ensures ran { (final : ShellState) × Ran result (shell_service K.start) shell_work (shell_spelling Y.layout)
+    /// of its ask on the tree and the room that the world has then, or where it only looks by what the tree has; and
+    /// what a crash at any moment leaves.
+    ensures ran { (final : ShellState) × Ran result (shell_service K.start) shell_work M.spelling
         (shell_state (F.view files.old) (P.view port.old).reads) final limit
         (taking S.told S.taken S.left_bytes S.ended source.old source.new) (due core.old.volume)
         (moments P.told P.view port.old port.new) × (final.world ≡ world_of (P.view port.new).reads)
@@ -73,8 +87,8 @@ pub fn serve_shell<F: Walks, L: Placing, K: Started, Y: TreeLayout, S: Source, P
         core,
         placement,
         files,
+        room,
         of: PhantomData,
     };
-    let mut lines: ShellLines<Y> = ShellLines::new();
-    serve(&mut server, &mut lines, source, port, limit)
+    serve(&mut server, protocol, source, port, limit)
 }

@@ -1,8 +1,8 @@
 -- The words that are read as an ask spell it.
-use Rattle.std.proofs.Common.{◌≡◌, ℕ, true, false, cond, List, [], ◌∷◌, refl, sym, subst, Option, Some, None}
-use Rattle.std.specs.Prelude.{codes, bytes_eq, option_map}
+use Rattle.std.proofs.Common.{◌≡◌, ℕ, true, false, cond, List, [], ◌∷◌, refl, sym, subst, Option, Some}
+use Rattle.std.specs.Prelude.{codes, bytes_eq}
 use Rattle.std.proofs.lemmas.Slice.Eq.{bytes_eq-Decides}
-use Rattle.script_text.specs.Reading.{data_of, reads, ends, Words, ◌>>=◌}
+use Rattle.script_text.specs.Reading.{data_of, Words}
 use Rattle.script_text.proofs.WordLaws.{data_is}
 use Rattle.script_text.proofs.ReadingLaws.{read_word, no_more}
 use Rattle.fs_trees.specs.declared.ask.ShellAsk.{ShellAsk}

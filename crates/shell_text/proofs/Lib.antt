@@ -4,4 +4,8 @@ pub mod AskedLaws
 pub mod SpelledLaws
 pub mod AnswerLaws
 pub mod RefusalLaws
+pub mod LookedLaws
+pub mod BodyLaws
+pub mod AskBodyLaws
 pub mod LineExamples
+pub mod BodyExamples

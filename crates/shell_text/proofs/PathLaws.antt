@@ -1,5 +1,5 @@
 -- What a word is read as a path it spells, and the other way.
-use Rattle.std.proofs.Common.{◌≡◌, ℕ, ◌≤◌, Bool, true, false, not, cond, ◌&&◌, ◌==◌, nat_le, List, [], ◌∷◌, ◌++◌, length, refl, sym, ◌∙◌, ap, subst, arith, Option, Some, None}
+use Rattle.std.proofs.Common.{◌≡◌, ℕ, ◌≤◌, Bool, true, false, not, cond, ◌&&◌, ◌==◌, nat_le, List, [], ◌∷◌, ◌++◌, length, refl, sym, ◌∙◌, ap, subst, arith, Some, None}
 use Rattle.std.specs.List.{list_all, join_with_byte}
 use Rattle.std.proofs.lemmas.List.Folds.{list_all-append}
 use Rattle.std.proofs.lemmas.Bool.{and_parts, and_from, eqb-true, leb-true}
@@ -44,7 +44,7 @@ tests true true false d h = absurd (cc)
 tests true false c d h = absurd (cc)
 tests false b c d h = absurd (cc)
 
-bytes_are : (n : Name) → is_name n ≡ true → (nat_le 1 (length n) ≡ true) × (list_all is_name_byte n ≡ true)
+pub bytes_are : (n : Name) → is_name n ≡ true → (nat_le 1 (length n) ≡ true) × (list_all is_name_byte n ≡ true)
 bytes_are n h = tests (nat_le 1 (length n)) (nat_le (length n) name_max) (list_all is_name_byte n) (not (is_reserved n)) h
 
 no_slash : (n : Name) → is_name n ≡ true → lacks 47 n ≡ true

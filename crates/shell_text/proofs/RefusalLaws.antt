@@ -12,7 +12,7 @@ use Rattle.script_text.proofs.WordLaws.{are_digits}
 no_feed : (c : ℕ) → is_ascii_digit c ≡ true → (c == 10) ≡ false
 no_feed c h = grind (arith, nat_tests)
 
-digits_none : (w : List ℕ) → list_all is_ascii_digit w ≡ true → line_feeds w ≡ 0
+pub digits_none : (w : List ℕ) → list_all is_ascii_digit w ≡ true → line_feeds w ≡ 0
 digits_none [] h = refl
 digits_none (c ∷ cs) h =
     let parts = and_parts (is_ascii_digit c) (list_all is_ascii_digit cs) h in

@@ -9,8 +9,8 @@ pub const USAGE: &str =
 
 /// The topics of the help.
 pub const TOPICS: &str =
-    "fresh, format, run, serve, group, shell, copyfs, check, info, load, upgrade, audit, verify, mirror, \
-    requests and replies";
+    "fresh, format, run, serve, group, shell, files, copyfs, check, info, load, upgrade, audit, verify, \
+    mirror, requests and replies";
 
 /// The text of a topic of the help.
 pub fn text_of(topic: &str) -> Option<&'static str> {
@@ -21,6 +21,7 @@ pub fn text_of(topic: &str) -> Option<&'static str> {
         "serve" => Some(SERVE),
         "group" => Some(GROUP),
         "shell" => Some(SHELL),
+        "files" => Some(FILES),
         "copyfs" => Some(COPYFS),
         "check" => Some(CHECK),
         "info" => Some(INFO),
@@ -58,6 +59,7 @@ commands
   serve    opens the disk and answers frames
   group    answers frames; those that come together are committed together
   shell    opens the disk and answers lines on a tree of files in it
+  files    opens the disk and answers frames on a tree of files in it
   copyfs   copies a tree of files from one primary block to another
   check    tells how full the disk is, or what is wrong with the image
   info     tells the disk's version and size too, a value in each line
@@ -260,6 +262,50 @@ example
 
   printf 'mkfs\\nput /a 6869\\nls /\\ncat /a\\n' \\
     | tsd disk.img shell inode 0 @writecap near
+";
+
+/// The topic `files`.
+pub const FILES: &str = "tsd IMAGE files KIND ROOT CAP PLACE
+
+Opens the disk and serves the tree of files that hangs under a primary block, as
+`shell` does, but takes the asks as frames: two bytes of length, the lower
+first, and a body. Each is answered by one line, as `shell` answers it; three
+asks more only look.
+
+  KIND   how the tree is kept: inode or chain
+  ROOT   the primary block
+  CAP    its capability to write: 32 hexadecimal digits
+  PLACE  which free block is taken first: low (the lowest), near (the nearest to
+         the hint), spread (from the hint on, round the disk) or zone (by zones
+         of 256 blocks, from the hint's on)
+
+bodies, each a code in one byte and then its fields, with nothing behind them
+
+  1   mkfs                  9   df
+  2   put PATH BYTES        3   append PATH BYTES
+  4   cat PATH              5   ls PATH
+  6   mkdir PATH (inode)    7   rm PATH
+  8   cp PATH PATH (inode)
+  16  size PATH             `file N`, where the file has N bytes, or `dir`
+  17  read PATH START COUNT `data DATA`: the bytes of the file from START on, at
+                            most COUNT and at most 4096
+  18  next PATH NAME        the least name in the directory above NAME: `next
+                            NAME file N` or `next NAME dir`; else `names -`
+
+PATH is a byte, how many names, and each name as a byte, how many bytes it has,
+and these. NAME is one name, or a byte 0: that is below all. BYTES are the rest
+of the body, at most 4096. START has eight bytes, COUNT four, the lowest first.
+The refusals are those of `shell`. Where the input ends inside a frame, that
+isn't carried out, and the status is 9.
+
+Other users see the words of a command line. @FILE stands for the first word in
+that file.
+
+The example goes on with the disk and writecap of `tsd help fresh`.
+
+example
+
+  printf '\\001\\000\\011' | tsd disk.img files inode 0 @writecap near
 ";
 
 /// The topic `copyfs`.

@@ -224,7 +224,7 @@ fn operands_of(command: &str) -> Option<&'static [Operand]> {
             Operand::Seed,
         ]),
         "run" | "serve" | "group" => Some(&[Operand::Placement]),
-        "shell" => Some(&[
+        "shell" | "files" => Some(&[
             Operand::Kind,
             Operand::Root,
             Operand::Cap,
@@ -281,8 +281,8 @@ fn tell_command<W: fmt::Write>(
     let (Some((shown, given)), Some((name, meant))) = (given.split_first(), meant.split_first())
     else {
         return f.write_str(
-            "tsd: behind IMAGE stands a command: fresh, format, run, serve, group, shell, copyfs, check, info, \
-             load, upgrade, audit or verify",
+            "tsd: behind IMAGE stands a command: fresh, format, run, serve, group, shell, files, copyfs, check, \
+             info, load, upgrade, audit or verify",
         );
     };
     match operands_of(name.as_str()) {
@@ -294,7 +294,7 @@ fn tell_command<W: fmt::Write>(
                 Printable { word }
             )?;
             f.write_str(
-                "fresh, format, run, serve, group, shell, copyfs, check, info, load, upgrade, audit and verify",
+                "fresh, format, run, serve, group, shell, files, copyfs, check, info, load, upgrade, audit and verify",
             )
         }
         Some(operands) if operands.len() != meant.len() => {

@@ -66,6 +66,7 @@ access_law (command.Group kind) r source port none same sound did told =
 access_law (command.Fresh fresh) r source port none same sound did told = tt
 access_law (command.Format words) r source port none same sound did told = tt
 access_law (command.Shell shell) r source port none same sound did told = tt
+access_law (command.Files shell) r source port none same sound did told = tt
 access_law command.Check r source port none same sound did told = tt
 access_law command.Info r source port none same sound did told = tt
 access_law (command.Load load) r source port none same sound did told = tt

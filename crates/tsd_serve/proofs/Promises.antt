@@ -129,6 +129,7 @@ headline (command.Fresh fresh) r source port none same sound did told =
     }
 headline (command.Format words) r source port none same sound did told = tt
 headline (command.Shell shell) r source port none same sound did told = tt
+headline (command.Files shell) r source port none same sound did told = tt
 headline command.Check r source port none same sound did told = tt
 headline command.Info r source port none same sound did told = tt
 headline (command.Load load) r source port none same sound did told = tt

@@ -15,6 +15,7 @@ use Rattle.image_runs.specs.Sending.{IsEnding}
 use Rattle.image_runs.specs.Served.{ImageRan}
 use Rattle.image_runs.specs.Fresh.{FreshRan}
 use Rattle.fs_trees.specs.declared.ask.ShellKind.{ShellKind}
+use Rattle.shell_text.specs.declared.file_ask.FileAsk.{FileAsk}
 use Rattle.tsd_model.specs.declared.caps.Cap.{Cap}
 use Rattle.image_shell.specs.Served.{ShellRan}
 use Rattle.image_groups.specs.Served.{ImageRanInGroups}
@@ -31,9 +32,9 @@ no_usage_groups v p kind limit source port ran = elim ran.these [ inl closed ↦
 pub no_usage_fresh : (v : Voice) (p : Spelling Request) (kind : PlaceKind) (w : World) (limit : ℕ) (source : Taking) (port : Moments) → FreshRan status.Usage v p kind w limit source port → ⊥
 no_usage_fresh v p kind w limit source port ran = elim ran.these [ inl closed ↦ closed.why | inr asked ↦ asked ]
 
--- nor of a shell
-pub no_usage_shell : (layout : ShellKind) (root : ℕ) (cap : Cap) (limit : ℕ) (source : Taking) (port : Moments) → ShellRan status.Usage layout root cap limit source port → ⊥
-no_usage_shell layout root cap limit source port ran = elim ran.these [ inl closed ↦ closed.why | inr asked ↦ asked.0 ]
+-- nor of a tree of files
+pub no_usage_shell : (layout : ShellKind) (p : Spelling FileAsk) (root : ℕ) (cap : Cap) (limit : ℕ) (source : Taking) (port : Moments) → ShellRan status.Usage layout p root cap limit source port → ⊥
+no_usage_shell layout p root cap limit source port ran = elim ran.these [ inl closed ↦ closed.why | inr asked ↦ asked.0 ]
 
 -- a command without input ends otherwise
 pub no_usage_ending : (r : Status) → IsEnding r → r ≡ status.Usage → ⊥

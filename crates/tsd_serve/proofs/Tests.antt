@@ -567,6 +567,7 @@ headline_stopped told (command.Group kind) r u w source stopped came sound t =
 headline_stopped told (command.Fresh fresh) r u w source stopped came sound t = absurd stopped.opens
 headline_stopped told (command.Format words) r u w source stopped came sound t = tt
 headline_stopped told (command.Shell shell) r u w source stopped came sound t = tt
+headline_stopped told (command.Files shell) r u w source stopped came sound t = tt
 headline_stopped told command.Check r u w source stopped came sound t = tt
 headline_stopped told command.Info r u w source stopped came sound t = tt
 headline_stopped told (command.Load load) r u w source stopped came sound t = tt

@@ -35,6 +35,9 @@ use Rattle.image_runs.specs.Fresh.{FreshRan, single_world}
 use Rattle.image_runs.specs.Looking.{OnlyLooks}
 use Rattle.image_runs.specs.Opened.{IsJudged}
 use Rattle.image_runs.specs.Served.{ImageRan}
+use Rattle.shell_text.specs.declared.file_ask.FileAsk.{FileAsk}
+use Rattle.shell_server.specs.Frames.{file_spelling}
+use Rattle.shell_server.specs.Lines.{shell_spelling}
 use Rattle.image_shell.specs.Served.{IsOpeningAlone, IsShellJudged, OpensNoMore, ShellRan}
 use Rattle.tsd_serve.specs.Grouped.{OpenedInGroups}
 
@@ -74,9 +77,10 @@ pub record HasNoCutter (r : Status) (source : Taking) (port : Moments) : Type 0 
 
 -- An image was opened, the tree under a root mounted, and asks of it were served, at most 2^40 bytes of them. A refusal
 -- says what is wrong with the image, or with the capability, and no more was written than opening writes.
-pub record Mounted (r : Status) (shell : Shell) (source : Taking) (port : Moments) : Type 0 where
+pub record Mounted (r : Status) (shell : Shell) (p : Spelling FileAsk) (source : Taking)
+    (port : Moments) : Type 0 where
   pub judged : port.tells → IsShellJudged shell.root shell.cap port.old.reads r
-  pub ran : ShellRan r shell.layout shell.root shell.cap (2 ^ 40) source port
+  pub ran : ShellRan r shell.layout p shell.root shell.cap (2 ^ 40) source port
   pub opened : port.tells → IsOpeningAlone r → OpensNoMore port.old port.new
   pub spared : SparesImage port
 
@@ -160,7 +164,9 @@ Did (Some (command.Serve kind)) r source port =
     HasNoCutter r source port ⊎ Opened r frame_voice frame_spelling kind source port
 Did (Some (command.Group kind)) r source port =
     HasNoCutter r source port ⊎ OpenedInGroups r frame_voice frame_spelling kind source port
-Did (Some (command.Shell shell)) r source port = Mounted r shell source port
+Did (Some (command.Shell shell)) r source port = Mounted r shell (shell_spelling shell.layout) source port
+Did (Some (command.Files shell)) r source port =
+    HasNoCutter r source port ⊎ Mounted r shell (file_spelling shell.layout) source port
 Did (Some command.Check) r source port = source.untouched × Checked telling.Clean r port
 Did (Some command.Info) r source port = source.untouched × Checked telling.Info r port
 Did (Some (command.Load load)) r source port = source.untouched × Loaded load r port

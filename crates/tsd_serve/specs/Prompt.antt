@@ -16,8 +16,8 @@ use Rattle.image_shell.specs.Served.{IsNotServed, IsPromptShell}
 use Rattle.shell_server.specs.Shell.{unmounted}
 
 -- Of the commands that answer requests: what is written before each reply has a bound, and what is written behind it;
--- where the input was cut short, nothing is done behind the last reply but that. What is written for an answer of the
--- shell has no bound.
+-- where the input was cut short, nothing is done behind the last reply but that. What is written for an answer about
+-- the tree of files has no bound.
 abbrev pub AnswersPromptly : {P : Type 0} → Option Command → Status → (P → View) → P → P → Type 0
 AnswersPromptly (Some (command.Fresh fresh)) r view old new =
     IsPromptFresh r line_voice fresh.kind (single_world fresh.geometry fresh.caps) (IsOfPort view) (view old) (view new)
@@ -26,6 +26,9 @@ AnswersPromptly (Some (command.Run kind)) r view old new =
 AnswersPromptly (Some (command.Serve kind)) r view old new =
     IsPromptRun r frame_voice kind (IsOfPort view) (view old) (view new)
 AnswersPromptly (Some (command.Shell shell)) r view old new =
+    ¬ IsNotServed r → IsPromptShell r (unmounted shell.layout shell.root shell.cap) (IsOfPort view)
+    (world_of (view old).reads) (view old).sent (mark (view new))
+AnswersPromptly (Some (command.Files shell)) r view old new =
     ¬ IsNotServed r → IsPromptShell r (unmounted shell.layout shell.root shell.cap) (IsOfPort view)
     (world_of (view old).reads) (view old).sent (mark (view new))
 AnswersPromptly words r view old new = ⊤

@@ -13,6 +13,7 @@
 //! sent. [`changes_are_by_access`] reads off it who changed what (`specs/Access.antt`).
 #![tactic(auto)]
 
+mod files;
 mod first;
 mod grouped;
 mod laws;

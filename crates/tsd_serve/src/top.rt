@@ -9,6 +9,7 @@ ghost use Rattle.tsd_serve.specs.Prompt.{AnswersByRounds, AnswersPromptly};
 ghost use Rattle.tsd_words.specs.Words.{IsInLimits, command_of};
 ghost use Rattle.tsd_words.specs.declared.commands.Command.TheVariants as command;
 
+use crate::files::file_frames;
 use crate::grouped::group_frames;
 use audit_runs::{audit_image, verify_image};
 use fs_trees::ShellKind;
@@ -22,6 +23,7 @@ use place_policy::PlaceBook;
 use request_frames::FrameCutter;
 use script_text::LineCutter;
 use serving::INPUT_MAX;
+use shell_server::{ChainLayout, InodeLayout, ShellLines};
 use std::alloc::Global;
 use tsd_model::PlaceKind;
 use tsd_words::{Command, Fresh, Shell, Status, command};
@@ -29,11 +31,11 @@ use tsd_words::{Command, Fresh, Shell, Status, command};
 /// Does what the words say over the image beside the port: `fresh BLOCKS SECTORS READCAP WRITECAP PLACE` formats it and
 /// answers the lines of the input until it ends, `run PLACE` opens it and answers lines, `serve PLACE` opens it and
 /// answers frames, `group PLACE` as well, with group commit. `shell KIND ROOT CAP PLACE` opens it, mounts the tree of
-/// files under a block, and answers lines on that. `format BLOCKS SECTORS SLOTS PRIMARIES SEED` makes a disk, `check`
-/// and `info` tell what an image is, `load SEED COUNT PLACE` carries out the requests of a seed, and `upgrade` has an
-/// image keep digests in place of capabilities. `audit` puts a certificate of which blocks are reached, and `verify`
-/// reads one and tells what it shows. `copyfs KIND ROOT CAP KIND ROOT CAP PLACE` copies the tree of files under one
-/// block to another block.
+/// files under a block, and answers lines on that; `files KIND ROOT CAP PLACE` as well, but frames. `format BLOCKS
+/// SECTORS SLOTS PRIMARIES SEED` makes a disk, `check` and `info` tell what an image is, `load SEED COUNT PLACE`
+/// carries out the requests of a seed, and `upgrade` has an image keep digests in place of capabilities. `audit` puts a
+/// certificate of which blocks are reached, and `verify` reads one and tells what it shows. `copyfs KIND ROOT CAP KIND
+/// ROOT CAP PLACE` copies the tree of files under one block to another block.
 ///
 /// Each reply is put whole before the next request is carried out; by `group` once all of its group are committed.
 #[tactic(auto, using(crate::proofs::Statuses::no_usage_ending, crate::proofs::Statuses::no_source_ending))]
@@ -60,7 +62,7 @@ pub fn tsd<S: Source, P: Port>(
     // nothing is done behind the last one but that.
     /// promise: With `run`, `serve` and `fresh` each reply is sent whole when so often was written since its request
     /// came as is said of `serve_core`, and at most 400 writes come after it; after SourceFault, TooLong and Truncated
-    /// nothing is written but these. With `shell` the last is alone said, of the last answer.
+    /// nothing is written but these. With `shell` and `files` the last is alone said, of the last answer.
     ensures prompt { P.told → AnswersPromptly (command_of (map string_bytes words.now.items)) result P.view port.old
         port.new }
     /// promise: With `group`, **round by round**: bytes came, and then all requests were answered by turns, and their
@@ -125,6 +127,7 @@ pub(crate) fn obey<S: Source, P: Port>(
         Command::Serve(kind) => run_frames(alloc, kind, source, port, places),
         Command::Group(kind) => group_frames(alloc, kind, source, port, places),
         Command::Shell(shell) => shell_lines(alloc, &shell, source, port, places),
+        Command::Files(shell) => file_frames(alloc, &shell, source, port, places),
         Command::Check => check_image(alloc, port, Telling::Clean),
         Command::Info => check_image(alloc, port, Telling::Info),
         Command::Load(words) => load_image(alloc, &words, places.pick(words.kind), port),
@@ -260,11 +263,17 @@ fn shell_lines<S: Source, P: Port>(
 {
     let placement = places.pick(shell.kind);
     match shell.layout {
-        ShellKind::Inode => serve_inode_image(
-            alloc, shell.root, &shell.cap, placement, source, port, INPUT_MAX,
-        ),
-        ShellKind::Chain => serve_chain_image(
-            alloc, shell.root, &shell.cap, placement, source, port, INPUT_MAX,
-        ),
+        ShellKind::Inode => {
+            let mut lines: ShellLines<InodeLayout> = ShellLines::new();
+            serve_inode_image(
+                alloc, shell.root, &shell.cap, placement, &mut lines, source, port, INPUT_MAX,
+            )
+        }
+        ShellKind::Chain => {
+            let mut lines: ShellLines<ChainLayout> = ShellLines::new();
+            serve_chain_image(
+                alloc, shell.root, &shell.cap, placement, &mut lines, source, port, INPUT_MAX,
+            )
+        }
     }
 }

@@ -144,11 +144,13 @@ unfoldable pub loaded_of : List ℕ → List ℕ → List ℕ → List ℕ → O
 loaded_of name seed count placement =
     cond (bytes_eq name (codes "load")) (option_map (λ load. command.Load load) (load_of seed count placement)) None
 
--- shell KIND ROOT CAP PLACE
+-- shell KIND ROOT CAP PLACE; files KIND ROOT CAP PLACE
 unfoldable pub shelled_of : List ℕ → List ℕ → List ℕ → List ℕ → List ℕ → Option Command
 shelled_of name layout root cap placement =
     cond (bytes_eq name (codes "shell"))
-    (option_map (λ shell. command.Shell shell) (shell_of layout root cap placement)) None
+    (option_map (λ shell. command.Shell shell) (shell_of layout root cap placement))
+    (cond (bytes_eq name (codes "files"))
+    (option_map (λ shell. command.Files shell) (shell_of layout root cap placement)) None)
 
 -- copyfs KIND ROOT CAP KIND ROOT CAP PLACE
 unfoldable pub copied_of : List ℕ → List ℕ → List ℕ → List ℕ → List ℕ → List ℕ → List ℕ → List ℕ → Option Command

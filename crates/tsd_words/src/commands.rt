@@ -108,6 +108,9 @@ pub enum Command {
     /// Opens an image, mounts the tree under a block, and answers the lines of the shell.
     Shell(Shell),
 
+    /// Opens an image, mounts the tree under a block, and answers asks of it as frames.
+    Files(Shell),
+
     /// Opens an image, and tells how large its world is or what is wrong with it.
     Check,
 

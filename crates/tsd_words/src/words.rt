@@ -129,7 +129,7 @@ fn loaded(name: &[u8], seed: &[u8], count: &[u8], placement: &[u8]) -> Option<Co
     }
 }
 
-/// `shell KIND ROOT CAP PLACE`.
+/// `shell KIND ROOT CAP PLACE` and `files KIND ROOT CAP PLACE`.
 #[tactic(auto, unfolding(crate::specs::Words::shelled_of))]
 fn shelled(name: &[u8], layout: &[u8], root: &[u8], cap: &[u8], placement: &[u8]) -> Option<Command>
     ensures value { result ≡ shelled_of name.now layout.now root.now cap.now placement.now }
@@ -137,6 +137,8 @@ fn shelled(name: &[u8], layout: &[u8], root: &[u8], cap: &[u8], placement: &[u8]
 {
     if name == b"shell".as_slice() {
         Some(Command::Shell(shell(layout, root, cap, placement)?))
+    } else if name == b"files".as_slice() {
+        Some(Command::Files(shell(layout, root, cap, placement)?))
     } else {
         None
     }
@@ -203,7 +205,7 @@ fn load(seed: &[u8], count: &[u8], placement: &[u8]) -> Option<Load>
     }
 }
 
-/// What follows `shell`.
+/// What follows `shell` and `files`.
 #[tactic(auto, unfolding(crate::specs::Words::shell_of))]
 fn shell(layout: &[u8], root: &[u8], cap: &[u8], placement: &[u8]) -> Option<Shell>
     ensures { result ≡ shell_of layout.now root.now cap.now placement.now }

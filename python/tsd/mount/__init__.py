@@ -1,1 +1,1 @@
-"""A tree of files as a mounted folder: what the calls of a file system mean over the program's command `shell`."""
+"""A tree of files as a mounted folder: what the calls of a file system mean over the program's command `files`."""

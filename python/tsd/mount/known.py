@@ -7,7 +7,7 @@ from collections import OrderedDict
 from typing import Dict, Iterator, List, Optional
 
 from tsd.shell.files import DIRECTORY, FILE, Files
-from tsd.shell.lines import split_path
+from tsd.shell.paths import split_path
 from tsd.shell.refusals import ShellRefused
 
 MOST_PATHS = 100_000
@@ -38,7 +38,11 @@ class Known:
         if path not in self._kinds:
             if len(self._kinds) >= MOST_PATHS:
                 self._kinds.clear()
-            self._kinds[path] = self._files.look(path)
+                self._sizes.clear()
+            found = self._files.found(path)
+            self._kinds[path] = found and found.kind
+            if found and found.kind == FILE:
+                self._sizes[path] = found.size
         return self._kinds[path]
 
     def names(self, path: str) -> List[str]:
@@ -50,9 +54,9 @@ class Known:
         return self._names[path]
 
     def size(self, path: str) -> int:
-        """How many bytes a file has. No ask tells that: a file that isn't known is read, and kept where it is small."""
+        """How many bytes a file has."""
         if path not in self._sizes:
-            self._sizes[path] = sum(map(len, self.pieces(path)))
+            self._sizes[path] = self._files.stat(path).size
         return self._sizes[path]
 
     def pieces(self, path: str) -> Iterator[bytes]:

@@ -15,8 +15,8 @@ from tsd.mount.operations import LOG, Operations
 from tsd.plain import plain_lines
 from tsd.programs import PLACES
 from tsd.shell.files import FILE, Files
-from tsd.shell.lines import CHAIN, INODE
 from tsd.shell.main import FAILED, LIMIT, USAGE, capability, is_mounted, limit, opened
+from tsd.shell.paths import CHAIN, INODE
 from tsd.shell.puts import CutOff, Left, Puts, State
 from tsd.shell.refusals import Limits, ShellRefused
 from tsd.shell.root import what_is_there

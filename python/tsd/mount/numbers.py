@@ -7,7 +7,7 @@ import os
 from typing import Dict
 
 from tsd.errors import TsdError
-from tsd.shell.lines import BadPath, disk_path
+from tsd.shell.paths import BadPath, disk_path
 from tsd.shell.puts import CutOff, NoRoomForBoth
 from tsd.shell.refusals import ShellRefused
 from tsd.shell.trees import InItself

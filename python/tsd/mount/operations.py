@@ -22,8 +22,9 @@ from tsd.mount.held import Held
 from tsd.mount.known import Known
 from tsd.mount.numbers import checked, failure, is_plain, number_of
 from tsd.plain import plain_lines
+from tsd.shell.asks import MOST_DATA
 from tsd.shell.files import DIRECTORY, FILE, Files
-from tsd.shell.lines import INODE, piece_length, split_path
+from tsd.shell.paths import INODE, split_path
 from tsd.shell.puts import Puts
 from tsd.shell.trees import Trees
 
@@ -247,7 +248,7 @@ class Operations:
     def _add(self, held: Held, path: str) -> None:
         """What is behind the bytes that the disk has, piece by piece."""
         while held.on_disk < held.size:
-            piece = held.read(held.on_disk, piece_length(path))
+            piece = held.read(held.on_disk, MOST_DATA)
             try:
                 self._files.bring("append", path, piece)
             except TsdError:

@@ -2,25 +2,28 @@
 
 from __future__ import annotations
 
+import contextlib
 import os
 import shlex
 import stat
 import sys
 from codecs import getincrementaldecoder
 from dataclasses import dataclass
-from typing import Callable, Dict, List, Optional, Tuple
+from typing import Callable, Dict, Iterator, List, Optional, Tuple
 
 from tsd.errors import LinkError, TsdError
 from tsd.plain import plain, plain_content, plain_lines
 from tsd.shell.bar import Reading, Transfer
-from tsd.shell.files import DIRECTORY, FILE, Files
-from tsd.shell.lines import BadPath, below, path_from, split_path
+from tsd.shell.files import DIRECTORY, FILE, Files, Stat
+from tsd.shell.paths import BadPath, below, path_from, split_path
 from tsd.shell.puts import Left, Puts, State
 from tsd.shell.refusals import ShellRefused
 from tsd.shell.saving import save
 from tsd.shell.trees import Trees
 
-LOCAL, PATH, PUT = "LOCAL", "PATH", "PUT"
+LOCAL, PATH, PUT, START, COUNT = "LOCAL", "PATH", "PUT", "START", "COUNT"
+# Enough for any file's bytes, and few enough for eight bytes.
+MOST_DIGITS = 18
 NOTHING_HERE = "there are no files here; mkfs begins an empty tree"
 OVER_CHAINS = ("{}: there is no room to keep the old file until the new one is whole: it goes first, and if this is "
                "cut off both are lost. go on? (yes) ")
@@ -119,24 +122,33 @@ class Commands:
         local = local_path(given[1]) if len(given) > 1 else name
         if os.path.isdir(local):
             local = os.path.join(local, name)
-        with Transfer(name) as transfer:
+        with Transfer(name, self.files.stat(path).size) as transfer:
             save(self.files.get(path, transfer), local or ".")
 
     def cat(self, given: List[str], is_flagged: bool) -> None:
-        """`cat PATH`"""
-        path = self._path(given[0])
+        """`cat PATH [START [COUNT]]`"""
+        path, numbers = self._path(given[0]), [byte_number(text) for text in given[1:]]
+        start, size = numbers[0] if numbers else 0, self.files.stat(path).size
+        count = min([max(0, size - start), *numbers[1:]])
+        with Transfer(path, count, not self._at_terminal) as transfer:
+            whole = count == size
+            pieces = self.files.get(path, transfer) if whole else self.files.part(path, start, count, transfer)
+            with contextlib.closing(pieces):
+                self._print(pieces, transfer)
+
+    def _print(self, pieces: Iterator[bytes], transfer: Transfer) -> None:
+        """Bytes as they come; at a terminal as text without its control characters, and a line feed behind it."""
         decoder = getincrementaldecoder("utf-8")("replace")
         ends = "\n"
         sys.stdout.flush()
-        with Transfer(path, is_shown=not self._at_terminal) as transfer:
-            for piece in self.files.get(path, transfer):
-                with transfer.waiting():
-                    if self._at_terminal:
-                        text = plain_content(decoder.decode(piece))
-                        ends = text[-1:] or ends
-                        sys.stdout.write(text)
-                    else:
-                        sys.stdout.buffer.write(piece)
+        for piece in pieces:
+            with transfer.waiting():
+                if self._at_terminal:
+                    text = plain_content(decoder.decode(piece))
+                    ends = text[-1:] or ends
+                    sys.stdout.write(text)
+                else:
+                    sys.stdout.buffer.write(piece)
         if self._at_terminal:
             rest = decoder.decode(b"", True)
             sys.stdout.write(rest if (rest or ends) == "\n" else rest + "\n")
@@ -145,31 +157,21 @@ class Commands:
     def ls(self, given: List[str], is_long: bool) -> None:
         """`ls [-l] [PATH]`"""
         path = self._path(given[0]) if given else self.directory
+        with Transfer(path, is_shown=False) as transfer:
+            for line in self._listed(path, is_long):
+                print(line)
+                transfer(0)
+
+    def _listed(self, path: str, is_long: bool) -> Iterator[str]:
+        """A line for each name in a directory, or for a file."""
         try:
             names = self.files.names(path)
         except ShellRefused as refused:
             if refused.rule != "not-dir" or self.files.look(path) != FILE:
                 raise
             path, names = split_path(path)[0], [split_path(path)[1]]
-        if not is_long:
-            for name in names:
-                print(plain(name))
-            return
-        with Transfer(path) as transfer:
-            for name in names:
-                line = self._long_line(below(path, name), name, transfer)
-                transfer.clear()
-                print(line, flush=True)
-
-    def _long_line(self, path: str, name: str, transfer: Transfer) -> str:
-        """A file with its size, or a directory."""
-        try:
-            return f"{self.files.size(path, transfer):>15,}  {plain(name)}"
-        except ShellRefused as refused:
-            if refused.rule != "is-dir":
-                raise
-        transfer(0)
-        return f"{'-':>15}  {plain(name)}/"
+        for name in names:
+            yield long_line(name, self.files.stat(below(path, name))) if is_long else plain(name)
 
     def cd(self, given: List[str], is_flagged: bool) -> None:
         """`cd [PATH]`"""
@@ -268,9 +270,8 @@ class Commands:
 COMMANDS: Dict[str, Command] = {
     "put": Command(Commands.put, (LOCAL, PATH), 1, "a file of this machine to the disk"),
     "get": Command(Commands.get, (PATH, LOCAL), 1, "a file of the disk to this machine, in place of a regular file"),
-    "cat": Command(Commands.cat, (PATH,), 0, "prints a file"),
-    "ls": Command(Commands.ls, (PATH,), 1, "the names in a directory; -l with sizes, for which it reads the files",
-                  "-l"),
+    "cat": Command(Commands.cat, (PATH, START, COUNT), 2, "prints a file, or COUNT bytes of it from byte START on"),
+    "ls": Command(Commands.ls, (PATH,), 1, "the names in a directory; -l with sizes", "-l"),
     "cd": Command(Commands.cd, (PATH,), 1, "where paths without a slash before them begin from then on (/)"),
     "pwd": Command(Commands.pwd, (), 0, "where they begin"),
     "mkdir": Command(Commands.mkdir, (PATH,), 0, "a new directory (inode)"),
@@ -294,6 +295,18 @@ def local_path(text: str) -> str:
     if "\0" in text:
         raise Trouble(f"{text!r}: no file has a name with a byte 0")
     return text
+
+
+def byte_number(text: str) -> int:
+    """A number of bytes."""
+    if not (text.isascii() and text.isdecimal() and len(text) <= MOST_DIGITS):
+        raise Trouble(f"{text!r} is no number of bytes")
+    return int(text)
+
+
+def long_line(name: str, found: Stat) -> str:
+    """A file with its size, or a directory."""
+    return f"{'-':>15}  {plain(name)}/" if found.kind == DIRECTORY else f"{found.size:>15,}  {plain(name)}"
 
 
 def is_confirmed(question: str) -> bool:

@@ -8,8 +8,8 @@ import re
 from typing import List, NamedTuple, Optional
 
 from tsd.errors import TsdError
-from tsd.shell.commands import COMMANDS, LOCAL, Commands
-from tsd.shell.lines import BadPath, path_from
+from tsd.shell.commands import COMMANDS, LOCAL, PATH, PUT, Commands
+from tsd.shell.paths import BadPath, path_from
 
 SAFE = re.compile(r"[\w@%+=:,./-]*\Z")
 SINGLE, DOUBLE, ESCAPE, BLANKS = "'", '"', "\\", " \t"
@@ -100,7 +100,8 @@ class Completer:
         given = [each for each in word.before[1:] if command is None or each != command.flag]
         if command is None or len(given) >= len(command.words):
             return []
-        found = local_files(word.text) if command.words[len(given)] == LOCAL else self._paths(word.text)
+        what = command.words[len(given)]
+        found = local_files(word.text) if what == LOCAL else self._paths(word.text) if what in (PATH, PUT) else []
         is_whole = [not name.endswith("/") and len(found) == 1 for name in found]
         return [spelled(word, name, whole) for name, whole in zip(found, is_whole)]
 

@@ -17,10 +17,11 @@ from tsd.errors import LinkError, ProgramEnded
 from tsd.image_header import geometry_of
 from tsd.peers import ProgramPeer
 from tsd.programs import PLACES, image_word, program_words, secret_word
+from tsd.shell.asks import ask_of
 from tsd.shell.commands import NOTHING_HERE, Commands, Quit, answer_to, complain
 from tsd.shell.completion import Completer
 from tsd.shell.files import Files
-from tsd.shell.lines import CHAIN, INODE
+from tsd.shell.paths import CHAIN, INODE
 from tsd.shell.program import ShellProgram
 from tsd.shell.puts import Left, State
 from tsd.shell.refusals import Limits, ShellRefused
@@ -70,10 +71,10 @@ def opened(given: argparse.Namespace, cap: Capability) -> Iterator[ShellProgram]
     """The program, started; the capability comes to it by a pipe. It is open once it has answered."""
     with secret_word(cap.reveal().hex()) as (word, reading):
         words = program_words(given.program)
-        words += [image_word(given.image), "shell", given.kind, str(given.root), word, given.place]
+        words += [image_word(given.image), "files", given.kind, str(given.root), word, given.place]
         program = ShellProgram(ProgramPeer(words, pass_fds=(reading,)), given.limit)
         try:
-            program.expect(b"df", "free")
+            program.expect(ask_of("df"), "free")
         except BaseException:
             program.abandon()
             raise
@@ -214,7 +215,7 @@ def main(words: Optional[List[str]] = None) -> int:
     except ProgramEnded as ended:
         complain(f"tsd-shell: {ended}")
         if ended.status == USAGE:
-            complain("tsd-shell: does `tsd help shell` know the command?")
+            complain("tsd-shell: does `tsd help files` know the command?")
         return ended.status if ended.status > 0 else FAILED
     except BrokenPipeError:
         os.dup2(os.open(os.devnull, os.O_WRONLY), sys.stdout.fileno())

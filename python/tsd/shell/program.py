@@ -1,4 +1,4 @@
-"""The program that answers lines: an ask goes out, and its answer comes back before the next one."""
+"""The program that answers asks: one goes out as a frame, and a line answers it before the next one."""
 
 from __future__ import annotations
 
@@ -8,6 +8,7 @@ import time
 from typing import Iterator, List
 
 from tsd.errors import LinkError, NoReply, Silent
+from tsd.frames import frame
 from tsd.peers import ProgramPeer
 from tsd.shell.refusals import refusal
 
@@ -17,7 +18,7 @@ NO = b"no "
 
 
 class ShellProgram:
-    """`tsd IMAGE shell ...`, started. Nothing waits longer than the limit, in seconds, while no byte goes or comes."""
+    """`tsd IMAGE files ...`, started. Nothing waits longer than the limit, in seconds, while no byte goes or comes."""
 
     def __init__(self, peer: ProgramPeer, limit: float) -> None:
         self._peer = peer
@@ -25,24 +26,24 @@ class ShellProgram:
         self._left = b""
         self._is_asking = False
 
-    def ask(self, line: bytes) -> List[str]:
+    def ask(self, body: bytes) -> List[str]:
         """The words of an answer; ShellRefused where they refuse it."""
-        return b"".join(self.pieces(line)).decode("latin-1").split(" ")
+        return b"".join(self.pieces(body)).decode("latin-1").split(" ")
 
-    def expect(self, line: bytes, first: str) -> List[str]:
+    def expect(self, body: bytes, first: str) -> List[str]:
         """The words behind the first one of an answer, which has to be this."""
-        words = self.ask(line)
+        words = self.ask(body)
         if words[0] != first:
             raise NoReply(f"an answer begins with {words[0][:20]!r}, not {first!r}")
         return words[1:]
 
-    def pieces(self, line: bytes) -> Iterator[bytes]:
+    def pieces(self, body: bytes) -> Iterator[bytes]:
         """The answer as it comes, without its line feed; ShellRefused where it is a refusal. The rest of an answer that
         isn't taken to its end is passed over. An ask that was interrupted leaves no other one: LinkError."""
         if self._is_asking:
             raise LinkError("an earlier ask was interrupted")
         self._is_asking = True
-        self._send(line + b"\n")
+        self._send(frame(body))
         first = self._first_piece()
         if first.startswith(NO):
             raise self._refusal(first)

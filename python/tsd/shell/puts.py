@@ -18,8 +18,9 @@ from itertools import chain
 from typing import Callable, Dict, Iterator, List, NamedTuple, Optional, Protocol, Tuple
 
 from tsd.errors import TsdError
+from tsd.shell.asks import MOST_DATA
 from tsd.shell.files import DIRECTORY, FILE, Files, Progress, Stopped, no_progress
-from tsd.shell.lines import INODE, MOST_NAMES, BadPath, below, disk_path, piece_length, split_path
+from tsd.shell.paths import INODE, MOST_NAMES, BadPath, below, disk_path, split_path
 from tsd.shell.refusals import ShellRefused
 
 NAME = re.compile(r"(put-[0-9a-f]{8})(|\.to|\.at)\Z")
@@ -137,17 +138,15 @@ class Puts:
         """All bytes of a source, of so many bytes where that is known, to a file, in place of an old one, which has no
         bytes where `is_empty` says so.
 
-        What fits in one line is one change. Of a longer one the room is looked at first. Over inodes it is written
+        What one ask brings is one change. Of a longer one the room is looked at first. Over inodes it is written
         beside the tree, and takes its place when it is whole and the room for its name is shown; so over chains where
         there is an old one with bytes, and else it grows in its place. What a refusal or a stop cuts off is taken away:
         then there is what was there before.
         """
-        beside = below(split_path(path)[0], "put-00000000/copy")
-        length = min(piece_length(path), piece_length(beside))
-        first = source.read(length)
-        second = source.read(length) if len(first) == length else b""
+        first = source.read(MOST_DATA)
+        second = source.read(MOST_DATA) if len(first) == MOST_DATA else b""
         if second:
-            pieces = chain([first, second], iter(lambda: source.read(length), b""))
+            pieces = chain([first, second], iter(lambda: source.read(MOST_DATA), b""))
             self._put_long(pieces, path, progress, size, is_empty)
         else:
             self._files.bring("put", path, first)
@@ -211,7 +210,7 @@ class Puts:
         free = self._files.free()
         if free >= 2 * needed + MORE_CLUSTERS:
             return True
-        old = self._files.limits.blocks_for(self._files.size(path)) or 0
+        old = self._files.limits.blocks_for(self._files.stat(path).size) or 0
         if free + old < needed:
             raise self._refused("full", (free + old, needed), path)
         if not self._consent(path):
@@ -295,7 +294,7 @@ class Puts:
             self._files.do("rm", stage.copy)
             return
         before = self._files.free()
-        taken = self._files.limits.blocks_for(self._files.size(stage.new))
+        taken = self._files.limits.blocks_for(self._files.stat(stage.new).size)
         if taken is not None and before < taken:
             raise NoRoomForBoth(path, before, taken)
 
@@ -323,8 +322,7 @@ class Puts:
             for piece in self._files.get(source):
                 file.write(piece)
             file.seek(0)
-            length = piece_length(path)
-            self._write(iter(lambda: file.read(length), b""), path, progress)
+            self._write(iter(lambda: file.read(MOST_DATA), b""), path, progress)
 
     # --- what was cut off ---
 

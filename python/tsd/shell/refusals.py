@@ -5,7 +5,7 @@ from __future__ import annotations
 from typing import Dict, List, NamedTuple, Optional, Tuple
 
 from tsd.errors import TsdError
-from tsd.shell.lines import INODE
+from tsd.shell.paths import INODE
 
 WORDS: Dict[str, str] = {
     "bad-request": "this file system has no such command",

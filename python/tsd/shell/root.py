@@ -9,7 +9,7 @@ from tsd.capability import Capability
 from tsd.disk import open_disk
 from tsd.errors import TsdError
 from tsd.shell.commands import NOTHING_HERE
-from tsd.shell.lines import CHAIN, INODE
+from tsd.shell.paths import CHAIN, INODE
 
 MAGIC = {INODE: b"TSDINOD1", CHAIN: b"TSDCHAN1"}
 UNTOUCHED = "nothing of it was changed; make a copy of the image before you do more"

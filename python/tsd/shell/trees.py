@@ -7,7 +7,7 @@ from typing import Callable
 
 from tsd.errors import TsdError
 from tsd.shell.files import DIRECTORY, FILE, Files, Stopped
-from tsd.shell.lines import INODE, below, split_path
+from tsd.shell.paths import INODE, below, split_path
 from tsd.shell.puts import Puts
 from tsd.shell.refusals import ShellRefused
 

@@ -27,7 +27,7 @@ returns-in-Ok-clause-read g c = λ t.
 pub returns-in-Ok-clause-ran : goal.returns-in-Ok-clause-ran
 returns-in-Ok-clause-ran g c =
     let o = c.in-Ok.ensures in
-    ran_opened c.serve_opened.result g.Y.TreeLayout.layout c.args.root c.args.cap.now c.args.limit _ g.P.Device.told _ _ g.K.Started.start (g.P.Device.view c.args.port.now) (g.P.Device.view c.open_core.new.dev) (g.P.Device.view c.serve_opened.new.port)
+    ran_opened c.serve_opened.result g.Y.TreeLayout.layout g.M.Protocol.spelling c.args.root c.args.cap.now c.args.limit _ g.P.Device.told _ _ g.K.Started.start (g.P.Device.view c.args.port.now) (g.P.Device.view c.open_core.new.dev) (g.P.Device.view c.serve_opened.new.port)
     c.requires.start o.read o.sent o.any_moment o.works.clock (g.F.Files.view c.args.files.now) c.requires.files c.serve_opened.ensures.ran
 
 pub returns-in-Ok-clause-once : goal.returns-in-Ok-clause-once
@@ -45,7 +45,7 @@ returns-in-Ok-clause-no_put_fault g c = λ other. c.serve_opened.ensures.faults.
 pub returns-in-Err-clause-ran : goal.returns-in-Err-clause-ran
 returns-in-Err-clause-ran g c =
     let o = c.in-Err.ensures in
-    ran_unopened c.in-Err.why g.Y.TreeLayout.layout c.args.root c.args.cap.now c.args.limit _ g.P.Device.told _ (g.P.Device.view c.args.port.now) (g.P.Device.view c.open_core.new.dev)
+    ran_unopened c.in-Err.why g.Y.TreeLayout.layout g.M.Protocol.spelling c.args.root c.args.cap.now c.args.limit _ g.P.Device.told _ (g.P.Device.view c.args.port.now) (g.P.Device.view c.open_core.new.dev)
     o.stops (record { taken = λ tells. sym (append-nil _); left = λ tells. refl }) refl o.sent o.any_moment
 
 pub returns-in-Ok-clause-untouched : goal.returns-in-Ok-clause-untouched

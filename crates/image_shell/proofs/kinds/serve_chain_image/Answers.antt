@@ -7,7 +7,7 @@ use Rattle.image_shell.proofs.kinds.serve_chain_image.Goals as goal
 
 pub returns-in-Err-clause-ran : goal.returns-in-Err-clause-ran
 returns-in-Err-clause-ran g c =
-    ran_unstarted _ c.args.root c.args.cap.now c.args.limit _ g.P.Device.told _ (g.P.Device.view c.args.port.now) (λ t. g.met.P.Device.sound c.args.port.now t) (record { taken = λ tells. sym (append-nil _); left = λ tells. refl }) refl
+    ran_unstarted _ g.M.Protocol.spelling c.args.root c.args.cap.now c.args.limit _ g.P.Device.told _ (g.P.Device.view c.args.port.now) (λ t. g.met.P.Device.sound c.args.port.now t) (record { taken = λ tells. sym (append-nil _); left = λ tells. refl }) refl
 
 pub returns-in-Err-clause-untouched : goal.returns-in-Err-clause-untouched
 returns-in-Err-clause-untouched g c told foreign = record { writes = refl; reads = refl }

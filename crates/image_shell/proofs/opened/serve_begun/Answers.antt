@@ -39,7 +39,7 @@ returns-in-Ok-clause-ran g c =
     let w = g.P.Device.view c.mount_on.new.dev in
     let new = g.P.Device.view c.serve_shell.new.port in
     let f = g.F.Files.view c.args.files.now in
-    ran_mounted c.serve_shell.result f (g.F.Files.view c.mount_on.new.files) g.Y.TreeLayout.layout c.args.limit _ g.P.Device.told _ _ g.K.Started.start c.serve_shell.new.core v w new _
+    ran_mounted c.serve_shell.result f (g.F.Files.view c.mount_on.new.files) g.M.Protocol.spelling c.args.limit _ g.P.Device.told _ _ g.K.Started.start c.serve_shell.new.core v w new _
     (λ t. (c.requires.at t).valid) m.sent m.any_moment m.clock (λ t. (m.first t).0) c.serve_shell.ensures.at c.serve_shell.ensures.closed c.serve_shell.ensures.ran
 
 pub returns-else-is_device-clause-ran : goal.returns-else-is_device-clause-ran
@@ -49,7 +49,7 @@ returns-else-is_device-clause-ran g c =
     let w = g.P.Device.view c.mount_on.new.dev in
     let new = g.P.Device.view c.serve_shell-in-Err.new.port in
     let f = g.F.Files.view c.args.files.now in
-    ran_mounted c.serve_shell-in-Err.result f (g.F.Files.view c.mount_on.new.files) g.Y.TreeLayout.layout c.args.limit _ g.P.Device.told _ _ g.K.Started.start c.serve_shell-in-Err.new.core v w new _
+    ran_mounted c.serve_shell-in-Err.result f (g.F.Files.view c.mount_on.new.files) g.M.Protocol.spelling c.args.limit _ g.P.Device.told _ _ g.K.Started.start c.serve_shell-in-Err.new.core v w new _
     (λ t. (c.requires.at t).valid) m.sent m.any_moment m.clock (λ t. (m.first t).1 (not_device c.in-Err.why c.is_device.result c.is_device.ensures c.if-is_device.false)) c.serve_shell-in-Err.ensures.at c.serve_shell-in-Err.ensures.closed c.serve_shell-in-Err.ensures.ran
 
 pub returns-then-is_device-clause-behind : goal.returns-then-is_device-clause-behind

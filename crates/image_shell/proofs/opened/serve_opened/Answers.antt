@@ -44,7 +44,7 @@ returns-in-Ok-clause-allowed g c = λ t.
 pub returns-in-Ok-clause-ran : goal.returns-in-Ok-clause-ran
 returns-in-Ok-clause-ran g c =
     let b = c.begin_on.ensures in
-    ran_earlier c.serve_begun.result (g.F.Files.view c.args.files.now) g.Y.TreeLayout.layout c.args.limit _ g.P.Device.told _ _ g.K.Started.start
+    ran_earlier c.serve_begun.result (g.F.Files.view c.args.files.now) g.M.Protocol.spelling c.args.limit _ g.P.Device.told _ _ g.K.Started.start
     (g.P.Device.view c.args.port.now) (g.P.Device.view c.begin_on.new.dev) (g.P.Device.view c.serve_begun.new.port) b.sent b.any_moment b.clock c.serve_begun.ensures.ran
 
 pub returns-in-Err-clause-ran : goal.returns-in-Err-clause-ran

@@ -3,6 +3,7 @@ use Rattle.shell_server.proofs.Common.{Image, world_of, encode_lower, TellsPart,
 use Rattle.tsd_core.specs.Core.{sessions_of}
 use Rattle.shell_server.specs.Places.{disk_state}
 use Rattle.fs_trees.specs.declared.ask.ShellAsk.TheVariants as ask
+use Rattle.shell_text.specs.declared.file_ask.FileAsk.TheVariants as file
 use Rattle.fs_trees.specs.declared.refusal.FsRefusal.TheVariants as no
 use Rattle.shell_server.proofs.CatLaws.{cat_answers, cat_in_parts, behind, line_end, line_headed, line_next, line_parts, no_size, not_refused, part_is, up_to, up_to_next, up_to_none, whole_line}
 use Rattle.shell_server.proofs.SendLaws.{error_is, line_served}
@@ -71,7 +72,7 @@ returns-in-Err g c =
     let never : g.P.Device.told → ⊥ = λ told.
     let r = c.requires.told told in
     not_refused r.0 c.in-Err.field-0 (shell_step (shell_state f v.reads) q).answer r.1 (ap (λ (s : ShellState). (shell_step s q).answer) (sym (i.1.state told)) ∙ look.refused told other) in
-    line_served g.P.Device.told start q f (g.F.Files.view c.part_on.new.files) c.args.core.now c.part_on.new.core v (g.P.Device.view c.part_on.new.dev) (g.P.Device.view c.send_end.new.port) (10 ∷ []) (look.ready.1 other)
+    line_served g.P.Device.told start (file.Shell q) f (g.F.Files.view c.part_on.new.files) c.args.core.now c.part_on.new.core v (g.P.Device.view c.part_on.new.dev) (g.P.Device.view c.send_end.new.port) (10 ∷ []) (look.ready.1 other)
     (λ told. absurd (never told)) (λ told. absurd (never told)) (λ told. absurd (never told)) (λ told. absurd (never told)) (look.faultless.1 other ∙ i.1.faults) (look.put_faults ∙ i.1.put_faults)
     (behind_then g.P.Device.told c.args.core.now c.loop-start.core c.part_on.new.core v (g.P.Device.view c.loop-start.port) (g.P.Device.view c.part_on.new.dev) i.1.behind look.behind) c.send_end.result c.send_end.ensures.stops c.send_end.ensures.puts
 

@@ -1,6 +1,7 @@
 use Rattle.std.proofs.Common.{◌≡◌, ◌≢◌, IfSome, cond, [], ◌∷◌, ◌++◌, refl, sym, ◌∙◌, ap, subst, append_assoc, arith, rules}
 use Rattle.fs_walks.specs.Nexts.{AreBehind}
 use Rattle.fs_trees.specs.declared.ask.ShellAsk.TheVariants as ask
+use Rattle.shell_text.specs.declared.file_ask.FileAsk.TheVariants as file
 use Rattle.fs_trees.specs.declared.refusal.FsRefusal.TheVariants as no
 use Rattle.shell_server.proofs.Common.{Image, TellsNext, names_head, AnswersByLine, ShellState, shell_step, shell_rests, shell_state, IsNameListing, behind_then}
 use Rattle.shell_server.proofs.LsLaws.{behind, first_is, lists, line_headed, ls_answers, ls_in_parts, ls_not_refused, next_is, no_names, said_all, said_most, said_next, said_none, said_piece, whole_line}
@@ -157,7 +158,7 @@ returns-in-Err g c =
     let never : g.P.Device.told → ⊥ = λ told.
     let r = c.requires.told told in
     ls_not_refused r.0 c.in-Err.field-0 (shell_step s q).answer r.1 (ap (λ (u : ShellState). (shell_step u q).answer) (sym (spoken.state told)) ∙ look.refused told other) in
-    line_served g.P.Device.told start q f (g.F.Files.view c.next_on.new.files) c.args.core.now c.next_on.new.core v (g.P.Device.view c.next_on.new.dev) (g.P.Device.view c.send_end-in-Err.new.port) (10 ∷ []) (look.ready.1 other)
+    line_served g.P.Device.told start (file.Shell q) f (g.F.Files.view c.next_on.new.files) c.args.core.now c.next_on.new.core v (g.P.Device.view c.next_on.new.dev) (g.P.Device.view c.send_end-in-Err.new.port) (10 ∷ []) (look.ready.1 other)
     (λ told. absurd (never told)) (λ told. absurd (never told)) (λ told. absurd (never told)) (λ told. absurd (never told)) (look.faultless.1 other ∙ spoken.faults) (look.put_faults ∙ spoken.put_faults)
     (behind_then g.P.Device.told c.args.core.now c.loop-left.core c.next_on.new.core v z (g.P.Device.view c.next_on.new.dev) spoken.behind look.behind) c.send_end-in-Err.result c.send_end-in-Err.ensures.stops c.send_end-in-Err.ensures.puts
 

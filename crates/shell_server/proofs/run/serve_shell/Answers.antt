@@ -3,7 +3,7 @@ use Rattle.shell_server.proofs.Common.{Core, FitsReads, IsCoreReady}
 use Rattle.shell_server.proofs.run.serve_shell.Goals as goal
 
 pub returns-clause-ready : goal.returns-clause-ready
-returns-clause-ready g c other = subst (λ (d : Core). IsCoreReady d) (sym (c.core-1.given.1 (sym c.serve.ensures.lender))) (c.serve.ensures.ready other).core
+returns-clause-ready g c other = subst (λ (d : Core). IsCoreReady d) (sym (c.core-1.given.1 (sym c.serve.ensures.lender))) (c.serve.ensures.ready other).disk.core
 
 pub returns-clause-at : goal.returns-clause-at
 returns-clause-at g c other told =

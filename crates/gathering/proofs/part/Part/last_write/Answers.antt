@@ -1,8 +1,7 @@
-use Rattle.std.proofs.Common.{◌≡◌, ◌∙◌, true, false, ℕ, List, Option, sym, ap, subst}
+use Rattle.std.proofs.Common.{◌≡◌, ◌∙◌, true, false, ℕ, List, Option, sym, ap}
 use Rattle.std.specs.Prelude.{unwrap_or}
 use Rattle.std.proofs.lemmas.Option.{IfSome_then}
-use Rattle.image_layout.specs.declared.offset.Patch.{Patch}
-use Rattle.intent_journal.specs.Home.{overlaid, is_journal}
+use Rattle.intent_journal.specs.Home.{is_journal}
 use Rattle.gathering.specs.Gathered.{cleared}
 use Rattle.gathering.specs.Parts.{went_on}
 use Rattle.gathering.proofs.Found.{if_none_then}

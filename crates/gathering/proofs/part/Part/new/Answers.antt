@@ -1,14 +1,13 @@
-use Rattle.std.proofs.Common.{◌≡◌, ◌∙◌, ◌≤◌, ◌<◌, ◌+◌, refl, sym, ap, subst, ℕ, true, false, List, [], length, arith}
+use Rattle.std.proofs.Common.{◌≡◌, ◌∙◌, sym, ap, subst, List, length, arith}
 use Rattle.image_device.specs.declared.event.Event.{Event}
 use Rattle.image_device.specs.History.{after}
 use Rattle.image_layout.specs.declared.offset.Patch.{Patch}
-use Rattle.image_layout.specs.Ring.{records}
 use Rattle.intent_journal.specs.Batch.{IsBatch, homes_of}
 use Rattle.intent_journal.specs.Home.{overlaid}
 use Rattle.intent_journal.specs.Records.{is_gate_open}
 use Rattle.intent_journal.proofs.Uses.{at_closed}
 use Rattle.tsd_model.specs.World.{are_apart}
-use Rattle.gathering.specs.Gathered.{cleared, gone_on}
+use Rattle.gathering.specs.Gathered.{cleared}
 use Rattle.gathering.specs.Parts.{went_on, AreWholeWrites}
 use Rattle.gathering.proofs.Events.{journal_none}
 use Rattle.gathering.proofs.PartLaws.{none_of_journal, on_closed}
@@ -56,9 +55,6 @@ returns-clause-at g c =
     at_closed _
     (λ index less. ap (λ (l : List Event). is_gate_open (after l base).reads index) c.none.ensures ∙ on_closed g.K.Going.batch g.K.Going.start.reads batch index less)
     (λ n inside. ap (λ (l : List Event). (after l base).loose n) c.none.ensures)
-
-pub invariant_of-result-clause-leaves : goal.invariant_of-result-clause-leaves
-invariant_of-result-clause-leaves g c told = ∣ (c.requires.rests told).leaves ∣₁
 
 pub returns-clause-firm : goal.returns-clause-firm
 returns-clause-firm g c n = ap (λ (l : List Event). (after l (went_on g.K.Going.start g.K.Going.batch)).loose n) c.none.ensures

@@ -3,6 +3,7 @@ use Rattle.image_device.specs.declared.event.Event.TheVariants.{Sync}
 use Rattle.image_device.specs.History.{HistoryState}
 use Rattle.image_device.proofs.Pushes.{settles}
 use Rattle.gathering.specs.Parts.{went_on}
+use Rattle.gathering.proofs.BelowLaws.{settles_in_part}
 use Rattle.gathering.proofs.Events.{journal_kept, pushed}
 use Rattle.gathering.proofs.PartLaws.{net_of_sync, stray_kept, whole_sync}
 use Rattle.gathering.proofs.part.PartDevice.sync.Goals as goal
@@ -35,4 +36,5 @@ returns-clause-firm g c told n =
 pub returns-clause-settles : goal.returns-clause-settles
 returns-clause-settles g c told =
     let m = c.args.self.now in
-    settles (went_on g.K.Going.start g.K.Going.batch) m.past.events _ _ _ _ _ _ (went_on g.K.Going.start g.K.Going.batch) refl _ c.with_sync-self.ensures
+    settles_in_part g.K.Going.start g.K.Going.batch (g.P.Device.view m.dev.now) m.past.events _ _ _ _ _
+    (settles (went_on g.K.Going.start g.K.Going.batch) m.past.events _ _ _ _ _ _ (went_on g.K.Going.start g.K.Going.batch) refl _ c.with_sync-self.ensures)

@@ -1,12 +1,13 @@
 use Rattle.std.proofs.Common.{◌≡◌, ◌∙◌, refl, sym, subst, ap, List, ℕ, true, false, rules, length}
 use Rattle.image_device.specs.Image.{IsSector}
 use Rattle.image_device.specs.declared.event.Event.TheVariants.{Write}
-use Rattle.image_device.proofs.Pushes.{touches, touches_not, written, loose}
+use Rattle.image_device.proofs.Pushes.{touches, written, loose}
 use Rattle.image_layout.specs.declared.offset.Patch.{Patch}
 use Rattle.intent_journal.specs.Batch.{with_patch}
 use Rattle.intent_journal.specs.Home.{is_journal}
 use Rattle.intent_journal.specs.Homes.{is_lawful_home}
 use Rattle.gathering.specs.Parts.{went_on, IsNetOver}
+use Rattle.gathering.proofs.BelowLaws.{touches_in_part}
 use Rattle.gathering.proofs.Events.{journal_apart, journal_written}
 use Rattle.gathering.proofs.PartLaws.{apart_homes, few_more, net_of_home, net_of_journal, never_full, stray_kept, stray_now, whole_write, with_one, with_room}
 use Rattle.gathering.proofs.part.PartDevice.write.Goals as goal
@@ -51,7 +52,8 @@ returns-then-is_of_journal-clause-touches g c told =
     let m = c.args.self.now in
     let also = c.with_write-self.ensures in
     let base = went_on g.K.Going.start g.K.Going.batch in
-    touches base m.past.events _ _ _ _ _ _ c.args.sector also.0 base refl _ also.2
+    touches_in_part g.K.Going.start g.K.Going.batch (g.P.Device.view m.dev.now) m.past.events _ _ _ _ _ c.args.sector
+    (touches base m.past.events _ _ _ _ _ _ c.args.sector also.0 base refl _ also.2)
 
 -- of a sector that no batch may hold
 pub invariant_of-self-then-not-is_lawful_home-clause-newest : goal.invariant_of-self-then-not-is_lawful_home-clause-newest
@@ -99,7 +101,8 @@ returns-then-not-is_lawful_home-clause-touches g c told =
     let m = c.args.self.now in
     let also = c.with_write-self-then-not-is_lawful_home.ensures in
     let base = went_on g.K.Going.start g.K.Going.batch in
-    touches base m.past.events _ _ _ _ _ _ c.args.sector also.0 base refl _ also.2
+    touches_in_part g.K.Going.start g.K.Going.batch (g.P.Device.view m.dev.now) m.past.events _ _ _ _ _ c.args.sector
+    (touches base m.past.events _ _ _ _ _ _ c.args.sector also.0 base refl _ also.2)
 
 -- of another one
 pub invariant_of-self-2-clause-newest : goal.invariant_of-self-2-clause-newest
@@ -147,7 +150,8 @@ returns-clause-touches g c told =
     let m = c.args.self.now in
     let also = c.with_write-self-2.ensures in
     let base = went_on g.K.Going.start g.K.Going.batch in
-    touches base m.past.events _ _ _ _ _ _ c.args.sector also.0 base refl _ also.2
+    touches_in_part g.K.Going.start g.K.Going.batch (g.P.Device.view m.dev.now) m.past.events _ _ _ _ _ c.args.sector
+    (touches base m.past.events _ _ _ _ _ _ c.args.sector also.0 base refl _ also.2)
 
 pub invariant_of-self-then-not-is_lawful_home-clause-stray : goal.invariant_of-self-then-not-is_lawful_home-clause-stray
 invariant_of-self-then-not-is_lawful_home-clause-stray g c had =
