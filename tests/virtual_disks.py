@@ -268,7 +268,8 @@ def tried_faults(context: Context) -> Iterator[Result]:
     content = context.folder / "content"
     content.write_bytes(b"x" * MIB)
     with served(context, *base, "size=1M") as server:
-        status, told = call("nbdcopy", content, server.uri)
+        # One request at a time: nbdkit 1.32 may abort where a client goes while replies to it are under way.
+        status, told = call("nbdcopy", "--connections=1", "--requests=1", content, server.uri)
         yield compared("a full disk is no space left", (1, True), (status, "No space left" in told))
         yield compared("and is told with what to do", True, "trim what isn't used" in server.words())
         found = call("nbdcopy", server.uri, context.folder / "back")
