@@ -1,5 +1,5 @@
 """Worked runs of the disk, answer by answer, over files: in both versions, closed or killed, and opened again; how
-often the disk is written and read; and the sectors that a format leaves.
+often the disk is written and read, also by calls that only look; and the sectors that a format leaves.
 
 What must be answered is written down here from docs/MODEL.md and docs/FORMAT.md; nothing of it was made by the program.
 In a text a slash stands between two lines, and R, W, C and D for capabilities: those of block 0 to read and to write
@@ -22,6 +22,7 @@ from recording import PUT, READ, SYNC, WRITE, NoRecorder, Recorder, Recording
 NAME = "disk_rows"
 SEED = bytes(32)
 MOST_SECONDS = 60
+DENIED = 10
 
 
 class Size(NamedTuple):
@@ -355,6 +356,30 @@ def ahead_results(program: Program, image: Path) -> Iterator[Result]:
                        program.run([image, "run", "low"], lines_of("/".join(asked), MANY)).out)
 
 
+# --- calls that only look ---
+
+def look_results(recorder: Recorder, program: Program, image: Path) -> Iterator[Result]:
+    """An image on which nothing is left to be done is opened once by each call that only looks, or that the capability
+    denies: its header is read once, it is synced once, and nothing is written."""
+    image.unlink(missing_ok=True)
+    program.run([image, *TWICE.words()])
+    asked = "/".join(["open 1", "alloc 1 0 W - 2", "alloc 1 2 - - 1", "delete 1 0 W 2", "write 1 3 - 33"])
+    program.run([image, "run", "low"], lines_of(asked, TWICE))
+    certificate, no_cap = program.run([image, "audit"]).out, "0" * 32
+    rows = (
+        (0, ["check"], b""), (0, ["info"], b""), (0, ["audit"], b""), (0, ["verify"], certificate),
+        (DENIED, ["shell", "inode", "0", no_cap, "low"], b"df\n"), (DENIED, ["files", "chain", "0", no_cap, "low"], b""),
+        (DENIED, ["copyfs", "inode", "0", no_cap, "chain", "1", no_cap, "low"], b""),
+    )
+    for status, words, given in rows:
+        recording = recorder.run(image, words, given)
+        reads = [event for event in recording.events if event.kind == READ]
+        headers = sum(event.offset < SECTOR for event in reads)
+        syncs, writes = (sum(event.kind == kind for event in recording.events) for kind in (SYNC, WRITE))
+        found = recording.status, headers, syncs, writes
+        yield compared(f"{words[0]} opens the image once and writes nothing", (status, 1, 1, 0), found)
+
+
 # --- what a format leaves ---
 
 def format_results(recorder: Recorder, image: Path) -> Iterator[Result]:
@@ -422,4 +447,5 @@ def run(context: Context) -> Iterator[Result]:
         return
     yield from write_results(recorder, program, image)
     yield from read_results(recorder, program, image)
+    yield from look_results(recorder, program, image)
     yield from format_results(recorder, image)
