@@ -18,7 +18,7 @@ SESSION = re.compile(r"^```\n(open .*?)^```$", re.MULTILINE | re.DOTALL)
 KIND = re.compile(r"\s*\(kind (\w+)\)")
 FRAMES = re.compile(r"^\| [^|`]+ \| `([0-9a-f ]+)` \| [^|`]+ \| `([0-9a-f ]+)` \|$", re.MULTILINE)
 HEADER = re.compile(r"begins with these 28 bytes.*?\n\n +([0-9a-f ]+)\n", re.DOTALL)
-FIRST_PAIR = re.compile(r"32 zero bytes the first pair is `([0-9a-f]{32})` and `([0-9a-f]{32})`")
+FIRST_PAIR = re.compile(r"32\s+zero\s+bytes\s+the\s+first\s+pair\s+is\s+`([0-9a-f]{32})`\s+and\s+`([0-9a-f]{32})`")
 
 
 class Session(NamedTuple):

@@ -1,7 +1,7 @@
 //! `audit`: which blocks the primary blocks lead to, as a certificate.
 
-ghost use Rattle.std.specs.Prelude.{◌≡◌, ◌≢◌, IfOk, IfErr};
-ghost use Rattle.image_device.specs.Counts.{CountsFaultOf, Rose};
+ghost use Rattle.std.specs.Prelude.{◌≡◌, IfOk, IfErr};
+ghost use Rattle.image_device.specs.Counts.{CountsFaultOf};
 ghost use Rattle.image_device.specs.Runs.{IsFirm, LeavesOnly};
 ghost use Rattle.image_world.specs.Behind.{LeavesBehind};
 ghost use Rattle.recovery.specs.Opening.{IsForeign, IsUntouched, LeavesData, SparesDamaged, StandAlike};
@@ -9,6 +9,7 @@ ghost use Rattle.volume_laws.specs.Writes.{Works};
 ghost use Rattle.image_runs.specs.Looking.{OnlyLooks};
 ghost use Rattle.image_runs.specs.Opened.{IsJudged, IsUnopened};
 ghost use Rattle.image_runs.specs.Sending.{IsEnding};
+ghost use Rattle.serving.specs.Faults.{TellsPortFaults};
 ghost use Rattle.audit_runs.specs.Audit.{HasAudited, IsAuditing};
 ghost use Rattle.audit_runs.specs.Found.{IsFoundIn};
 
@@ -44,11 +45,7 @@ pub fn audit_image<P: Port>(alloc: Global, port: &mut P) -> Status
     /// opening writes, however it ends; the data of all blocks is as it was in each image left, of free ones too.
     ensures only { P.told → OnlyLooks (P.view port.old) (P.view port.new) }
     ensures kept { P.told → IsFirm (P.view port.old) → LeavesData (P.view port.old) (P.view port.new) }
-    // A count of faults rose only where the status is that fault's.
-    ensures device_fault { result ≡ Status.DeviceFault → Rose (P.view port.old).faults (P.view port.new).faults }
-    ensures put_fault { result ≡ Status.PutFault → Rose (P.view port.old).put_faults (P.view port.new).put_faults }
-    ensures no_device_fault { result ≢ Status.DeviceFault → (P.view port.new).faults ≡ (P.view port.old).faults }
-    ensures no_put_fault { result ≢ Status.PutFault → (P.view port.new).put_faults ≡ (P.view port.old).put_faults }
+    ensures faults { TellsPortFaults result (P.view port.old) (P.view port.new) }
 {
     match find(alloc, port) {
         Ok(reached) => match put_listings(&reached, port) {

@@ -1,11 +1,12 @@
 //! `verify`: what a certificate shows of an image.
 
-ghost use Rattle.std.specs.Prelude.{◌≡◌, ◌≢◌, ℕ, List, Option, length, IfErr};
-ghost use Rattle.image_device.specs.Counts.{CountsFaultOf, Rose};
+ghost use Rattle.std.specs.Prelude.{◌≡◌, ℕ, List, Option, length, IfErr};
+ghost use Rattle.image_device.specs.Counts.{CountsFaultOf};
 ghost use Rattle.image_device.specs.Runs.{IsFirm, LeavesOnly};
 ghost use Rattle.image_world.specs.Behind.{LeavesBehind};
 ghost use Rattle.recovery.specs.Opening.{IsForeign, IsUntouched, LeavesData, SparesDamaged, StandAlike};
 ghost use Rattle.script_text.specs.Pieces.{all_lines};
+ghost use Rattle.serving.specs.Faults.{TellsFaults};
 ghost use Rattle.serving.specs.Ran.{EndsOnce, moments, taking};
 ghost use Rattle.volume_laws.specs.Volume.{IsVolumeReady, told_by};
 ghost use Rattle.volume_laws.specs.Writes.{Works};
@@ -49,13 +50,8 @@ pub fn verify_image<S: Source, P: Port>(alloc: Global, source: &mut S, port: &mu
     /// opening writes, however it ends; the data of all blocks is as it was in each image left, of free ones too.
     ensures only { P.told → OnlyLooks (P.view port.old) (P.view port.new) }
     ensures kept { P.told → IsFirm (P.view port.old) → LeavesData (P.view port.old) (P.view port.new) }
-    // A count of faults rose only where the status is that fault's.
-    ensures source_fault { result ≡ Status.SourceFault → Rose (S.faults source.old) (S.faults source.new) }
-    ensures device_fault { result ≡ Status.DeviceFault → Rose (P.view port.old).faults (P.view port.new).faults }
-    ensures put_fault { result ≡ Status.PutFault → Rose (P.view port.old).put_faults (P.view port.new).put_faults }
-    ensures no_source_fault { result ≢ Status.SourceFault → S.faults source.new ≡ S.faults source.old }
-    ensures no_device_fault { result ≢ Status.DeviceFault → (P.view port.new).faults ≡ (P.view port.old).faults }
-    ensures no_put_fault { result ≢ Status.PutFault → (P.view port.new).put_faults ≡ (P.view port.old).put_faults }
+    ensures faults { TellsFaults result (S.faults source.old) (S.faults source.new) (P.view port.old)
+        (P.view port.new) }
 {
     let mut line = OutBuf::new();
     match answer(alloc, source, port, &mut line) {

@@ -1,6 +1,6 @@
 //! Files that get longer.
 
-ghost use Rattle.std.specs.Prelude.{◌≡◌, ◌≢◌, ◌≤◌, ◌<◌, ◌-◌, min, take, drop, ℕ, List, []};
+ghost use Rattle.std.specs.Prelude.{◌≡◌, ◌≢◌, ◌≤◌, ◌<◌, ◌-◌, min, take, drop, List, []};
 ghost use Rattle.std.specs.Prelude.{length, false, None, Some, IfOk, IfErr, OnOk};
 ghost use Rattle.tsd_model.specs.Geometry.{block_len};
 ghost use Rattle.fs_trees.specs.Answer.{done};

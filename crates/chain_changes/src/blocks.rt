@@ -5,7 +5,6 @@ ghost use Rattle.std.specs.Prelude.{None, Some, [], ◌∷◌, IsTrue, ◌↔◌
 ghost use Rattle.tsd_model.specs.Placing.{chosen};
 ghost use Rattle.tsd_model.specs.declared.requests.Hint.TheVariants.{At};
 ghost use Rattle.fs_trees.specs.declared.refusal.FsRefusal.TheVariants as no;
-ghost use Rattle.fs_port.specs.View.{state_of};
 ghost use Rattle.fs_port.specs.Calls.{IsValidNow};
 ghost use Rattle.fs_client.specs.Client.{alloc_by};
 ghost use Rattle.fs_client.specs.May.{MayWrite};

@@ -1,6 +1,6 @@
 //! New files, also in place of old ones.
 
-ghost use Rattle.std.specs.Prelude.{◌≡◌, ◌≢◌, ◌≤◌, ◌<◌, [], ◌∷◌, false, length, IsTrue};
+ghost use Rattle.std.specs.Prelude.{◌≡◌, ◌≢◌, ◌≤◌, ◌<◌, [], ◌∷◌, length, IsTrue};
 ghost use Rattle.fs_trees.specs.Names.{is_name, is_path};
 ghost use Rattle.fs_trees.specs.ChainTree.{names_max};
 ghost use Rattle.fs_trees.specs.Cluster.{entries_room};
@@ -17,14 +17,11 @@ ghost use Rattle.chain_changes.specs.Lookups.{IsLookupOf};
 use crate::file::new_file;
 use crate::finding::look_up;
 use chain_layout::{directory_linked, directory_of_one, directory_with};
-use chain_reading::{Lookup, Page};
+use chain_reading::{Lookup, NAMES_MAX, Page};
 use fs_client::{Client, drop_pointer, write_block};
 use fs_port::Blocks;
 use fs_trees::{FsRefusal, Name, Path};
 use tsd_model::Data;
-
-/// How many names the directory has at most.
-const NAMES_MAX: usize = 4096;
 
 /// Puts a file of these bytes in place of the one that an entry names. The write of the entry's cluster decides; then
 /// it lets go of the old file.

@@ -1,6 +1,6 @@
 //! Names that stand once.
 
-ghost use Rattle.std.specs.Prelude.{◌≡◌, ◌≤◌, ◌*◌, length, bytes_eq};
+ghost use Rattle.std.specs.Prelude.{◌≡◌, ◌≤◌, ◌*◌, length};
 ghost use Rattle.std.specs.List.{list_any};
 ghost use Rattle.fs_trees.specs.Names.{are_distinct};
 ghost use Rattle.fs_trees.specs.Fields.{entries, entry_names};

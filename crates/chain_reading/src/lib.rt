@@ -30,6 +30,6 @@ pub use deciding::{
 };
 pub use finding::{Lookup, find_file, no_way, search};
 pub use listing::names_after;
-pub use looking::is_tree;
+pub use looking::{NAMES_MAX, is_tree};
 pub use reading::{name_after, read_file, read_on, size};
 pub use walking::{Page, Part, read_page, read_part};

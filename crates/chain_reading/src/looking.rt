@@ -26,7 +26,7 @@ use fs_port::Blocks;
 use fs_trees::FsRefusal;
 
 /// How many names a directory has at most.
-const NAMES_MAX: usize = 4096;
+pub const NAMES_MAX: usize = 4096;
 
 // ---- files
 

@@ -1,12 +1,12 @@
 //! A disk made anew.
 
-ghost use Rattle.std.specs.Prelude.{◌≡◌, ◌≢◌, ◌↔◌, OnOk, IfErr};
+ghost use Rattle.std.specs.Prelude.{◌≡◌, ◌↔◌};
 ghost use Rattle.tsd_model.specs.Geometry.{IsLawful};
 ghost use Rattle.tsd_words.specs.declared.status.Status.{Status as Ended};
-ghost use Rattle.image_device.specs.Counts.{Rose};
 ghost use Rattle.image_device.specs.Runs.{IsFirm, LeavesOnly};
 ghost use Rattle.image_runs.specs.Behind.{LeavesSectorsBehind};
 ghost use Rattle.image_runs.specs.Format.{HasFormatted, IsLeftOfFormat};
+ghost use Rattle.serving.specs.Faults.{TellsPortFaults};
 
 use image_device::Port;
 use image_runs::format_image;
@@ -34,12 +34,8 @@ pub fn make_disk<P: Port>(port: &mut P, words: &Format) -> Status
     /// promise: The sectors after the image stay as they are.
     ensures behind { P.told → IsLawful words.now.geometry → IsFirm (P.view port.old)
         → LeavesSectorsBehind words.now.geometry (P.view port.old) (P.view port.new) }
-    /// promise (with put_fault, no_device_fault, no_put_fault): A count of faults rose exactly where the status is that
-    /// fault's.
-    ensures device_fault { result ≡ Status.DeviceFault → Rose (P.view port.old).faults (P.view port.new).faults }
-    ensures put_fault { result ≡ Status.PutFault → Rose (P.view port.old).put_faults (P.view port.new).put_faults }
-    ensures no_device_fault { result ≢ Status.DeviceFault → (P.view port.new).faults ≡ (P.view port.old).faults }
-    ensures no_put_fault { result ≢ Status.PutFault → (P.view port.new).put_faults ≡ (P.view port.old).put_faults }
+    /// promise: A count of faults rose exactly where the status is that fault's.
+    ensures faults { TellsPortFaults result (P.view port.old) (P.view port.new) }
 {
     if lawful(&words.geometry) {
         format_image(port, words)

@@ -3,11 +3,12 @@
 ghost use Rattle.std.specs.Prelude.{◌≡◌, ◌≢◌, ◌⊎◌, ◌^◌, true, false, OnOk, IfOk, IfErr};
 ghost use Rattle.tsd_model.specs.Run.{at_rest};
 ghost use Rattle.tsd_model.specs.Sessions.{no_sessions};
-ghost use Rattle.image_device.specs.Counts.{CountsFault, CountsFaultOf, Rose};
+ghost use Rattle.image_device.specs.Counts.{CountsFault, CountsFaultOf};
 ghost use Rattle.image_device.specs.Runs.{IsFirm, LeavesOnly, LeavesPart};
 ghost use Rattle.image_world.specs.Behind.{LeavesBehind, behind};
 ghost use Rattle.image_world.specs.Stands.{world_of};
 ghost use Rattle.recovery.specs.Opening.{IsForeign, IsUntouched, SparesDamaged, StandAlike};
+ghost use Rattle.serving.specs.Faults.{TellsFaults, TellsPortFaults};
 ghost use Rattle.serving.specs.Ran.{EndsOnce, moments, taking};
 ghost use Rattle.tsd_core.specs.Core.{IsCoreAt, IsCoreReady, state_on};
 ghost use Rattle.volume_laws.specs.Quiet.{IsQuiet};
@@ -113,18 +114,9 @@ impl OpenDisk {
         ensures behind { P.told → LeavesPart (behind self.old.core.volume.tables.geometry) (P.view port.old)
             (P.view port.new) ⊎ (port.new ≡ port.old) }
         ensures once { EndsOnce (S.ends source.old) (S.ends source.new) }
-        /// promise (with device_fault, put_fault, no_source_fault, no_device_fault, no_put_fault): A count of faults
-        /// rose exactly where the status is that fault's.
-        ensures source_fault { result ≡ Status.SourceFault → Rose (S.faults source.old) (S.faults source.new) }
-        ensures device_fault { result ≡ Status.DeviceFault
-            → Rose (P.view port.old).faults (P.view port.new).faults }
-        ensures put_fault { result ≡ Status.PutFault
-            → Rose (P.view port.old).put_faults (P.view port.new).put_faults }
-        ensures no_source_fault { result ≢ Status.SourceFault → S.faults source.new ≡ S.faults source.old }
-        ensures no_device_fault { result ≢ Status.DeviceFault
-            → (P.view port.new).faults ≡ (P.view port.old).faults }
-        ensures no_put_fault { result ≢ Status.PutFault
-            → (P.view port.new).put_faults ≡ (P.view port.old).put_faults }
+        /// promise: A count of faults rose exactly where the status is that fault's.
+        ensures faults { TellsFaults result (S.faults source.old) (S.faults source.new) (P.view port.old)
+            (P.view port.new) }
     {
         match FrameCutter::new(alloc) {
             Ok(mut cutter) => {
@@ -172,16 +164,8 @@ impl OpenDisk {
         /// promise (with at): It may be used again unless the device failed.
         ensures usable { result ≢ Status.DeviceFault → self.new.failed ≡ false }
         ensures at { result ≢ Status.DeviceFault → P.told → IsCoreAt self.new.core (P.view port.new) }
-        /// promise (with put_fault, no_device_fault, no_put_fault): A count of faults rose exactly where the status is
-        /// that fault's.
-        ensures device_fault { result ≡ Status.DeviceFault
-            → Rose (P.view port.old).faults (P.view port.new).faults }
-        ensures put_fault { result ≡ Status.PutFault
-            → Rose (P.view port.old).put_faults (P.view port.new).put_faults }
-        ensures no_device_fault { result ≢ Status.DeviceFault
-            → (P.view port.new).faults ≡ (P.view port.old).faults }
-        ensures no_put_fault { result ≢ Status.PutFault
-            → (P.view port.new).put_faults ≡ (P.view port.old).put_faults }
+        /// promise: A count of faults rose exactly where the status is that fault's.
+        ensures faults { TellsPortFaults result (P.view port.old) (P.view port.new) }
     {
         let mut source = FramesAtHand::new(frames);
         let status = self.serve(alloc, placement, &mut source, port);

@@ -1,6 +1,6 @@
 //! Standard input as a source.
 
-ghost use Rattle.std.specs.Prelude.{ℕ, List, []};
+ghost use Rattle.std.specs.Prelude.{[]};
 ghost use Rattle.std.specs.Io.{ReadsAtMost};
 
 use image_device::{Failed, Source};

@@ -1,6 +1,6 @@
 //! Sets of blocks of a disk.
 
-ghost use Rattle.std.specs.Prelude.{◌≡◌, ◌≤◌, ◌||◌, ◌==◌, ℕ, Bool, false, not, length};
+ghost use Rattle.std.specs.Prelude.{◌≡◌, ◌≤◌, ◌||◌, ◌==◌, ℕ, false, not, length};
 ghost use Rattle.std.specs.Prelude.{slice_index_or, IfOk};
 
 use bit_array::BitArray;

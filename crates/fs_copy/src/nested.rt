@@ -10,10 +10,7 @@ ghost use Rattle.fs_copy.specs.Nesting.{first_dir};
 
 use crate::paths::is_path;
 use fs_port::{Blocks, Files};
-use fs_trees::{FsRefusal, Name, Path};
-
-/// How many names a directory has at most.
-const NAMES_MAX: u32 = 4096;
+use fs_trees::{FsRefusal, NAMES_MAX, Name, Path};
 
 /// The path of a name in `/`, if it is one.
 fn path_of(name: Name) -> Option<Path>

@@ -16,20 +16,17 @@ use crate::entry::copy_entry;
 use crate::paths::is_path;
 use arrayvec::ArrayVec;
 use fs_port::{Blocks, Files};
-use fs_trees::{FsRefusal, Name, Path};
+use fs_trees::{FsRefusal, NAMES_MAX, Name, Path};
 use fs_walks::{NAMES_AT_ONCE, Walks};
 use image_device::WorkDone;
 use tsd_model::Geometry;
-
-/// How many names a directory has at most.
-const NAMES_MAX: u64 = 4096;
 
 /// How many turns the walk takes at most, of a disk of this size: one for each entry, one to leave each directory, and
 /// one to end.
 fn turns_max(geometry: &Geometry) -> u64
     ensures { result ≡ 2 * (geometry.now.blocks + names_max) + 1 }
 {
-    2 * (geometry.blocks as u64 + NAMES_MAX) + 1
+    2 * (u64::from(geometry.blocks) + u64::from(NAMES_MAX)) + 1
 }
 
 /// One file more, with its bytes; a directory counts nothing.

@@ -1,6 +1,6 @@
 //! The disk as one call.
 
-ghost use Rattle.std.specs.Prelude.{◌≡◌, true, false, IsTrue, IsOk, IsErr, OnOk, OnErr, IfOk};
+ghost use Rattle.std.specs.Prelude.{◌≡◌, true, false, OnOk, OnErr, IfOk};
 ghost use Rattle.image_device.specs.Counts.{CountsFault};
 ghost use Rattle.fs_port.specs.View.{DiskView, IsDiskSound};
 ghost use Rattle.tsd_model.specs.Needs.{is_steady};

@@ -1,6 +1,6 @@
 //! How many blocks are free.
 
-ghost use Rattle.std.specs.Prelude.{◌≡◌, true, false, IfOk, IfErr, OnOk};
+ghost use Rattle.std.specs.Prelude.{◌≡◌, true, false, IfOk, IfErr};
 ghost use Rattle.image_device.specs.Counts.{Rose};
 ghost use Rattle.tsd_model.specs.World.{free_count};
 ghost use Rattle.tsd_model.specs.declared.requests.Request.TheVariants as ask;

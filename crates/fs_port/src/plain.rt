@@ -1,6 +1,6 @@
 //! A plain disk in memory.
 
-ghost use Rattle.std.specs.Prelude.{◌≡◌, [], false, IsOk, IsErr};
+ghost use Rattle.std.specs.Prelude.{◌≡◌, false};
 
 use crate::blocks::Blocks;
 use image_device::Failed;

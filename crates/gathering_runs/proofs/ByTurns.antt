@@ -48,11 +48,11 @@ module _ {Q : Type 0} (k : Service Q) (w : WorkCount Q k.States) (waits : Q → 
   all_turns (Err e) x s t qs old new is b = absurd (cc)
 
   pub turns_ok : {T E : Type 0} (x : T) (s t : k.States) (qs : List Q) (old new : Mark) → AllTurns s t qs old new → AnswersByTurns {Q = Q} {T = T} {E = E} (Ok x) k w waits port s t qs old new
-  turns_ok x s t qs old new a = record { turns = a.turns; rest = []; parts = sym a.all ∙ sym (append-nil (all_of a.turns)); state = t; rested = new; each = a.each; all = (refl, refl, refl) }
+  turns_ok x s t qs old new a = record { turns = a.turns; rest = []; parts = sym a.all ∙ sym (append-nil (all_of a.turns)); state = t; rested = new; each = a.each; not_after = omega arith; all = (refl, refl, refl) }
 
   -- these were answered, and then it stopped
-  pub turns_err : {T E : Type 0} (e : E) (s m t : k.States) (qs more : List Q) (old mid new : Mark) → AllTurns s m qs old mid → AnswersByTurns {Q = Q} {T = T} {E = E} (Err e) k w waits port s t (qs ++ more) old new
-  turns_err e s m t qs more old mid new a = record { turns = a.turns; rest = more; parts = ap (λ l. l ++ more) (sym a.all); state = m; rested = mid; each = a.each; all = tt }
+  pub turns_err : {T E : Type 0} (e : E) (s m t : k.States) (qs more : List Q) (old mid new : Mark) → AllTurns s m qs old mid → mid.clock ≤ new.clock → AnswersByTurns {Q = Q} {T = T} {E = E} (Err e) k w waits port s t (qs ++ more) old new
+  turns_err e s m t qs more old mid new a later = record { turns = a.turns; rest = more; parts = ap (λ l. l ++ more) (sym a.all); state = m; rested = mid; each = a.each; not_after = later; all = tt }
 
   -- ---- one turn
   -- answered as a group, and then the steps that lacked were made
@@ -75,9 +75,9 @@ module _ {Q : Type 0} (k : Service Q) (w : WorkCount Q k.States) (waits : Q → 
   })
 
   -- a request on the device itself
-  pub turn_of_direct : (s m t u : k.States) (q : Q) (old emptied new : Mark) → waits q → port emptied → emptied.sent ≡ old.sent → emptied.writes ≤ old.writes + 121 → port new → IsReplied w port m q emptied new
+  pub turn_of_direct : (s m t u : k.States) (q : Q) (old emptied new : Mark) → waits q → port emptied → old.clock ≤ emptied.clock → emptied.sent ≡ old.sent → emptied.writes ≤ old.writes + 121 → port new → IsReplied w port m q emptied new
       → LeavesBut k w m emptied.sent (q ∷ []) t new.sent (w.debt old.reads) (w.debt new.reads) 0 → m ≡ s → t ≡ u → IsTurn k w waits port s (q ∷ []) u old new
-  turn_of_direct s m t u q old emptied new long here unsent few there replied leaves before after =
+  turn_of_direct s m t u q old emptied new long here later unsent few there replied leaves before after =
       let own : LeavesBut k w s old.sent (q ∷ []) u new.sent (w.debt old.reads) (w.debt new.reads) 0 =
       subst (λ (z : k.States). LeavesBut k w s old.sent (q ∷ []) z new.sent (w.debt old.reads) (w.debt new.reads) 0) after
       (subst (λ (z : k.States). LeavesBut k w z old.sent (q ∷ []) t new.sent (w.debt old.reads) (w.debt new.reads) 0) before
@@ -94,7 +94,7 @@ module _ {Q : Type 0} (k : Service Q) (w : WorkCount Q k.States) (waits : Q → 
         answers = record {
           of_port = there;
           served = own.served;
-          work = inr (record { request = q; one = refl; may_wait = long; emptied = emptied; of_port = here; nothing_sent = unsent; writes = few; replied = subst (λ (z : k.States). IsReplied w port z q emptied new) before replied });
+          work = inr (record { request = q; one = refl; may_wait = long; emptied = emptied; of_port = here; not_before = later; nothing_sent = unsent; writes = few; replied = subst (λ (z : k.States). IsReplied w port z q emptied new) before replied });
         };
         behind = 0;
         few_behind = omega arith;

@@ -1,8 +1,13 @@
 -- What the outcome of a call tells.
-use Rattle.std.proofs.Common.{◌≡◌, ◌⊎◌, inl, inr, ℕ, refl, sym, ap, subst}
+use Rattle.std.proofs.Common.{◌≡◌, ◌⊎◌, inl, inr, ℕ, refl, sym, ◌∙◌, ap, subst}
 use Rattle.std.specs.Prelude.{Result, Ok, Err, OnOk, OnErr, IfOk, IfErr}
 use Rattle.std.specs.Result.{result_unwrap_or}
-use Rattle.image_device.specs.Counts.{CountsFaultOf}
+use Rattle.image_device.specs.Counts.{CountsFaultOf, Rose}
+use Rattle.image_device.specs.View.{View}
+use Rattle.tsd_words.specs.declared.status.Status.{Status}
+use Rattle.tsd_words.specs.declared.status.Status.TheVariants as status
+use Rattle.serving.specs.Faults.{TellsFaults}
+use Rattle.gathering_runs.specs.Turns.{StopsBy}
 
 pub ok_is : {T E P : Type 0} (r : Result T E) (x : T) → r ≡ Ok x → OnOk r P → P
 ok_is (Ok y) x is p = p
@@ -34,6 +39,30 @@ ok_is_if P (Ok y) x is p = subst (λ z. P z) (ok_same y x is) p
     ok_same : {T E : Type 0} (a b : T) → ◌≡◌ {A = Result T E} (Ok a) (Ok b) → a ≡ b
     ok_same a b same = cc
 ok_is_if P (Err e) x is p = absurd (cc)
+
+-- A call stopped that takes from no source, and until then no count rose: what its counts tell.
+pub stopped_faults : {T : Type 0} (r : Result T Status) (why : Status) (before now : ℕ) (old mid new : View)
+    → r ≡ Err why → IfErr r StopsBy → now ≡ before → mid.faults ≡ old.faults → mid.put_faults ≡ old.put_faults
+    → CountsFaultOf status.DeviceFault r mid.faults new.faults
+    → CountsFaultOf status.PutFault r mid.put_faults new.put_faults → TellsFaults why before now old new
+stopped_faults r why before now old mid new is stops taken faults put_faults device put = record {
+  source_fault = λ e. absurd (none_of_source why (err_is_if StopsBy r why is stops) e);
+  no_source_fault = λ other. taken;
+  port = record {
+    device_fault = λ e. subst (λ (n : ℕ). Rose n new.faults) faults (device.0 (is ∙ ap (λ w. Err w) e));
+    put_fault = λ e. subst (λ (n : ℕ). Rose n new.put_faults) put_faults (put.0 (is ∙ ap (λ w. Err w) e));
+    no_device_fault = λ other. device.1 (λ e. other (err_same _ _ (sym is ∙ e))) ∙ faults;
+    no_put_fault = λ other. put.1 (λ e. other (err_same _ _ (sym is ∙ e))) ∙ put_faults;
+  };
+}
+  where
+    none_of_source : (w : Status) → StopsBy w → w ≡ status.SourceFault → ⊥
+    none_of_source w (inl e) same = absurd (cc)
+    none_of_source w (inr (inl e)) same = absurd (cc)
+    none_of_source w (inr (inr e)) same = absurd (cc)
+
+    err_same : {S : Type 0} (a b : Status) → ◌≡◌ {A = Result S Status} (Err a) (Err b) → a ≡ b
+    err_same a b same = cc
 
 -- what is taken out of a call that went well
 pub ok_by : {T E : Type 0} (r : Result T E) (b u other : T) → r ≡ Ok b → u ≡ result_unwrap_or r other → r ≡ Ok u

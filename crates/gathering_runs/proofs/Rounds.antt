@@ -104,22 +104,24 @@ module _ {Q : Type 0} (k : Service Q) (w : WorkCount Q k.States) (waits : Q → 
       (a.0, a.1, a.2, a.3, a.4, one_round_more rounds r a.0 m t (came0 ++ o.more) came (qs0 ++ all_of o.turns) qs a.1 mid new a.5 near turns all)
 
   -- so far, from the moment at which the journal was empty
-  pub record SoFar (s t : k.States) (came : List ℕ) (qs : List Q) (sent : List ℕ) (debt : ℕ) (new : Mark) : Type 0 where
+  pub record SoFar (s t : k.States) (came : List ℕ) (qs : List Q) (sent : List ℕ) (debt since : ℕ) (new : Mark) : Type 0 where
     pub begun : Mark
     pub of_port : port begun
+    pub not_before : since ≤ begun.clock
     pub nothing_sent : begun.sent ≡ sent
     pub no_more_left : w.debt begun.reads ≤ debt
     pub rounds : List (Round Q)
     pub each : ByRounds k w waits port p limit s [] [] rounds t came qs begun new
 
-  unfoldable pub so_far_none : (s t : k.States) (sent : List ℕ) (debt : ℕ) (new : Mark) → port new → new.sent ≡ sent → w.debt new.reads ≤ debt → s ≡ t → SoFar s t [] [] sent debt new
-  so_far_none s t sent debt new here same left state = record { begun = new; of_port = here; nothing_sent = same; no_more_left = left; rounds = []; each = (state, refl, refl, refl) }
+  unfoldable pub so_far_none : (s t : k.States) (sent : List ℕ) (debt since : ℕ) (new : Mark) → port new → since ≤ new.clock → new.sent ≡ sent → w.debt new.reads ≤ debt → s ≡ t → SoFar s t [] [] sent debt since new
+  so_far_none s t sent debt since new here later same left state = record { begun = new; of_port = here; not_before = later; nothing_sent = same; no_more_left = left; rounds = []; each = (state, refl, refl, refl) }
 
-  pub so_far_more : (s m t : k.States) (came more : List ℕ) (qs qs_more : List Q) (sent : List ℕ) (debt : ℕ) (mid new : Mark) → SoFar s m came qs sent debt mid → IsNear p limit came qs more → AllTurns k w waits port m t qs_more mid new → AreAll p limit (came ++ more) (qs ++ qs_more)
-      → SoFar s t (came ++ more) (qs ++ qs_more) sent debt new
-  so_far_more s m t came more qs qs_more sent debt mid new a near turns all = record {
+  pub so_far_more : (s m t : k.States) (came more : List ℕ) (qs qs_more : List Q) (sent : List ℕ) (debt since : ℕ) (mid new : Mark) → SoFar s m came qs sent debt since mid → IsNear p limit came qs more → AllTurns k w waits port m t qs_more mid new → AreAll p limit (came ++ more) (qs ++ qs_more)
+      → SoFar s t (came ++ more) (qs ++ qs_more) sent debt since new
+  so_far_more s m t came more qs qs_more sent debt since mid new a near turns all = record {
     begun = a.begun;
     of_port = a.of_port;
+    not_before = a.not_before;
     nothing_sent = a.nothing_sent;
     no_more_left = a.no_more_left;
     rounds = a.rounds ++ (record { more = more; turns = turns.turns }) ∷ [];
@@ -129,11 +131,12 @@ module _ {Q : Type 0} (k : Service Q) (w : WorkCount Q k.States) (waits : Q → 
   }
 
   -- a run that ended so
-  unfoldable pub ran_by_rounds : (r : Status) (s t last : k.States) (source : Taking) (came more : List ℕ) (qs : List Q) (turns : List (List Q)) (old mid stopped new : Mark) → SoFar s t came qs old.sent (w.debt old.reads) mid → source.came (came ++ more) → IsNear p limit came qs more
-      → ByTurns k w waits port t turns last mid stopped → (IsCutShort r → new ≡ mid) → (r ≡ status.Done → IsFinished w port stopped new) → RanByRounds r k w waits port p limit s source old new
-  ran_by_rounds r s t last source came more qs turns old mid stopped new a came_in near behind as_it_was done = record {
+  unfoldable pub ran_by_rounds : (r : Status) (s t last : k.States) (source : Taking) (came more : List ℕ) (qs : List Q) (turns : List (List Q)) (old mid stopped new : Mark) → SoFar s t came qs old.sent (w.debt old.reads) old.clock mid → source.came (came ++ more) → IsNear p limit came qs more
+      → ByTurns k w waits port t turns last mid stopped → stopped.clock ≤ new.clock → (IsCutShort r → new ≡ mid) → (r ≡ status.Done → IsFinished w port stopped new) → RanByRounds r k w waits port p limit s source old new
+  ran_by_rounds r s t last source came more qs turns old mid stopped new a came_in near behind later as_it_was done = record {
     begun = a.begun;
     of_port = a.of_port;
+    not_before = a.not_before;
     nothing_sent = a.nothing_sent;
     no_more_left = a.no_more_left;
     rounds = a.rounds;
@@ -149,6 +152,7 @@ module _ {Q : Type 0} (k : Service Q) (w : WorkCount Q k.States) (waits : Q → 
     last = last;
     stopped = stopped;
     behind = behind;
+    not_after = later;
     as_it_was = as_it_was;
     done = done;
   }
@@ -167,9 +171,10 @@ module _ {Q : Type 0} (k : Service Q) (w : WorkCount Q k.States) (waits : Q → 
     may_wait = d.may_wait;
     emptied = d.emptied;
     of_port = over d.emptied d.of_port;
+    not_before = d.not_before;
     nothing_sent = d.nothing_sent;
     writes = d.writes;
-    replied = record { replied = d.replied.replied; of_port = over d.replied.replied d.replied.of_port; sent = d.replied.sent; before = d.replied.before };
+    replied = record { replied = d.replied.replied; of_port = over d.replied.replied d.replied.of_port; between = d.replied.between; sent = d.replied.sent; before = d.replied.before };
   }
 
   turn_over : (s : k.States) (qs : List Q) (t : k.States) (old new : Mark) → IsTurn k w waits A s qs t old new → IsTurn k w waits B s qs t old new
@@ -199,6 +204,7 @@ module _ {Q : Type 0} (k : Service Q) (w : WorkCount Q k.States) (waits : Q → 
     settled = f.settled;
     reclaimed = reclaims_over w A B over f.groups old f.settled f.reclaimed;
     nothing_left = f.nothing_left;
+    not_after = f.not_after;
     nothing_sent = f.nothing_sent;
     writes = f.writes;
     still_nothing = f.still_nothing;
@@ -217,6 +223,7 @@ module _ {Q : Type 0} (k : Service Q) (w : WorkCount Q k.States) (waits : Q → 
   ran_over r p limit s source old new a = record {
     begun = a.begun;
     of_port = over a.begun a.of_port;
+    not_before = a.not_before;
     nothing_sent = a.nothing_sent;
     no_more_left = a.no_more_left;
     rounds = a.rounds;
@@ -232,6 +239,7 @@ module _ {Q : Type 0} (k : Service Q) (w : WorkCount Q k.States) (waits : Q → 
     last = a.last;
     stopped = a.stopped;
     behind = turns_over a.turns a.state a.last a.rested a.stopped a.behind;
+    not_after = a.not_after;
     as_it_was = a.as_it_was;
     done = λ is. finished_over a.stopped new (a.done is);
   }

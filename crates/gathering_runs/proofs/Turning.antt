@@ -1,5 +1,7 @@
 -- One turn behind the other.
-use Rattle.std.proofs.Common.{◌≡◌, List, [], ◌++◌, refl, sym, ◌∙◌, ap, subst, append-nil}
+use Rattle.std.proofs.Common.{◌≡◌, ◌≤◌, ℕ, List, [], ◌++◌, refl, sym, ◌∙◌, ap, subst, append-nil}
+use Rattle.std.proofs.Math.Bridge.{le_prop}
+use Rattle.std.proofs.Math.Logic.{∥∥₁_elim}
 use Rattle.std.specs.Prelude.{Result, Ok, Err, OnOk}
 use Rattle.image_device.specs.Image.{Image}
 use Rattle.image_device.specs.View.{View, IsSound}
@@ -22,6 +24,10 @@ use Rattle.tsd_words.specs.declared.status.Status.{Status}
 use Rattle.gathering_runs.proofs.Outcome.{err_is_if}
 use Rattle.gathering_runs.proofs.Sent.{sent_then}
 use Rattle.gathering_runs.proofs.Joined.{of_earlier, of_later, of_none, served_joined}
+
+-- time doesn't go back
+pub later_mere : (old new : View) (P : Image → List ℕ → Type 0) → ∥ LeavesOnly old new P ∥₁ → old.clock ≤ new.clock
+later_mere old new P leaves = ∥∥₁_elim leaves le_prop (λ (l : LeavesOnly old new P). l.later)
 
 module _ {Q : Type 0} (k : Service Q) (part : Image → Image) where
   -- what went well so far

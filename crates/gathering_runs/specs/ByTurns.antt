@@ -1,15 +1,15 @@
 -- How promptly a run of groups answered, how often it wrote, and what it left to be done, turn by turn.
 use Rattle.std.specs.Prelude.{◌≡◌, ◌⊎◌, ◌+◌, ◌≤◌, ◌<◌, ℕ, zero, suc, List, [], ◌∷◌, ◌++◌, All, Result, OnOk}
 use Rattle.serving.specs.Debts.{debt_after, debt_of}
-use Rattle.serving.specs.Prompt.{Mark}
+use Rattle.serving.specs.Prompt.{IsBetween, Mark}
 use Rattle.serving.specs.Runs.{Served}
 use Rattle.serving.specs.Service.{Service}
 use Rattle.serving.specs.Work.{WorkCount}
 
--- Requests were one group: from its first call to the sending of its last answer no more was written than what empties
--- a full journal, a batch of 113 homes, its descriptor and its gate.
+-- Requests were one group: from its first call to the sending of its last answer, which isn't before that, no more was
+-- written than what empties a full journal, a batch of 113 homes, its descriptor and its gate.
 abbrev pub IsGroup : Mark → Mark → Type 0
-IsGroup old new = new.writes ≤ old.writes + 236
+IsGroup old new = (old.clock ≤ new.clock) × (new.writes ≤ old.writes + 236)
 
 -- At a moment between these two the answer to a request was sent whole, and by then so often was written, where its
 -- work is bounded.
@@ -17,11 +17,12 @@ pub record IsReplied {Q S : Type 0} (w : WorkCount Q S) (port : Mark → Type 0)
     (old new : Mark) : Type 0 where
   pub replied : Mark
   pub of_port : port replied
+  pub between : IsBetween replied old new
   pub sent : replied.sent ≡ new.sent
   pub before : w.bounded q → replied.writes ≤ old.writes + w.before_answer s (w.debt old.reads) q
 
--- One request was carried out on the device itself: first the journal was emptied. It is one that may have to wait for
--- what is left to be done.
+-- One request was carried out on the device itself: first the journal was emptied, by a moment that isn't before the
+-- start. It is one that may have to wait for what is left to be done.
 pub record IsDirect {Q : Type 0} (k : Service Q) (w : WorkCount Q k.States) (waits : Q → Type 0) (port : Mark → Type 0)
     (s : k.States) (qs : List Q) (old new : Mark) : Type 0 where
   pub request : Q
@@ -29,6 +30,7 @@ pub record IsDirect {Q : Type 0} (k : Service Q) (w : WorkCount Q k.States) (wai
   pub may_wait : waits request
   pub emptied : Mark
   pub of_port : port emptied
+  pub not_before : old.clock ≤ emptied.clock
   pub nothing_sent : emptied.sent ≡ old.sent
   pub writes : emptied.writes ≤ old.writes + 121
   pub replied : IsReplied w port s request emptied new
@@ -110,6 +112,7 @@ pub record AnswersByTurns {Q T E : Type 0} (r : Result T E) (k : Service Q) (w :
   pub state : k.States
   pub rested : Mark
   pub each : ByTurns k w waits port s turns state old rested
+  pub not_after : rested.clock ≤ new.clock
   pub all : OnOk r ((rest ≡ []) × (state ≡ t) × (new ≡ rested))
 
 -- The end of a run: all that is left to be done is done, in groups of its own, and then the journal is emptied.
@@ -118,6 +121,7 @@ pub record IsFinished {Q S : Type 0} (w : WorkCount Q S) (port : Mark → Type 0
   pub settled : Mark
   pub reclaimed : Reclaims w port groups old settled
   pub nothing_left : w.debt settled.reads ≡ 0
+  pub not_after : settled.clock ≤ new.clock
   pub nothing_sent : new.sent ≡ settled.sent
   pub writes : new.writes ≤ settled.writes + 121
   pub still_nothing : w.debt new.reads ≡ 0

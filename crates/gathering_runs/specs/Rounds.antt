@@ -41,11 +41,13 @@ ByRounds k w waits port p limit s came qs (r ∷ rounds) t came_then qs_then old
 
 -- How a run that ended so went on from round to round. The journal was emptied first. Behind the last round that was
 -- answered, more bytes came, and some requests were answered by turns; where the input was cut short, none, and nothing
--- was written. Where all went well, all that was left to be done was done in the end.
+-- was written. Where all went well, all that was left to be done was done in the end. By the clock no moment here is
+-- before the one that it follows.
 pub record RanByRounds {Q : Type 0} (r : Status) (k : Service Q) (w : WorkCount Q k.States) (waits : Q → Type 0)
     (port : Mark → Type 0) (p : Spelling Q) (limit : ℕ) (s : k.States) (source : Taking) (old new : Mark) : Type 0 where
   pub begun : Mark
   pub of_port : port begun
+  pub not_before : old.clock ≤ begun.clock
   pub nothing_sent : begun.sent ≡ old.sent
   pub no_more_left : w.debt begun.reads ≤ w.debt old.reads
   pub rounds : List (Round Q)
@@ -61,5 +63,6 @@ pub record RanByRounds {Q : Type 0} (r : Status) (k : Service Q) (w : WorkCount 
   pub last : k.States
   pub stopped : Mark
   pub behind : ByTurns k w waits port state turns last rested stopped
+  pub not_after : stopped.clock ≤ new.clock
   pub as_it_was : IsCutShort r → new ≡ rested
   pub done : r ≡ status.Done → IsFinished w port stopped new

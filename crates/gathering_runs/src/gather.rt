@@ -1,6 +1,6 @@
 // Requests carried out on a disk in memory.
 ghost use Rattle.std.specs.Prelude.{◌≡◌, ◌<◌, ◌≤◌, ◌+◌, ◌-◌, ◌++◌, ◌⊎◌, ◌∷◌, [], ℕ, List, Ok, OnOk, OnErr, IfOk};
-ghost use Rattle.std.specs.Prelude.{true, false, unwrap_or};
+ghost use Rattle.std.specs.Prelude.{true, false};
 ghost use Rattle.image_device.specs.Counts.{Rose};
 ghost use Rattle.intent_journal.specs.Records.{AreClosed};
 ghost use Rattle.serving.specs.Goes.{remaining, unread};

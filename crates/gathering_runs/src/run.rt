@@ -1,8 +1,9 @@
 //! The loop over an input.
 
-ghost use Rattle.std.specs.Prelude.{◌≡◌, ◌≢◌, ◌≤◌, ◌+◌, [], OnOk, IfOk, IfErr};
-ghost use Rattle.image_device.specs.Counts.{CountsFaultOf, Rose};
+ghost use Rattle.std.specs.Prelude.{◌≡◌, ◌≤◌, ◌+◌, [], OnOk, IfOk, IfErr};
+ghost use Rattle.image_device.specs.Counts.{CountsFaultOf};
 ghost use Rattle.gathering.specs.Gathered.{cleared};
+ghost use Rattle.serving.specs.Faults.{TellsFaults};
 ghost use Rattle.serving.specs.Handling.{FitsDevice};
 ghost use Rattle.serving.specs.Prompt.{IsOfPort, mark};
 ghost use Rattle.serving.specs.Ran.{EndsOnce, moments, taking};
@@ -67,8 +68,8 @@ pub fn serve_in_groups<
     /// reclaimed than where each of its requests is served alone, with four steps behind it, where none is a sweep.
     /// Groups that only reclaim send nothing, and each lowers what is left: before a turn only where its first request
     /// may have to wait for them, behind a turn four at most, and in the end until nothing is left. Of what comes in a
-    /// round but the last 65,536 bytes make one request whole at most. Where the input was cut short, nothing was
-    /// written or sent behind the last round.
+    /// round but the last 65,536 bytes make one request whole at most. The moments that are named follow one another by
+    /// the port's clock. Where the input was cut short, nothing was written or sent behind the last round.
     ensures rounds { P.told → RanByRounds result.1 (spoken H.rules R.voice) H.work H.may_wait (IsOfPort P.view)
         R.spelling limit
         (H.state server.old (P.view port).reads)
@@ -81,15 +82,8 @@ pub fn serve_in_groups<
     // Nothing more is taken once the end was found.
     /// promise: Nothing is taken after the end of the input was found.
     ensures once { EndsOnce (S.ends source.old) (S.ends source.new) }
-    // A count of faults rose only where the status is that fault's.
-    /// promise (with device_fault, put_fault, no_source_fault, no_device_fault, no_put_fault): A count of faults rose
-    /// exactly where the status is that fault's.
-    ensures source_fault { result.1 ≡ Status.SourceFault → Rose (S.faults source.old) (S.faults source.new) }
-    ensures device_fault { result.1 ≡ Status.DeviceFault → Rose (P.view port).faults (P.view result.0).faults }
-    ensures put_fault { result.1 ≡ Status.PutFault → Rose (P.view port).put_faults (P.view result.0).put_faults }
-    ensures no_source_fault { result.1 ≢ Status.SourceFault → S.faults source.new ≡ S.faults source.old }
-    ensures no_device_fault { result.1 ≢ Status.DeviceFault → (P.view result.0).faults ≡ (P.view port).faults }
-    ensures no_put_fault { result.1 ≢ Status.PutFault → (P.view result.0).put_faults ≡ (P.view port).put_faults }
+    /// promise: A count of faults rose exactly where the status is that fault's.
+    ensures faults { TellsFaults result.1 (S.faults source.old) (S.faults source.new) (P.view port) (P.view result.0) }
 {
     let mut port = port;
     let (ring, room) = match begin::<P, R, H>(alloc, server, &mut port) {

@@ -5,7 +5,7 @@ use Rattle.std.specs.Char.{is_ascii_digit}
 use Rattle.std.proofs.lemmas.Slice.Eq.{bytes_eq-Decides}
 use Rattle.tsd_model.specs.declared.requests.Hint.{Hint}
 use Rattle.tsd_model.specs.declared.requests.Hint.TheVariants.{Null, At}
-use Rattle.script_text.specs.Grammar.{Field, Verb, Number, Near, IsNumber, IsHint, IsField, AreFields}
+use Rattle.script_text.specs.Grammar.{line_max, held_max, Field, Verb, Number, Near, IsNumber, IsHint, IsField, AreFields}
 use Rattle.script_text.specs.Reading.{reads, num_of, hint_of, Words, ◌>>=◌}
 use Rattle.script_text.proofs.PiecesLaws.{take_all}
 use Rattle.script_text.proofs.SpellingLaws.{bind_some, weaker}
@@ -182,20 +182,20 @@ words_long l (a ∷ b ∷ c ∷ d ∷ e ∷ f ∷ g ∷ ws) h = absurd h.1.1.1.1
 pub line_long : (line : List ℕ) (l : Listing) → IsListing line l → length line ≤ 51
 line_long line l h = subst (λ (x : List ℕ). length x ≤ 51) (sym h.parted) (words_long l h.words h.spelled)
 
-says_none : (line : List ℕ) → 8400 < length line → listing_of line ≡ None
+says_none : (line : List ℕ) → line_max < length line → listing_of line ≡ None
 says_none line long = elim (listing_of line) as (λ o. listing_of line ≡ o → o ≡ None) [
   | None ↦ λ _. refl
   | Some l ↦ λ e. let few = line_long line l (line_is line l e) in absurd (omega (arith, long, few))
 ] refl
 
--- a line that is cut after 8,401 bytes says as little as the whole
-pub listing_of-cut : (line : List ℕ) → listing_of (take 8401 line) ≡ listing_of line
-listing_of-cut line = elim (nat_lt 8400 (length line)) as (λ t. nat_lt 8400 (length line) ≡ t → listing_of (take 8401 line) ≡ listing_of line) [
+-- a line that is cut after `held_max` bytes says as little as the whole
+pub listing_of-cut : (line : List ℕ) → listing_of (take held_max line) ≡ listing_of line
+listing_of-cut line = elim (nat_lt line_max (length line)) as (λ t. nat_lt line_max (length line) ≡ t → listing_of (take held_max line) ≡ listing_of line) [
   | true ↦ λ e.
-      let long = ltb-true 8400 (length line) e in
-      let cut = length-take 8401 line in
-      says_none (take 8401 line) (omega (arith, long, cut)) ∙ sym (says_none line long)
-  | false ↦ λ e. let short = ltb-false 8400 (length line) e in ap listing_of (take_all line 8401 (omega (arith, short)))
+      let long = ltb-true line_max (length line) e in
+      let cut = length-take held_max line in
+      says_none (take held_max line) (omega (arith, long, cut)) ∙ sym (says_none line long)
+  | false ↦ λ e. let short = ltb-false line_max (length line) e in ap listing_of (take_all line held_max (omega (arith, short)))
 ] refl
 
 -- ---- which block may follow

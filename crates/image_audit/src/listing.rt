@@ -1,6 +1,7 @@
 //! A line of a certificate.
 
 ghost use Rattle.std.specs.Prelude.{◌≡◌, ℕ, List, IfSome, Some, take};
+ghost use Rattle.script_text.specs.Grammar.{held_max};
 ghost use Rattle.image_audit.specs.Listing.{IsListing};
 ghost use Rattle.image_audit.specs.ListingReading.{listing_in, listing_of};
 
@@ -20,7 +21,7 @@ pub fn parse_listing(line: &[u8]) -> Option<Listing>
     ensures spelled { IfSome result (IsListing line.now) }
     ensures only { (l : Listing) → IsListing line.now l → result ≡ Some l }
     // A line of more than 8,400 bytes says none, whole or cut to one byte more than that.
-    ensures cut { (whole : List ℕ) → line.now ≡ take 8401 whole → result ≡ listing_of whole }
+    ensures cut { (whole : List ℕ) → line.now ≡ take held_max whole → result ≡ listing_of whole }
     // As a function that computes.
     ensures value { result ≡ listing_of line.now }
 {

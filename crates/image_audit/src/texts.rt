@@ -1,7 +1,7 @@
 //! The lines of an audit: of a certificate, and of what it shows.
 
 ghost use Rattle.std.specs.List.{join_with_byte};
-ghost use Rattle.std.specs.Prelude.{◌≡◌, ◌+◌, ◌≤◌, ◌++◌, ◌∷◌, [], length, codes, decimal};
+ghost use Rattle.std.specs.Prelude.{◌≡◌, ◌+◌, ◌≤◌, ◌++◌, ◌∷◌, length, codes, decimal};
 ghost use Rattle.tsd_words.specs.Lines.{line_of};
 ghost use Rattle.script_text.specs.Grammar.{IsNumber, IsHint};
 ghost use Rattle.image_audit.specs.Listing.{IsListing, parent_word};

@@ -1,13 +1,13 @@
 //! One copy over an image.
 
-ghost use Rattle.std.specs.Prelude.{◌≡◌, ◌≢◌, false};
+ghost use Rattle.std.specs.Prelude.{◌≡◌, false};
 ghost use Rattle.gathered_tasks.specs.Rooms.{IsFree};
-ghost use Rattle.image_device.specs.Counts.{Rose};
 ghost use Rattle.image_device.specs.Runs.{IsFirm, LeavesOnly};
 ghost use Rattle.image_world.specs.Behind.{LeavesBehind};
 ghost use Rattle.image_runs.specs.Looking.{OnlyLooks};
 ghost use Rattle.recovery.specs.Opening.{IsForeign, IsUntouched, SparesDamaged, StandAlike};
 ghost use Rattle.volume_laws.specs.Volume.{IsVolumeAt, IsVolumeReady, told_by};
+ghost use Rattle.serving.specs.Faults.{TellsPortFaults};
 ghost use Rattle.image_copy.specs.Copied.{HasCopied, IsCopyEnding, IsCopyJudged, IsKeptOut, IsLeftOfCopy, IsNotBegun};
 ghost use Rattle.image_copy.specs.Copied.{AreAdmitted, source, target};
 ghost use Rattle.image_copy.specs.Steps.{CarriesOut, CopiesFrom};
@@ -65,11 +65,7 @@ pub fn copy_over_image<A: Walks, B: Files, L: Placing, P: Port>(
     ensures spared { P.told → SparesDamaged (P.view port.old) (P.view port.new) }
     // However it ended, a crash at any moment leaves what lies behind the image as it was.
     ensures behind { P.told → IsFirm (P.view port.old) → LeavesBehind (P.view port.old) (P.view port.new) }
-    // A count of faults rose only where the status is that fault's.
-    ensures device_fault { result ≡ Status.DeviceFault → Rose (P.view port.old).faults (P.view port.new).faults }
-    ensures put_fault { result ≡ Status.PutFault → Rose (P.view port.old).put_faults (P.view port.new).put_faults }
-    ensures no_device_fault { result ≢ Status.DeviceFault → (P.view port.new).faults ≡ (P.view port.old).faults }
-    ensures no_put_fault { result ≢ Status.PutFault → (P.view port.new).put_faults ≡ (P.view port.old).put_faults }
+    ensures faults { TellsPortFaults result (P.view port.old) (P.view port.new) }
 {
     match carry_out(alloc, from, into, words, placement, port) {
         Ok(end) => match put_all(port, end_line(&end).as_slice()) {

@@ -1,12 +1,12 @@
 //! The two file systems, each as a source and as a target.
 
-ghost use Rattle.std.specs.Prelude.{◌≡◌, ◌≢◌};
-ghost use Rattle.image_device.specs.Counts.{Rose};
+ghost use Rattle.std.specs.Prelude.{◌≡◌};
 ghost use Rattle.image_device.specs.Runs.{IsFirm, LeavesOnly};
 ghost use Rattle.image_world.specs.Behind.{LeavesBehind};
 ghost use Rattle.image_runs.specs.Looking.{OnlyLooks};
 ghost use Rattle.recovery.specs.Opening.{IsForeign, IsUntouched, SparesDamaged, StandAlike};
 ghost use Rattle.fs_trees.specs.declared.ask.ShellKind.TheVariants as kind;
+ghost use Rattle.serving.specs.Faults.{TellsPortFaults};
 ghost use Rattle.image_copy.specs.Copied.{HasCopied, IsCopyEnding, IsCopyJudged, IsKeptOut, IsLeftOfCopy, IsNotBegun};
 ghost use Rattle.image_copy.specs.Copied.{source};
 
@@ -72,13 +72,8 @@ pub fn copy_image<P: Port>(
     ensures spared { P.told → SparesDamaged (P.view port.old) (P.view port.new) }
     // However it ended, a crash at any moment leaves what lies behind the image as it was.
     ensures behind { P.told → IsFirm (P.view port.old) → LeavesBehind (P.view port.old) (P.view port.new) }
-    // A count of faults rose only where the status is that fault's.
-    /// promise (with put_fault, no_device_fault, no_put_fault): A count of faults rose exactly where the status is that
-    /// fault's.
-    ensures device_fault { result ≡ Status.DeviceFault → Rose (P.view port.old).faults (P.view port.new).faults }
-    ensures put_fault { result ≡ Status.PutFault → Rose (P.view port.old).put_faults (P.view port.new).put_faults }
-    ensures no_device_fault { result ≢ Status.DeviceFault → (P.view port.new).faults ≡ (P.view port.old).faults }
-    ensures no_put_fault { result ≢ Status.PutFault → (P.view port.new).put_faults ≡ (P.view port.old).put_faults }
+    /// promise: A count of faults rose exactly where the status is that fault's.
+    ensures faults { TellsPortFaults result (P.view port.old) (P.view port.new) }
 {
     match words.from.layout {
         ShellKind::Inode => match InodeFs::new(
@@ -132,11 +127,7 @@ fn copy_from<A: Walks, P: Port>(
     ensures spared { P.told → SparesDamaged (P.view port.old) (P.view port.new) }
     // However it ended, a crash at any moment leaves what lies behind the image as it was.
     ensures behind { P.told → IsFirm (P.view port.old) → LeavesBehind (P.view port.old) (P.view port.new) }
-    // A count of faults rose only where the status is that fault's.
-    ensures device_fault { result ≡ Status.DeviceFault → Rose (P.view port.old).faults (P.view port.new).faults }
-    ensures put_fault { result ≡ Status.PutFault → Rose (P.view port.old).put_faults (P.view port.new).put_faults }
-    ensures no_device_fault { result ≢ Status.DeviceFault → (P.view port.new).faults ≡ (P.view port.old).faults }
-    ensures no_put_fault { result ≢ Status.PutFault → (P.view port.new).put_faults ≡ (P.view port.old).put_faults }
+    ensures faults { TellsPortFaults result (P.view port.old) (P.view port.new) }
 {
     match words.into.layout {
         ShellKind::Inode => match InodeFs::new(

@@ -7,7 +7,7 @@
 //!
 //! [`MemStation`], [`FuseStation`] and [`MemSource`] are proved against the traits: a disk and a port in
 //! memory that tell every image left since any moment, the same stopped after some calls, and bytes that
-//! come in pieces. [`put_all`], [`write_through`] and [`write_run`] work over any device. What a list of
+//! come in pieces. [`put_all`] and [`write_through`] work over any device. What a list of
 //! [`Event`]s makes of a disk, and what a crash leaves of it, is in `specs/History.antt` for any disk in memory.
 #![tactic(auto)]
 
@@ -32,4 +32,4 @@ pub use mem_source::MemSource;
 pub use put::put_all;
 pub use source::Source;
 pub use work_done::WorkDone;
-pub use write::{write_run, write_through};
+pub use write::write_through;

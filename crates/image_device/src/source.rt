@@ -1,6 +1,6 @@
 // Where the program's input comes from.
 ghost use Rattle.std.specs.Prelude.{◌≡◌, ◌≤◌, ◌<◌, ◌++◌, ◌↔◌, [], ℕ, List, length, take};
-ghost use Rattle.std.specs.Prelude.{drop, OnOk, OnErr, IfOk};
+ghost use Rattle.std.specs.Prelude.{drop, OnErr, IfOk};
 ghost use Rattle.image_device.specs.Counts.{CountsEnd, CountsFault};
 
 use crate::Failed;

@@ -1,5 +1,5 @@
 -- What a run over an image did that was served in groups.
-use Rattle.std.specs.Prelude.{◌≡◌, ◌⊎◌, ℕ, List, []}
+use Rattle.std.specs.Prelude.{◌≡◌, ◌⊎◌, ℕ, ◌≤◌, List, []}
 use Rattle.tsd_model.specs.World.{World}
 use Rattle.tsd_model.specs.declared.requests.PlaceKind.{PlaceKind}
 use Rattle.tsd_model.specs.declared.requests.Request.{Request}
@@ -40,6 +40,7 @@ pub record ImageRanByRounds (r : Status) (v : Voice) (p : Spelling Request) (kin
     (limit : ℕ) (source : Taking) (old new : View) : Type 0 where
   pub opened : Mark
   pub of_port : port opened
+  pub not_before : old.clock ≤ opened.clock
   pub nothing_sent : opened.sent ≡ old.sent
   pub rounds : RanByRounds r (disk_service v) disk_work MayWait port p limit (start_of kind old.reads) source opened
       (mark new)

@@ -1,10 +1,10 @@
 //! An image opened and served in groups, over a port that is lent.
 
-ghost use Rattle.std.specs.Prelude.{◌≡◌, ◌≢◌, ◌≤◌, []};
-ghost use Rattle.image_device.specs.Counts.{Rose};
+ghost use Rattle.std.specs.Prelude.{◌≡◌, ◌≤◌, []};
 ghost use Rattle.image_device.specs.Runs.{IsFirm};
 ghost use Rattle.image_world.specs.Behind.{LeavesBehind};
 ghost use Rattle.recovery.specs.Opening.{IsForeign, IsUntouched, SparesDamaged};
+ghost use Rattle.serving.specs.Faults.{TellsFaults};
 ghost use Rattle.serving.specs.Prompt.{IsOfPort};
 ghost use Rattle.serving.specs.Ran.{EndsOnce, moments, taking};
 ghost use Rattle.image_runs.specs.Opened.{IsJudged};
@@ -52,13 +52,8 @@ pub fn serve_port_in_groups<S: Source, P: Port, R: Protocol<Request = Request> +
     /// there is one, and none is picked.
     ensures behind { P.told → IsFirm (P.view port.old) → ∥ LeavesBehind (P.view port.old) (P.view port.new) ∥₁ }
     ensures once { EndsOnce (S.ends source.old) (S.ends source.new) }
-    // A count of faults rose only where the status is that fault's.
-    ensures source_fault { result ≡ Status.SourceFault → Rose (S.faults source.old) (S.faults source.new) }
-    ensures device_fault { result ≡ Status.DeviceFault → Rose (P.view port.old).faults (P.view port.new).faults }
-    ensures put_fault { result ≡ Status.PutFault → Rose (P.view port.old).put_faults (P.view port.new).put_faults }
-    ensures no_source_fault { result ≢ Status.SourceFault → S.faults source.new ≡ S.faults source.old }
-    ensures no_device_fault { result ≢ Status.DeviceFault → (P.view port.new).faults ≡ (P.view port.old).faults }
-    ensures no_put_fault { result ≢ Status.PutFault → (P.view port.new).put_faults ≡ (P.view port.old).put_faults }
+    ensures faults { TellsFaults result (S.faults source.old) (S.faults source.new) (P.view port.old)
+        (P.view port.new) }
 {
     let loan = Loan { port };
     let served = serve_loan::<S, P, R, Brand>(alloc, placement, protocol, source, loan, limit);
@@ -91,16 +86,8 @@ fn serve_loan<'a, S: Source, P: Port, R: Protocol<Request = Request> + Replies, 
     ensures behind { P.told → IsFirm (P.view loan.entry.port.now)
         → ∥ LeavesBehind (P.view loan.entry.port.now) (P.view result.0.port.now) ∥₁ }
     ensures once { EndsOnce (S.ends source.old) (S.ends source.new) }
-    ensures source_fault { result.1 ≡ Status.SourceFault → Rose (S.faults source.old) (S.faults source.new) }
-    ensures device_fault { result.1 ≡ Status.DeviceFault
-        → Rose (P.view loan.entry.port.now).faults (P.view result.0.port.now).faults }
-    ensures put_fault { result.1 ≡ Status.PutFault
-        → Rose (P.view loan.entry.port.now).put_faults (P.view result.0.port.now).put_faults }
-    ensures no_source_fault { result.1 ≢ Status.SourceFault → S.faults source.new ≡ S.faults source.old }
-    ensures no_device_fault { result.1 ≢ Status.DeviceFault
-        → (P.view result.0.port.now).faults ≡ (P.view loan.entry.port.now).faults }
-    ensures no_put_fault { result.1 ≢ Status.PutFault
-        → (P.view result.0.port.now).put_faults ≡ (P.view loan.entry.port.now).put_faults }
+    ensures faults { TellsFaults result.1 (S.faults source.old) (S.faults source.new) (P.view loan.entry.port.now)
+        (P.view result.0.port.now) }
 {
     let lent = Lent::<P, K>::new(loan);
     let (lent, status) = serve_image_in_groups(alloc, placement, protocol, source, lent, limit);

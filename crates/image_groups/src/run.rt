@@ -1,10 +1,10 @@
 //! An image opened and served in groups.
 
-ghost use Rattle.std.specs.Prelude.{◌≡◌, ◌≢◌, ◌≤◌, []};
-ghost use Rattle.image_device.specs.Counts.{Rose};
+ghost use Rattle.std.specs.Prelude.{◌≤◌, []};
 ghost use Rattle.image_device.specs.Runs.{IsFirm};
 ghost use Rattle.image_world.specs.Behind.{LeavesBehind};
 ghost use Rattle.recovery.specs.Opening.{IsForeign, IsUntouched, SparesDamaged};
+ghost use Rattle.serving.specs.Faults.{TellsFaults};
 ghost use Rattle.serving.specs.Prompt.{IsOfPort};
 ghost use Rattle.serving.specs.Ran.{EndsOnce, moments, taking};
 ghost use Rattle.image_runs.specs.Opened.{IsJudged};
@@ -60,13 +60,7 @@ pub fn serve_image_in_groups<S: Source, P: Port, R: Protocol<Request = Request> 
     ensures behind { P.told → IsFirm (P.view port) → ∥ LeavesBehind (P.view port) (P.view result.0) ∥₁ }
     /// promise: Nothing is taken after the end of the input was found.
     ensures once { EndsOnce (S.ends source.old) (S.ends source.new) }
-    // A count of faults rose only where the status is that fault's.
-    ensures source_fault { result.1 ≡ Status.SourceFault → Rose (S.faults source.old) (S.faults source.new) }
-    ensures device_fault { result.1 ≡ Status.DeviceFault → Rose (P.view port).faults (P.view result.0).faults }
-    ensures put_fault { result.1 ≡ Status.PutFault → Rose (P.view port).put_faults (P.view result.0).put_faults }
-    ensures no_source_fault { result.1 ≢ Status.SourceFault → S.faults source.new ≡ S.faults source.old }
-    ensures no_device_fault { result.1 ≢ Status.DeviceFault → (P.view result.0).faults ≡ (P.view port).faults }
-    ensures no_put_fault { result.1 ≢ Status.PutFault → (P.view result.0).put_faults ≡ (P.view port).put_faults }
+    ensures faults { TellsFaults result.1 (S.faults source.old) (S.faults source.new) (P.view port) (P.view result.0) }
 {
     let mut port = port;
     match open_core(alloc, &mut port) {

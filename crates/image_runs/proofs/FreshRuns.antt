@@ -102,13 +102,17 @@ ran_formatted r v p kind w limit source tells same since old mid new counted don
 }
 
 -- how promptly, from formatting on
-pub prompt_formatted : (r : Status) (v : Voice) (kind : PlaceKind) (w : World) (port : Mark → Type 0) (old mid new : View) → Formatted w old mid → IsPromptRun r v kind port mid new → IsPromptFresh r v kind w port old new
-prompt_formatted r v kind w port old mid new done p = record {
-  opened = p.opened;
-  of_port = p.of_port;
-  sent = p.sent ∙ done.formatted.sent;
-  writes = λ _. omega (arith, p.writes done.formatted.quiet, done.uses.most);
-  prompt = subst (λ (u : World). Promptly r (disk_service v) disk_work port (fresh_start kind u) p.opened (mark new)) (sym done.formatted.stands.world) p.prompt;
+pub prompt_formatted : (r : Status) (v : Voice) (kind : PlaceKind) (w : World) (port : Mark → Type 0) (p : Spelling Request) (limit : ℕ) (source : Taking) (old mid new : View) → Formatted w old mid → IsPromptRun r v kind port p limit source mid new → IsPromptFresh r v kind w port p limit source old new
+prompt_formatted r v kind w port p limit source old mid new done run = record {
+  opened = run.opened;
+  of_port = run.of_port;
+  not_before = let first = done.uses.clock in let then = run.not_before in omega (arith, first, then);
+  sent = run.sent ∙ done.formatted.sent;
+  writes = λ _. omega (arith, run.writes done.formatted.quiet, done.uses.most);
+  prompt = elim run.prompt [
+    | inl unserved ↦ inl unserved
+    | inr prompt ↦ inr (subst (λ (u : World). Promptly r (disk_service v) disk_work port p limit (fresh_start kind u) source run.opened (mark new)) (sym done.formatted.stands.world) prompt)
+  ];
 }
 
 -- a run that ended in formatting

@@ -1,7 +1,7 @@
 -- A disk that was opened, and a run from there as one from the start.
 use Rattle.std.proofs.Common.{◌≡◌, inl, inr, ℕ, ◌≤◌, Bool, true, false, List, [], refl, sym, ◌∙◌, ap, subst, append-nil, arith}
 use Rattle.std.specs.Prelude.{All}
-use Rattle.image_runs.proofs.Common.{World, State, at_rest, PlaceKind, Request, View, IsFirm, LeavesOnly, joined, weakened, leaves_both, Image, home, Stands, world_of, tables_of, StandAlike, IsQuiet, IsGood, Status, IsPaidFor, HasDebt, Spelling, Placed, Mark, Promptly, ByStatus, AskedBy, IsAcknowledged, IsCounted, Voice, Core, state_on, debt, disk_work, placed_on, IsUnopened, IsJudged, disk_service, start_of, IsAtEase, IsOwed, RunEnds}
+use Rattle.image_runs.proofs.Common.{World, State, at_rest, PlaceKind, Request, View, IsFirm, LeavesOnly, joined, weakened, leaves_both, Image, home, Stands, world_of, tables_of, StandAlike, IsQuiet, IsGood, Status, IsPaidFor, HasDebt, Spelling, Placed, ByStatus, AskedBy, IsAcknowledged, IsCounted, Voice, Core, state_on, debt, disk_work, placed_on, IsUnopened, IsJudged, disk_service, start_of, IsAtEase, IsOwed, RunEnds}
 use Rattle.tsd_words.specs.declared.status.Status.TheVariants as status
 use Rattle.serving.specs.Ran.{Ends as Served}
 use Rattle.serving.specs.Seen.{IsLeftInRun}
@@ -67,22 +67,6 @@ paid_from v s before qs sent less more now le p = record {
 pub paid_nothing : (v : Voice) (s : Placed) (before sent : List ℕ) (start now : ℕ) → IsCounted (disk_service v) → sent ≡ before → now ≤ start → IsPaidFor (disk_service v) disk_work s before [] sent start now
 paid_nothing v s before sent start now counted same le =
     record { answered = []; rest = []; parts = refl; answers = []; state = s; run = refl; front = []; sent = same ∙ sym (append-nil before); count = counted.nothing; paid = λ bounded. omega (arith, le) }
-
--- nothing was answered since this moment
-pub prompt_nothing : (r : Status) (v : Voice) (port : Mark → Type 0) (s : Placed) (now : Mark) → IsCounted (disk_service v) → Promptly r (disk_service v) disk_work port s now now
-prompt_nothing r v port s now counted = record {
-  answered = [];
-  answers = [];
-  state = s;
-  run = refl;
-  rested = now;
-  each = refl;
-  front = [];
-  sent = sym (append-nil now.sent);
-  one_more = omega (arith, counted.nothing);
-  all = λ fine. counted.nothing;
-  as_it_was = λ cut. refl;
-}
 
 -- what is known of opening: what a crash leaves, and how often was written
 pub record OpenedBy (old mid : View) (owed : ℕ) : Type 0 where

@@ -75,9 +75,11 @@ pub record FreshEnds (r : Status) (v : Voice) (kind : PlaceKind) (w : World) (ol
   pub done : r ≡ status.Done → IsAtEase new final.state.world
 
 -- how promptly a run answered, the format besides
-abbrev pub IsPromptFresh : Status → Voice → PlaceKind → World → (Mark → Type 0) → View → View → Type 0
-IsPromptFresh r v kind w port old new =
-    IsPromptFrom r v port (fresh_start kind w) old.sent ⊤ (old.writes + format_writes w.geometry) (mark new)
+abbrev pub IsPromptFresh : Status → Voice → PlaceKind → World → (Mark → Type 0) → Spelling Request → ℕ → Taking → View
+    → View → Type 0
+IsPromptFresh r v kind w port p limit source old new =
+    IsPromptFrom r v port p limit (fresh_start kind w) source ⊤ (old.writes + format_writes w.geometry) (mark old)
+    (mark new)
 
 -- Bytes that came in, the requests that were asked by them, and how the run over these ended, where the port tells.
 pub record FreshRan (r : Status) (v : Voice) (p : Spelling Request) (kind : PlaceKind) (w : World) (limit : ℕ)

@@ -72,19 +72,27 @@ pub record RunEnds (r : Status) (v : Voice) (kind : PlaceKind) (old new : View) 
       → IsPaidFor (disk_service v) disk_work (start_of kind old.reads) old.sent asked new.sent old.writes new.writes
   pub done : r ≡ status.Done → IsAtEase new final.state.world
 
+-- Nothing was opened, so nothing was served: the source is as it was, and nothing is done from then on.
+pub record IsUnserved (r : Status) (source : Taking) (stopped new : Mark) : Type 0 where
+  pub why : IsUnopened r
+  pub untouched : source.untouched
+  pub nothing : new ≡ stopped
+
 -- How promptly a run answered: from a moment at which the image was opened, with nothing sent and, where nothing was
--- left to be done at the start, so often written at most.
-pub record IsPromptFrom (r : Status) (v : Voice) (port : Mark → Type 0) (s : Placed) (before : List ℕ) (quiet : Type 0)
-    (most : ℕ) (new : Mark) : Type 0 where
+-- left to be done at the start, so often written at most. Or nothing was opened, by that moment.
+pub record IsPromptFrom (r : Status) (v : Voice) (port : Mark → Type 0) (p : Spelling Request) (limit : ℕ) (s : Placed)
+    (source : Taking) (quiet : Type 0) (most : ℕ) (old new : Mark) : Type 0 where
   pub opened : Mark
   pub of_port : port opened
-  pub sent : opened.sent ≡ before
+  pub not_before : old.clock ≤ opened.clock
+  pub sent : opened.sent ≡ old.sent
   pub writes : quiet → opened.writes ≤ most
-  pub prompt : Promptly r (disk_service v) disk_work port s opened new
+  pub prompt : IsUnserved r source opened new ⊎ Promptly r (disk_service v) disk_work port p limit s source opened new
 
-abbrev pub IsPromptRun : Status → Voice → PlaceKind → (Mark → Type 0) → View → View → Type 0
-IsPromptRun r v kind port old new =
-    IsPromptFrom r v port (start_of kind old.reads) old.sent (IsQuiet old.reads) old.writes (mark new)
+abbrev pub IsPromptRun : Status → Voice → PlaceKind → (Mark → Type 0) → Spelling Request → ℕ → Taking → View → View
+    → Type 0
+IsPromptRun r v kind port p limit source old new =
+    IsPromptFrom r v port p limit (start_of kind old.reads) source (IsQuiet old.reads) old.writes (mark old) (mark new)
 
 -- Bytes that came in, the requests that were asked by them, and how the run over these ended, where the port tells.
 pub record ImageRan (r : Status) (v : Voice) (p : Spelling Request) (kind : PlaceKind) (limit : ℕ) (source : Taking)

@@ -1,10 +1,10 @@
 //! `format`: a disk made anew, with capabilities of a seed.
 
-ghost use Rattle.std.specs.Prelude.{◌≡◌, ◌≢◌, ◌≤◌, length, take};
+ghost use Rattle.std.specs.Prelude.{◌≡◌, ◌≢◌, ◌≤◌, length};
 ghost use Rattle.tsd_model.specs.Geometry.{IsLawful};
-ghost use Rattle.image_device.specs.Counts.{Rose};
 ghost use Rattle.image_layout.specs.declared.fault.ImageFault.{ImageFault};
 ghost use Rattle.image_device.specs.Runs.{IsFirm, LeavesOnly};
+ghost use Rattle.serving.specs.Faults.{TellsPortFaults};
 ghost use Rattle.image_runs.specs.Behind.{LeavesSectorsBehind};
 ghost use Rattle.image_runs.specs.Sending.{IsEnding};
 ghost use Rattle.image_runs.specs.Format.{HasFormatted, IsLeftOfFormat, caps_of};
@@ -37,11 +37,7 @@ pub fn format_image<P: Port>(port: &mut P, words: &Format) -> Status
     /// promise: The sectors after the image stay as they are.
     ensures behind { P.told → IsFirm (P.view port.old) → LeavesSectorsBehind words.now.geometry (P.view port.old)
         (P.view port.new) }
-    // A count of faults rose only where the status is that fault's.
-    ensures device_fault { result ≡ Status.DeviceFault → Rose (P.view port.old).faults (P.view port.new).faults }
-    ensures put_fault { result ≡ Status.PutFault → Rose (P.view port.old).put_faults (P.view port.new).put_faults }
-    ensures no_device_fault { result ≢ Status.DeviceFault → (P.view port.new).faults ≡ (P.view port.old).faults }
-    ensures no_put_fault { result ≢ Status.PutFault → (P.view port.new).put_faults ≡ (P.view port.old).put_faults }
+    ensures faults { TellsPortFaults result (P.view port.old) (P.view port.new) }
 {
     let caps = caps_of(words);
     match format(port, &words.geometry, &caps) {

@@ -1,10 +1,10 @@
 //! One run over an image that is formatted first.
 
-ghost use Rattle.std.specs.Prelude.{◌≡◌, ◌≢◌, ◌≤◌, ◌∷◌, []};
-ghost use Rattle.image_device.specs.Counts.{Rose};
+ghost use Rattle.std.specs.Prelude.{◌≡◌, ◌≤◌, ◌∷◌, []};
 ghost use Rattle.image_device.specs.Runs.{IsFirm};
 ghost use Rattle.image_runs.specs.Behind.{LeavesSameBehind};
 ghost use Rattle.image_runs.specs.Fresh.{FreshRan, IsPromptFresh, single_world};
+ghost use Rattle.serving.specs.Faults.{TellsFaults};
 ghost use Rattle.serving.specs.Prompt.{IsOfPort};
 ghost use Rattle.serving.specs.Ran.{EndsOnce, moments, taking};
 ghost use Rattle.tsd_model.specs.Geometry.{IsLawful};
@@ -44,19 +44,15 @@ pub fn serve_fresh<S: Source, P: Port, R: Protocol<Request = Request> + Replies>
     // What is written before each reply has a bound, and what is written behind it; where the input was cut short,
     // nothing is done behind the last one but that.
     ensures prompt { P.told → IsPromptFresh result R.voice placement.now.kind (single_world geometry.now caps.now)
-        (IsOfPort P.view) (P.view port.old) (P.view port.new) }
+        (IsOfPort P.view) R.spelling limit (taking S.told S.taken S.left_bytes S.ended source.old source.new)
+        (P.view port.old) (P.view port.new) }
     /// promise: In each image that a crash leaves, the sectors after the image are as they were, or are to be so once
     /// the records of the journal are in place.
     ensures behind { P.told → IsFirm (P.view port.old) → LeavesSameBehind geometry.now (P.view port.old)
         (P.view port.new) }
     ensures once { EndsOnce (S.ends source.old) (S.ends source.new) }
-    // A count of faults rose only where the status is that fault's.
-    ensures source_fault { result ≡ Status.SourceFault → Rose (S.faults source.old) (S.faults source.new) }
-    ensures device_fault { result ≡ Status.DeviceFault → Rose (P.view port.old).faults (P.view port.new).faults }
-    ensures put_fault { result ≡ Status.PutFault → Rose (P.view port.old).put_faults (P.view port.new).put_faults }
-    ensures no_source_fault { result ≢ Status.SourceFault → S.faults source.new ≡ S.faults source.old }
-    ensures no_device_fault { result ≢ Status.DeviceFault → (P.view port.new).faults ≡ (P.view port.old).faults }
-    ensures no_put_fault { result ≢ Status.PutFault → (P.view port.new).put_faults ≡ (P.view port.old).put_faults }
+    ensures faults { TellsFaults result (S.faults source.old) (S.faults source.new) (P.view port.old)
+        (P.view port.new) }
 {
     match format(port, geometry, &one_pair(caps)) {
         Ok(()) => serve_image(alloc, placement, protocol, source, port, limit),

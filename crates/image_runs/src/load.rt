@@ -1,8 +1,8 @@
 //! `load`: the requests of a seed, carried out.
 
 ghost use Rattle.std.specs.Prelude.{◌≡◌, ◌≢◌, ℕ, ◌+◌, ◌<◌, ◌≤◌, ◌⊎◌, ◌^◌, IfOk};
-ghost use Rattle.std.specs.Prelude.{OnOk, OnErr, IfErr};
-ghost use Rattle.image_device.specs.Counts.{CountsFaultOf, Rose};
+ghost use Rattle.std.specs.Prelude.{OnOk, IfErr};
+ghost use Rattle.image_device.specs.Counts.{CountsFaultOf};
 ghost use Rattle.image_device.specs.Runs.{IsFirm, LeavesOnly, LeavesPart};
 ghost use Rattle.image_world.specs.Behind.{LeavesBehind, behind};
 ghost use Rattle.image_world.specs.Stands.{world_of};
@@ -15,6 +15,7 @@ ghost use Rattle.volume_laws.specs.Writes.{Works};
 ghost use Rattle.tsd_core.specs.Applying.{next_world};
 ghost use Rattle.tsd_core.specs.Core.{IsCoreAt, IsCoreReady, state_on, told_world};
 ghost use Rattle.tsd_model.specs.declared.replies.Reply.TheVariants as replied;
+ghost use Rattle.serving.specs.Faults.{TellsPortFaults};
 ghost use Rattle.image_runs.specs.Looking.{OnlyLooks};
 ghost use Rattle.image_runs.specs.Sending.{IsEnding, IsStopped};
 ghost use Rattle.image_runs.specs.Load.{HasLoaded, IsLeftOfLoad, IsLoadDone, IsLoadedBy};
@@ -93,11 +94,7 @@ pub fn load_image<P: Port>(
     ensures looked { P.told → result ≡ Status.NoMemory → OnlyLooks (P.view port.old) (P.view port.new) }
     // A crash at any moment leaves what lies behind the image as it was.
     ensures behind { P.told → IsFirm (P.view port.old) → LeavesBehind (P.view port.old) (P.view port.new) }
-    // A count of faults rose only where the status is that fault's.
-    ensures device_fault { result ≡ Status.DeviceFault → Rose (P.view port.old).faults (P.view port.new).faults }
-    ensures put_fault { result ≡ Status.PutFault → Rose (P.view port.old).put_faults (P.view port.new).put_faults }
-    ensures no_device_fault { result ≢ Status.DeviceFault → (P.view port.new).faults ≡ (P.view port.old).faults }
-    ensures no_put_fault { result ≢ Status.PutFault → (P.view port.new).put_faults ≡ (P.view port.old).put_faults }
+    ensures faults { TellsPortFaults result (P.view port.old) (P.view port.new) }
 {
     match carry_out(alloc, load, placement, port) {
         Ok(summary) => match put_all(port, load_line(&summary).as_slice()) {

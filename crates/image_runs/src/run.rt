@@ -1,9 +1,9 @@
 //! The loop over a core.
 
 ghost use Rattle.std.specs.Prelude.{◌≡◌, ◌≢◌, ◌≤◌, [], true};
-ghost use Rattle.image_device.specs.Counts.{Rose};
 ghost use Rattle.image_device.specs.Runs.{LeavesPart};
 ghost use Rattle.image_world.specs.Behind.{behind};
+ghost use Rattle.serving.specs.Faults.{TellsFaults};
 ghost use Rattle.serving.specs.Goes.{IsFresh};
 ghost use Rattle.serving.specs.Prompt.{IsOfPort, Promptly, mark};
 ghost use Rattle.serving.specs.Ran.{EndsOnce, Ran, moments, taking};
@@ -41,12 +41,14 @@ pub fn serve_core<S: Source, P: Port, R: Protocol<Request = Request> + Replies>(
         (placed_on placement.now.kind core.new (P.view port.new).reads) limit
         (taking S.told S.taken S.left_bytes S.ended source.old source.new) (due core.old.volume)
         (moments P.told P.view port.old port.new) }
-    /// promise: No write comes before the reply of a request that is refused, nor before that of a `Begin`, `End`,
-    /// `Read`, `List` or `GetFree`; at most 131 before that of a `Write`, 124 before that of a `SetCap`, 125 before
-    /// that of a `Delete`, and 600 before that of an allocation or a `Create`, with 12 for each block and pair that
-    /// waits; and at most 400 after a reply.
-    ensures prompt { P.told → Promptly result (spoken disk_rules R.voice) disk_work (IsOfPort P.view)
-        (placed_on placement.now.kind core.old (P.view port.old).reads) (mark (P.view port.old))
+    /// promise: The requests that were answered so are the first of those that came in, and all of them unless the
+    /// device or the sending failed. No write comes before the reply of a request that is refused, nor before that of a
+    /// `Begin`, `End`, `Read`, `List` or `GetFree`; at most 131 before that of a `Write`, 124 before that of a
+    /// `SetCap`, 125 before that of a `Delete`, and 600 before that of an allocation or a `Create`, with 12 for each
+    /// block and pair that waits; and at most 400 after a reply.
+    ensures prompt { P.told → Promptly result (spoken disk_rules R.voice) disk_work (IsOfPort P.view) R.spelling limit
+        (placed_on placement.now.kind core.old (P.view port.old).reads)
+        (taking S.told S.taken S.left_bytes S.ended source.old source.new) (mark (P.view port.old))
         (mark (P.view port.new)) }
     // Unless the device failed, the core may be used again; else it is spent.
     ensures ready { result ≢ Status.DeviceFault → IsCoreReady core.new }
@@ -56,13 +58,8 @@ pub fn serve_core<S: Source, P: Port, R: Protocol<Request = Request> + Replies>(
     /// promise: What lies after the image is as it was in each image that a crash leaves.
     ensures behind { P.told → LeavesPart (behind core.old.volume.tables.geometry) (P.view port.old) (P.view port.new) }
     ensures once { EndsOnce (S.ends source.old) (S.ends source.new) }
-    // A count of faults rose only where the status is that fault's.
-    ensures source_fault { result ≡ Status.SourceFault → Rose (S.faults source.old) (S.faults source.new) }
-    ensures device_fault { result ≡ Status.DeviceFault → Rose (P.view port.old).faults (P.view port.new).faults }
-    ensures put_fault { result ≡ Status.PutFault → Rose (P.view port.old).put_faults (P.view port.new).put_faults }
-    ensures no_source_fault { result ≢ Status.SourceFault → S.faults source.new ≡ S.faults source.old }
-    ensures no_device_fault { result ≢ Status.DeviceFault → (P.view port.new).faults ≡ (P.view port.old).faults }
-    ensures no_put_fault { result ≢ Status.PutFault → (P.view port.new).put_faults ≡ (P.view port.old).put_faults }
+    ensures faults { TellsFaults result (S.faults source.old) (S.faults source.new) (P.view port.old)
+        (P.view port.new) }
 {
     let mut intake = Intake::new(limit);
     serve_core_in(core, placement, protocol, source, port, limit, &mut intake)
@@ -90,8 +87,9 @@ pub fn serve_core_in<S: Source, P: Port, R: Protocol<Request = Request> + Replie
         (placed_on placement.now.kind core.new (P.view port.new).reads) limit
         (taking S.told S.taken S.left_bytes S.ended source.old source.new) (due core.old.volume)
         (moments P.told P.view port.old port.new) }
-    ensures prompt { P.told → Promptly result (spoken disk_rules R.voice) disk_work (IsOfPort P.view)
-        (placed_on placement.now.kind core.old (P.view port.old).reads) (mark (P.view port.old))
+    ensures prompt { P.told → Promptly result (spoken disk_rules R.voice) disk_work (IsOfPort P.view) R.spelling limit
+        (placed_on placement.now.kind core.old (P.view port.old).reads)
+        (taking S.told S.taken S.left_bytes S.ended source.old source.new) (mark (P.view port.old))
         (mark (P.view port.new)) }
     ensures ready { result ≢ Status.DeviceFault → IsCoreReady core.new }
     ensures at { result ≢ Status.DeviceFault → P.told → IsCoreAt core.new (P.view port.new) }
@@ -99,12 +97,8 @@ pub fn serve_core_in<S: Source, P: Port, R: Protocol<Request = Request> + Replie
     ensures closed { result ≡ Status.Done → P.told → IsQuiet (P.view port.new).reads }
     ensures behind { P.told → LeavesPart (behind core.old.volume.tables.geometry) (P.view port.old) (P.view port.new) }
     ensures once { EndsOnce (S.ends source.old) (S.ends source.new) }
-    ensures source_fault { result ≡ Status.SourceFault → Rose (S.faults source.old) (S.faults source.new) }
-    ensures device_fault { result ≡ Status.DeviceFault → Rose (P.view port.old).faults (P.view port.new).faults }
-    ensures put_fault { result ≡ Status.PutFault → Rose (P.view port.old).put_faults (P.view port.new).put_faults }
-    ensures no_source_fault { result ≢ Status.SourceFault → S.faults source.new ≡ S.faults source.old }
-    ensures no_device_fault { result ≢ Status.DeviceFault → (P.view port.new).faults ≡ (P.view port.old).faults }
-    ensures no_put_fault { result ≢ Status.PutFault → (P.view port.new).put_faults ≡ (P.view port.old).put_faults }
+    ensures faults { TellsFaults result (S.faults source.old) (S.faults source.new) (P.view port.old)
+        (P.view port.new) }
 {
     let mut server = CoreServer { core, placement };
     serve_in(&mut server, protocol, source, port, limit, intake)

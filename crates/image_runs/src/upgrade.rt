@@ -1,7 +1,7 @@
 //! `upgrade`: an image that keeps digests in place of capabilities.
 
-ghost use Rattle.std.specs.Prelude.{◌≡◌, ◌≢◌, ℕ, ◌≤◌, ◌⊎◌, false, OnOk, OnErr, IfErr};
-ghost use Rattle.image_device.specs.Counts.{CountsFault, CountsFaultOf, Rose};
+ghost use Rattle.std.specs.Prelude.{◌≡◌, ℕ, ◌≤◌, ◌⊎◌, false, OnOk, IfErr};
+ghost use Rattle.image_device.specs.Counts.{CountsFault, CountsFaultOf};
 ghost use Rattle.image_device.specs.Runs.{IsFirm, LeavesOnly, LeavesPart};
 ghost use Rattle.image_device.specs.Image.{zeros};
 ghost use Rattle.image_world.specs.Behind.{LeavesBehind, behind};
@@ -12,6 +12,7 @@ ghost use Rattle.volume_laws.specs.Moments.{LeavesEither};
 ghost use Rattle.volume_laws.specs.Volume.{IsVolumeAt, IsVolumeReady, world_on};
 ghost use Rattle.volume_laws.specs.Writes.{Works};
 ghost use Rattle.recovery.specs.Opening.{IsForeign, IsUntouched, SparesDamaged, StandAlike};
+ghost use Rattle.serving.specs.Faults.{TellsPortFaults};
 ghost use Rattle.image_runs.specs.Sending.{IsEnding};
 ghost use Rattle.image_runs.specs.Upgrade.{HasUpgraded, IsLeftOfUpgrade, IsUpgradeOf, IsUpgraded};
 ghost use Rattle.image_runs.specs.Opened.{IsJudged, IsUnopened};
@@ -48,11 +49,7 @@ pub fn upgrade_image<P: Port>(alloc: Global, port: &mut P) -> Status
         × (f ≡ (P.view port.old).sent)) }
     // A crash at any moment leaves what lies behind the image as it was.
     ensures behind { P.told → IsFirm (P.view port.old) → LeavesBehind (P.view port.old) (P.view port.new) }
-    // A count of faults rose only where the status is that fault's.
-    ensures device_fault { result ≡ Status.DeviceFault → Rose (P.view port.old).faults (P.view port.new).faults }
-    ensures put_fault { result ≡ Status.PutFault → Rose (P.view port.old).put_faults (P.view port.new).put_faults }
-    ensures no_device_fault { result ≢ Status.DeviceFault → (P.view port.new).faults ≡ (P.view port.old).faults }
-    ensures no_put_fault { result ≢ Status.PutFault → (P.view port.new).put_faults ≡ (P.view port.old).put_faults }
+    ensures faults { TellsPortFaults result (P.view port.old) (P.view port.new) }
 {
     match upgrade(alloc, port) {
         Ok(()) => match put_all(port, upgrade_line().as_slice()) {

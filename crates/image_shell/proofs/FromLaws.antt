@@ -265,5 +265,13 @@ pub alone_no_fault : {X : Type 0} (r : Status) → IsOpeningAlone r → (result 
 alone_no_fault r alone result is e = let both : Err r ≡ result = sym is in let same : r ≡ status.DeviceFault = cc in subst IsOpeningAlone same alone
 
 -- from an earlier moment at which as much was sent
-pub prompt_earlier : (r : Status) (f : FilesView) (port : Mark → Type 0) (start : World) (before earlier : List ℕ) (new : Mark) → before ≡ earlier → IsPromptShell r f port start before new → IsPromptShell r f port start earlier new
-prompt_earlier r f port start before earlier new same prompt = subst (λ (b : List ℕ). IsPromptShell r f port start b new) same prompt
+pub prompt_earlier : (r : Status) (f : FilesView) (port : Mark → Type 0) (p : Spelling FileAsk) (limit : ℕ) (start : World) (source : Taking) (mid old new : Mark) → mid.sent ≡ old.sent → old.clock ≤ mid.clock → IsPromptShell r f port p limit start source mid new → IsPromptShell r f port p limit start source old new
+prompt_earlier r f port p limit start source mid old new same later run = record {
+  first = run.first;
+  is_first = run.is_first;
+  mounted = run.mounted;
+  of_port = run.of_port;
+  not_before = let then = run.not_before in omega (arith, later, then);
+  sent = run.sent ∙ same;
+  prompt = run.prompt;
+}

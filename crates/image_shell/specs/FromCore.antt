@@ -136,12 +136,3 @@ pub record RanFrom (r : Status) (f : FilesView) (p : Spelling FileAsk) (limit : 
   pub these : NoAskServedFrom r f source start port asked
       ⊎ (AskedBy r p limit bytes source.at_end asked
       × (port.tells → EndsFrom r f start port.old port.new asked))
-
--- A count of faults rose only where the status is that fault's.
-pub record TellsFaults (r : Status) (source_before source_now : ℕ) (old new : View) : Type 0 where
-  pub source_fault : r ≡ status.SourceFault → Rose source_before source_now
-  pub device_fault : r ≡ status.DeviceFault → Rose old.faults new.faults
-  pub put_fault : r ≡ status.PutFault → Rose old.put_faults new.put_faults
-  pub no_source_fault : r ≢ status.SourceFault → source_now ≡ source_before
-  pub no_device_fault : r ≢ status.DeviceFault → new.faults ≡ old.faults
-  pub no_put_fault : r ≢ status.PutFault → new.put_faults ≡ old.put_faults

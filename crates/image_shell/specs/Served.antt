@@ -132,11 +132,12 @@ pub record OpensNoMore (old new : View) : Type 0 where
   pub quiet : IsQuiet old.reads → new.writes ≤ old.writes
 
 -- How promptly the asks were answered, from a moment at which the tree was mounted, with nothing sent.
-pub record IsPromptShell (r : Status) (f : FilesView) (port : Mark → Type 0) (start : World) (before : List ℕ)
-    (new : Mark) : Type 0 where
+pub record IsPromptShell (r : Status) (f : FilesView) (port : Mark → Type 0) (p : Spelling FileAsk) (limit : ℕ)
+    (start : World) (source : Taking) (old new : Mark) : Type 0 where
   pub first : ShellState
   pub is_first : IsFirstState f start first
   pub mounted : Mark
   pub of_port : port mounted
-  pub sent : mounted.sent ≡ before
-  pub prompt : Promptly r (shell_service start) shell_work port first mounted new
+  pub not_before : old.clock ≤ mounted.clock
+  pub sent : mounted.sent ≡ old.sent
+  pub prompt : Promptly r (shell_service start) shell_work port p limit first source mounted new

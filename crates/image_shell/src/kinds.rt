@@ -1,12 +1,12 @@
 //! The two file systems, each over an image.
 
-ghost use Rattle.std.specs.Prelude.{◌≡◌, ◌≢◌, ◌≤◌, []};
-ghost use Rattle.image_device.specs.Counts.{Rose};
+ghost use Rattle.std.specs.Prelude.{◌≤◌, []};
 ghost use Rattle.image_device.specs.Runs.{IsFirm};
 ghost use Rattle.image_world.specs.Behind.{LeavesBehind};
 ghost use Rattle.fs_trees.specs.declared.ask.ShellKind.TheVariants as kind;
 ghost use Rattle.image_world.specs.Stands.{world_of};
 ghost use Rattle.shell_server.specs.Shell.{unmounted};
+ghost use Rattle.serving.specs.Faults.{TellsFaults};
 ghost use Rattle.serving.specs.Prompt.{IsOfPort, mark};
 ghost use Rattle.serving.specs.Ran.{EndsOnce, moments, taking};
 ghost use Rattle.recovery.specs.Opening.{IsForeign, IsUntouched, SparesDamaged};
@@ -60,18 +60,22 @@ pub fn serve_inode_image<M: Protocol<Request = FileAsk>, S: Source, P: Port>(
     /// tree doesn't name it says nothing.
     /// promise: **Where no tree is there**, a crash leaves the world as it is then, but while an empty tree is made in
     /// place of what is there: a tree of another layout stays as it is.
-    /// promise: Each state of the run rested in an image that a crash may have left with exactly the answers before it
-    /// sent: there the world is valid and tidy. So the numbers of free blocks and of held pointers in the answers are
-    /// those of a world that was there.
+    /// promise: Each state of the run, but for the last one where the device failed, rested in an image that a crash may
+    /// have left with exactly the answers before it sent: there the world is valid and tidy. So the numbers of free
+    /// blocks and of held pointers in the answers are those of a world that was there.
     /// promise: Where no ask was served, nothing was sent, and a crash leaves the world as it was; where the device
     /// failed while a tree was mounted, the tree under the root.
     /// promise: After Done nothing is loose, the disk stands for the last world, and nothing is left to be done.
     ensures ran { ShellRan result kind.Inode M.spelling root cap.now limit
         (taking S.told S.taken S.left_bytes S.ended source.old source.new) (moments P.told P.view port.old port.new) }
-    /// promise: After SourceFault and TooLong the disk is as it was at some state of the port's type at which the last
-    /// answer was sent; where no ask was answered, as it was once the tree was mounted.
+    /// promise: The asks that were answered are the first of those that came in, and all of them unless the sending
+    /// failed. After SourceFault and TooLong the disk is as it was at some state of the port's type, in time between
+    /// the start and the end, at which the last answer was sent; where no ask came in, as it was once the tree was
+    /// mounted.
     ensures prompt { P.told → ¬ IsNotServed result → IsPromptShell result (unmounted kind.Inode root cap.now)
-        (IsOfPort P.view) (world_of (P.view port.old).reads) (P.view port.old).sent (mark (P.view port.new)) }
+        (IsOfPort P.view) M.spelling limit (world_of (P.view port.old).reads)
+        (taking S.told S.taken S.left_bytes S.ended source.old source.new) (mark (P.view port.old))
+        (mark (P.view port.new)) }
     /// promise: With NotImage, RootDenied and NoMemory no more is written than opening the image writes, and nothing
     /// where nothing was left to be done.
     ensures opened { P.told → IsOpeningAlone result → OpensNoMore (P.view port.old) (P.view port.new) }
@@ -83,14 +87,9 @@ pub fn serve_inode_image<M: Protocol<Request = FileAsk>, S: Source, P: Port>(
     // However it ended, a crash at any moment leaves what lies behind the image as it was.
     ensures behind { P.told → IsFirm (P.view port.old) → LeavesBehind (P.view port.old) (P.view port.new) }
     ensures once { EndsOnce (S.ends source.old) (S.ends source.new) }
-    /// promise (with device_fault, put_fault, no_source_fault, no_device_fault, no_put_fault): A count of faults rose
-    /// exactly where the status is that fault's.
-    ensures source_fault { result ≡ Status.SourceFault → Rose (S.faults source.old) (S.faults source.new) }
-    ensures device_fault { result ≡ Status.DeviceFault → Rose (P.view port.old).faults (P.view port.new).faults }
-    ensures put_fault { result ≡ Status.PutFault → Rose (P.view port.old).put_faults (P.view port.new).put_faults }
-    ensures no_source_fault { result ≢ Status.SourceFault → S.faults source.new ≡ S.faults source.old }
-    ensures no_device_fault { result ≢ Status.DeviceFault → (P.view port.new).faults ≡ (P.view port.old).faults }
-    ensures no_put_fault { result ≢ Status.PutFault → (P.view port.new).put_faults ≡ (P.view port.old).put_faults }
+    /// promise: A count of faults rose exactly where the status is that fault's.
+    ensures faults { TellsFaults result (S.faults source.old) (S.faults source.new) (P.view port.old)
+        (P.view port.new) }
 {
     match InodeFs::new(alloc, root, cap, SESSION) {
         Ok(mut files) => {
@@ -120,7 +119,9 @@ pub fn serve_chain_image<M: Protocol<Request = FileAsk>, S: Source, P: Port>(
     ensures ran { ShellRan result kind.Chain M.spelling root cap.now limit
         (taking S.told S.taken S.left_bytes S.ended source.old source.new) (moments P.told P.view port.old port.new) }
     ensures prompt { P.told → ¬ IsNotServed result → IsPromptShell result (unmounted kind.Chain root cap.now)
-        (IsOfPort P.view) (world_of (P.view port.old).reads) (P.view port.old).sent (mark (P.view port.new)) }
+        (IsOfPort P.view) M.spelling limit (world_of (P.view port.old).reads)
+        (taking S.told S.taken S.left_bytes S.ended source.old source.new) (mark (P.view port.old))
+        (mark (P.view port.new)) }
     ensures opened { P.told → IsOpeningAlone result → OpensNoMore (P.view port.old) (P.view port.new) }
     // Where the image fails one of the tests that need no write, nothing is written, and the disk reads as before;
     // where it fails another, nothing is lost that a repair could use, whatever is answered.
@@ -130,12 +131,8 @@ pub fn serve_chain_image<M: Protocol<Request = FileAsk>, S: Source, P: Port>(
     // However it ended, a crash at any moment leaves what lies behind the image as it was.
     ensures behind { P.told → IsFirm (P.view port.old) → LeavesBehind (P.view port.old) (P.view port.new) }
     ensures once { EndsOnce (S.ends source.old) (S.ends source.new) }
-    ensures source_fault { result ≡ Status.SourceFault → Rose (S.faults source.old) (S.faults source.new) }
-    ensures device_fault { result ≡ Status.DeviceFault → Rose (P.view port.old).faults (P.view port.new).faults }
-    ensures put_fault { result ≡ Status.PutFault → Rose (P.view port.old).put_faults (P.view port.new).put_faults }
-    ensures no_source_fault { result ≢ Status.SourceFault → S.faults source.new ≡ S.faults source.old }
-    ensures no_device_fault { result ≢ Status.DeviceFault → (P.view port.new).faults ≡ (P.view port.old).faults }
-    ensures no_put_fault { result ≢ Status.PutFault → (P.view port.new).put_faults ≡ (P.view port.old).put_faults }
+    ensures faults { TellsFaults result (S.faults source.old) (S.faults source.new) (P.view port.old)
+        (P.view port.new) }
 {
     match ChainFs::new(alloc, root, cap, SESSION) {
         Ok(mut files) => {

@@ -7,13 +7,14 @@ ghost use Rattle.gathered_tasks.specs.Rooms.{IsFree};
 ghost use Rattle.image_device.specs.Runs.{LeavesPart};
 ghost use Rattle.image_world.specs.Behind.{behind};
 ghost use Rattle.tsd_core.specs.Core.{IsCoreReady, told_world};
+ghost use Rattle.serving.specs.Faults.{TellsFaults};
 ghost use Rattle.serving.specs.Prompt.{IsOfPort, mark};
 ghost use Rattle.serving.specs.Ran.{EndsOnce, moments, taking};
 ghost use Rattle.shell_server.specs.Kept.{AreReady};
 ghost use Rattle.shell_server.specs.Shell.{unmounted};
 ghost use Rattle.image_shell.specs.Served.{IsNotServed, IsOpeningAlone, IsPromptShell, level_at};
 ghost use Rattle.image_shell.specs.FromCore.{IsAdmitted, IsAtStart, IsLetIn, IsMounted, IsSessionBegun, RanFrom};
-ghost use Rattle.image_shell.specs.FromCore.{TellsFaults, is_below_write, is_device};
+ghost use Rattle.image_shell.specs.FromCore.{is_below_write, is_device};
 
 use core_blocks::{CoreBlocks, Placing};
 use fs_port::{Files, FsRefusal};
@@ -59,8 +60,9 @@ pub fn serve_opened<
     ensures ran { RanFrom result (F.view files.old) M.spelling limit
         (taking S.told S.taken S.left_bytes S.ended source.old source.new) K.start
         (moments P.told P.view port.old port.new) }
-    ensures prompt { P.told → ¬ IsNotServed result → IsPromptShell result (F.view files.old) (IsOfPort P.view) K.start
-        (P.view port.old).sent (mark (P.view port.new)) }
+    ensures prompt { P.told → ¬ IsNotServed result → IsPromptShell result (F.view files.old) (IsOfPort P.view)
+        M.spelling limit K.start (taking S.told S.taken S.left_bytes S.ended source.old source.new)
+        (mark (P.view port.old)) (mark (P.view port.new)) }
     // Where no ask was served and the device didn't fail, nothing was written.
     ensures idle { IsOpeningAlone result → (P.view port.new).writes ≡ (P.view port.old).writes }
     // However it ended, a crash at any moment leaves what lies behind the image as it was.
@@ -153,8 +155,9 @@ pub fn serve_begun<
     ensures ran { RanFrom result (F.view files.old) M.spelling limit
         (taking S.told S.taken S.left_bytes S.ended source.old source.new) K.start
         (moments P.told P.view port.old port.new) }
-    ensures prompt { P.told → ¬ IsNotServed result → IsPromptShell result (F.view files.old) (IsOfPort P.view) K.start
-        (P.view port.old).sent (mark (P.view port.new)) }
+    ensures prompt { P.told → ¬ IsNotServed result → IsPromptShell result (F.view files.old) (IsOfPort P.view)
+        M.spelling limit K.start (taking S.told S.taken S.left_bytes S.ended source.old source.new)
+        (mark (P.view port.old)) (mark (P.view port.new)) }
     // However it ended, a crash at any moment leaves what lies behind the image as it was.
     ensures behind { P.told → LeavesPart (behind (told_world core.old).geometry) (P.view port.old) (P.view port.new) }
     ensures once { EndsOnce (S.ends source.old) (S.ends source.new) }

@@ -3,7 +3,7 @@
 ghost use Rattle.std.specs.Prelude.{◌≡◌, ◌≢◌, ◌<◌, ◌≤◌, ◌-◌, ◌++◌, ℕ, length, take};
 ghost use Rattle.std.specs.Prelude.{drop, false, None, Some, IsTrue, IfOk, IfErr, OnOk};
 ghost use Rattle.tsd_model.specs.Geometry.{block_len};
-ghost use Rattle.tsd_model.specs.World.{free_count, has_number, are_apart};
+ghost use Rattle.tsd_model.specs.World.{has_number, are_apart};
 ghost use Rattle.fs_trees.specs.declared.refusal.FsRefusal.TheVariants as no;
 ghost use Rattle.fs_port.specs.View.{state_of};
 ghost use Rattle.fs_port.specs.Calls.{IsValidNow};

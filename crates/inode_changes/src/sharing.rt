@@ -1,9 +1,8 @@
 //! Blocks that a new file shares with an old one.
 
-ghost use Rattle.std.specs.Prelude.{◌≡◌, ◌≢◌, ℕ, ◌≤◌, false, None, Some, length, IfErr, OnOk};
+ghost use Rattle.std.specs.Prelude.{◌≡◌, ◌≢◌, ℕ, ◌≤◌, false, None, Some, IfErr, OnOk};
 ghost use Rattle.tsd_model.specs.Pairs.{holds};
 ghost use Rattle.fs_trees.specs.declared.refusal.FsRefusal.TheVariants as no;
-ghost use Rattle.fs_port.specs.View.{state_of};
 ghost use Rattle.fs_port.specs.Calls.{IsValidNow};
 ghost use Rattle.fs_client.specs.May.{MayWrite};
 ghost use Rattle.fs_client.specs.Steps.{no_room_in};

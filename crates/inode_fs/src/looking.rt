@@ -7,11 +7,9 @@ ghost use Rattle.fs_trees.specs.declared.refusal.FsRefusal.TheVariants as no;
 ghost use Rattle.fs_port.specs.Calls.{IsValidNow};
 ghost use Rattle.fs_port.specs.Files.{IsClientReady};
 ghost use Rattle.fs_client.specs.May.{MayWrite, OnlyLooks};
-ghost use Rattle.fs_trees.specs.InodeTree.{inode_at};
 ghost use Rattle.inode_layout.specs.Block.{inode_of};
 ghost use Rattle.inode_layout.specs.Said.{blocks_said, is_directory};
 ghost use Rattle.inode_walks.specs.Asking.{mounted_by};
-ghost use Rattle.inode_fs.specs.Marked.{NoMarks};
 ghost use Rattle.inode_fs.specs.Looking.{IsMarkedAs, Come, Comes, IsSeenAt, Noted, TellsTree, come_as, come_data};
 ghost use Rattle.inode_fs.specs.Looking.{NamesData, IsReadAt};
 

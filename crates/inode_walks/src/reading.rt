@@ -8,11 +8,11 @@ ghost use Rattle.fs_trees.specs.declared.refusal.FsRefusal.TheVariants as no;
 ghost use Rattle.fs_port.specs.Calls.{IsValidNow};
 ghost use Rattle.fs_port.specs.Files.{Answers, TellsSize, TellsPart, TellsNext};
 ghost use Rattle.fs_client.specs.May.{OnlyLooks};
-ghost use Rattle.inode_layout.specs.Block.{inode_of, block_len_of};
+ghost use Rattle.inode_layout.specs.Block.{inode_of};
 ghost use Rattle.inode_layout.specs.Said.{is_directory, amount_said};
 ghost use Rattle.inode_walks.specs.Asking.{MayAsk, mounted_by};
 ghost use Rattle.inode_walks.specs.Finding.{IsOpenNow, IsStanding};
-ghost use Rattle.inode_walks.specs.Reading.{part, bytes_at, bytes_said};
+ghost use Rattle.inode_walks.specs.Reading.{part, bytes_said};
 
 use crate::finding::{Found, find_directory, find_file};
 use fs_client::Client;

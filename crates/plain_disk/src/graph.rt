@@ -1,11 +1,10 @@
 //! Which blocks are reached and which are doomed.
 
-ghost use Rattle.std.specs.Prelude.{◌≡◌, ◌==◌, ◌&&◌, ◌||◌, not, cond, length, IfOk};
+ghost use Rattle.std.specs.Prelude.{◌≡◌, ◌==◌, ◌&&◌, ◌||◌, not, IfOk};
 ghost use Rattle.std.specs.List.{list_any, list_all};
 ghost use Rattle.tsd_model.specs.World.{has_number, primary_blocks};
-ghost use Rattle.tsd_model.specs.Reach.{is_led_from, reach_round, reach, restricted};
+ghost use Rattle.tsd_model.specs.Reach.{is_led_from, reach_round, reach};
 ghost use Rattle.tsd_model.specs.Doomed.{is_led_only_from, hangs_on, doomed_round, doomed};
-ghost use Rattle.tsd_model.specs.Step.{without_pointer};
 
 use crate::world::World;
 use std::alloc::{AllocError, Global};
@@ -35,14 +34,6 @@ pub fn plain_doomed(alloc: Global, world: &World) -> Result<Vec<u32>, NoMemory>
         gone = doomed_round(alloc, world, gone.as_slice())?;
     }
     Ok(gone)
-}
-
-/// The world without a pointer, before anything is reclaimed: what hung on it is still there, and doomed.
-pub fn plain_cut(alloc: Global, world: &World, source: u32, target: u32) -> Result<World, NoMemory>
-    /// promise: The world without one pointer, before anything is reclaimed.
-    ensures { IfOk result (λ w. w ≡ without_pointer world.now source target) }
-{
-    Ok(world.without_pointer(alloc, source, target)?)
 }
 
 fn primary_blocks(alloc: Global, world: &World) -> Result<Vec<u32>, AllocError>

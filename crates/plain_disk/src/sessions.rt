@@ -1,12 +1,10 @@
 //! What each session holds.
 
 ghost use Rattle.std.specs.Prelude.{◌≡◌, ◌-◌, ◌+◌, ◌<◌, ◌≤◌, length, map, replicate, slice_set};
-ghost use Rattle.std.specs.Prelude.{slice_index_or, filter, ◌==◌, cond, [], Some, None, option_map, IfOk, OnOk};
-ghost use Rattle.std.specs.Prelude.{OnErr, MatchOption};
-ghost use Rattle.std.specs.List.{enumerate_from};
-ghost use Rattle.tsd_model.specs.Pairs.{sources_to};
-ghost use Rattle.tsd_model.specs.Sessions.{held_by, is_open, level_from, levels_from, levels_in, greatest_level};
-ghost use Rattle.tsd_model.specs.Sessions.{greatest, no_sessions, with_held, session_begun, session_ended};
+ghost use Rattle.std.specs.Prelude.{slice_index_or, ◌==◌, cond, [], Some, None, IfOk};
+ghost use Rattle.std.specs.Prelude.{MatchOption};
+ghost use Rattle.tsd_model.specs.Sessions.{held_by, is_open, level_from, levels_from};
+ghost use Rattle.tsd_model.specs.Sessions.{no_sessions, with_held, session_begun, session_ended};
 ghost use Rattle.tsd_model.specs.Sessions.{raised_sessions, raised_held, raised_level, dropped_from, levels_at_live};
 ghost use Rattle.tsd_model.specs.Sessions.{fitted};
 ghost use Rattle.tsd_model.specs.Attained.{shown_level, led_level, attained_from, attained};

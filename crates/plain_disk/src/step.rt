@@ -1,9 +1,8 @@
 //! One request: what it changes and what is answered.
 
 ghost use Rattle.std.specs.Prelude.{◌≡◌, ◌≤◌, ◌<◌, ◌+◌, ◌^◌, ◌++◌, ◌∷◌, ◌==◌};
-ghost use Rattle.std.specs.Prelude.{◌&&◌, [], false, take, cond, nat_le, length, unwrap_or, None, IfOk};
+ghost use Rattle.std.specs.Prelude.{◌&&◌, [], false, take, nat_le, length, unwrap_or, None, IfOk};
 ghost use Rattle.std.specs.Option.{ForSome};
-ghost use Rattle.std.specs.List.{range_with_len};
 ghost use Rattle.tsd_model.specs.Geometry.{block_len};
 ghost use Rattle.tsd_model.specs.World.{contents};
 ghost use Rattle.tsd_model.specs.Records.{kept};

@@ -1,6 +1,6 @@
 //! Which rule refuses a request.
 
-ghost use Rattle.std.specs.Prelude.{◌≡◌, nat_le, true, false, Some, None, OnOk, IfErr};
+ghost use Rattle.std.specs.Prelude.{◌≡◌, true, false, Some, None, OnOk, IfErr};
 ghost use Rattle.tsd_model.specs.Needs.{named_blocks};
 ghost use Rattle.tsd_model.specs.Verdict.{denied, is_already_open, is_not_open, has_bad_count, has_bad_size};
 ghost use Rattle.tsd_model.specs.Verdict.{names_missing_block, names_free_block, sets_caps_elsewhere};

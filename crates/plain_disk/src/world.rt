@@ -1,7 +1,7 @@
 //! The disk as a plain value.
 
 ghost use Rattle.std.specs.Prelude.{◌≡◌, ◌+◌, ◌-◌, ◌*◌, ◌++◌, ◌<◌, ◌≤◌, cond, not};
-ghost use Rattle.std.specs.Prelude.{filter, length, map, replicate, slice_set, Some, None, IfOk, IfSome, MatchOption};
+ghost use Rattle.std.specs.Prelude.{filter, length, map, replicate, Some, None, IfOk, IfSome, MatchOption};
 ghost use Rattle.std.specs.Prelude.{OnOk, OnErr};
 ghost use Rattle.tsd_model.specs.Geometry.{IsLawful, block_len};
 ghost use Rattle.tsd_model.specs.Pairs.{holds};

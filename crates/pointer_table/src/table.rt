@@ -148,14 +148,6 @@ impl PointerTable {
         least_targets(&self.slots, &self.index, source, 0, most)
     }
 
-    /// The least target of the pairs from a block.
-    pub fn next_out(&self, source: u32) -> Option<u32>
-        /// promise: The least target of the pairs from a block.
-        ensures { IsNextTarget (pairs self.now) source 0 result }
-    {
-        self.next_target(source, 0)
-    }
-
     /// The least target of the pairs from a block that is not below `start`.
     pub fn next_target(&self, source: u32, start: u32) -> Option<u32>
         /// promise: The least target of the pairs from a block that is not below a start.

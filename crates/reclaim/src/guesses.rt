@@ -112,8 +112,9 @@ impl Guesses {
     }
 }
 
-/// The next step, as `next_step` names it, at a block that is guessed where a guess is right. Only where none is, all
-/// blocks are looked at. None exactly where nothing is doomed.
+/// The next step: a lost block's first 16 targets, or all where it has no more, and then it is freed. The block is one
+/// that is guessed where a guess is right; only where none is, all blocks are looked at. None exactly where nothing is
+/// doomed.
 ///
 /// Carrying the step out means to take away the pairs from the block to these targets and, if it is freed, the block.
 /// Each target to which no pair is left is a good guess then.

@@ -1,7 +1,7 @@
 //! All that formatting writes but the format gate.
 
 ghost use Rattle.std.specs.Prelude.{◌≡◌, ℕ, ◌+◌, ◌-◌, ◌<◌, ◌≤◌, ◌==◌, ◌&&◌, nat_le};
-ghost use Rattle.std.specs.Prelude.{not, false, length, OnOk, OnErr};
+ghost use Rattle.std.specs.Prelude.{not, false, length, OnOk};
 ghost use Rattle.tsd_model.specs.Geometry.{IsLawful};
 ghost use Rattle.cap_store.specs.Fresh.{fresh_records};
 ghost use Rattle.cap_store.specs.Store.{AreRecords};

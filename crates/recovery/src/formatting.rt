@@ -1,6 +1,6 @@
 //! Formatting.
 
-ghost use Rattle.std.specs.Prelude.{◌≡◌, ◌-◌, length, OnOk, OnErr};
+ghost use Rattle.std.specs.Prelude.{◌≡◌, ◌-◌, length, OnOk};
 ghost use Rattle.tsd_model.specs.Geometry.{IsLawful};
 ghost use Rattle.tsd_model.specs.Run.{fresh_world};
 ghost use Rattle.image_device.specs.Calls.{Uses};

@@ -5,6 +5,7 @@ use Rattle.std.proofs.lemmas.Bool.{leb-true, le-leb, lt-leb}
 use Rattle.std.proofs.lemmas.List.{length-append}
 use Rattle.byteorder.specs.Endian.{little_number, little_bytes}
 use Rattle.byteorder.specs.Numbers.{little_number-reads_back}
+use Rattle.tsd_model.specs.Step.{targets_max}
 use Rattle.request_frames.specs.Fields.{AllFit, bytes_of}
 use Rattle.request_frames.specs.Replies.{number_fields}
 use Rattle.request_frames.specs.Reading.{num_of, numbers_of, list_of_blocks, ◌>>=◌}
@@ -42,26 +43,26 @@ onto_last blocks n None = refl
 onto_last blocks n (Some ns) = ap (λ xs. Some xs) (sym (append_assoc blocks (n ∷ []) ns))
 
 -- there are as many as fit, and no more
-pub all_read : (bs blocks : List ℕ) → numbers_of bs ≡ option_map (λ ns. blocks ++ ns) (Some []) → length blocks ≤ 64 → list_of_blocks bs ≡ Some blocks
+pub all_read : (bs blocks : List ℕ) → numbers_of bs ≡ option_map (λ ns. blocks ++ ns) (Some []) → length blocks ≤ targets_max → list_of_blocks bs ≡ Some blocks
 unfolding list_of_blocks
 all_read bs blocks e few =
-    ap (λ o. o >>= λ ns. cond (nat_le (length ns) 64) (Some ns) None) e
-    ∙ ap (λ ns. cond (nat_le (length ns) 64) (Some ns) None) (append-nil blocks)
-    ∙ ap (λ t. cond t (Some blocks) None) (le-leb (length blocks) 64 few)
+    ap (λ o. o >>= λ ns. cond (nat_le (length ns) targets_max) (Some ns) None) e
+    ∙ ap (λ ns. cond (nat_le (length ns) targets_max) (Some ns) None) (append-nil blocks)
+    ∙ ap (λ t. cond t (Some blocks) None) (le-leb (length blocks) targets_max few)
 
 -- there is something else
 pub none_read : (bs blocks : List ℕ) → numbers_of bs ≡ option_map (λ ns. blocks ++ ns) None → list_of_blocks bs ≡ None
 unfolding list_of_blocks
-none_read bs blocks e = ap (λ o. o >>= λ ns. cond (nat_le (length ns) 64) (Some ns) None) e
+none_read bs blocks e = ap (λ o. o >>= λ ns. cond (nat_le (length ns) targets_max) (Some ns) None) e
 
 -- there is one more than fits
-pub many_read : (bs blocks : List ℕ) (n : ℕ) (o : Option (List ℕ)) → numbers_of bs ≡ option_map (λ ns. blocks ++ ns) (option_map (λ ns. n ∷ ns) o) → 64 ≤ length blocks → list_of_blocks bs ≡ None
+pub many_read : (bs blocks : List ℕ) (n : ℕ) (o : Option (List ℕ)) → numbers_of bs ≡ option_map (λ ns. blocks ++ ns) (option_map (λ ns. n ∷ ns) o) → targets_max ≤ length blocks → list_of_blocks bs ≡ None
 unfolding list_of_blocks
-many_read bs blocks n None e many = ap (λ o. o >>= λ ns. cond (nat_le (length ns) 64) (Some ns) None) e
+many_read bs blocks n None e many = ap (λ o. o >>= λ ns. cond (nat_le (length ns) targets_max) (Some ns) None) e
 many_read bs blocks n (Some ns) e many =
-    let long : 64 < length (blocks ++ (n ∷ ns)) = omega (arith, length-append blocks (n ∷ ns)) in
-    ap (λ o. o >>= λ ns. cond (nat_le (length ns) 64) (Some ns) None) e
-    ∙ ap (λ t. cond t (Some (blocks ++ (n ∷ ns))) None) (lt-leb (length (blocks ++ (n ∷ ns))) 64 long)
+    let long : targets_max < length (blocks ++ (n ∷ ns)) = omega (arith, length-append blocks (n ∷ ns)) in
+    ap (λ o. o >>= λ ns. cond (nat_le (length ns) targets_max) (Some ns) None) e
+    ∙ ap (λ t. cond t (Some (blocks ++ (n ∷ ns))) None) (lt-leb (length (blocks ++ (n ∷ ns))) targets_max long)
 
 -- what is read as numbers is spelled by them
 pub numbers_sound : (bs ns : List ℕ) → AreBytes bs → numbers_of bs ≡ Some ns → Spelled (number_fields ns) bs
@@ -78,13 +79,13 @@ numbers_sound (a ∷ b ∷ c ∷ d ∷ bs) ns all e =
           subst (λ (xs : List ℕ). Spelled (number_fields xs) (a ∷ b ∷ c ∷ d ∷ bs)) (some_is q) ((first.0, more.0), first.1 ∙ ap (λ xs. little_bytes 4 (little_number 4 (a ∷ b ∷ c ∷ d ∷ bs)) ++ xs) more.1)
     ] refl e
 
-pub blocks_sound : (bs ns : List ℕ) → AreBytes bs → list_of_blocks bs ≡ Some ns → Spelled (number_fields ns) bs × (length ns ≤ 64)
+pub blocks_sound : (bs ns : List ℕ) → AreBytes bs → list_of_blocks bs ≡ Some ns → Spelled (number_fields ns) bs × (length ns ≤ targets_max)
 unfolding list_of_blocks
 blocks_sound bs ns all e =
-    elim (numbers_of bs) as (λ o. numbers_of bs ≡ o → (o >>= λ ms. cond (nat_le (length ms) 64) (Some ms) None) ≡ Some ns → Spelled (number_fields ns) bs × (length ns ≤ 64)) [
+    elim (numbers_of bs) as (λ o. numbers_of bs ≡ o → (o >>= λ ms. cond (nat_le (length ms) targets_max) (Some ms) None) ≡ Some ns → Spelled (number_fields ns) bs × (length ns ≤ targets_max)) [
       | None ↦ λ p q. absurd (cc)
-      | Some ms ↦ λ p q. elim (nat_le (length ms) 64) as (λ t. nat_le (length ms) 64 ≡ t → cond t (Some ms) None ≡ Some ns → Spelled (number_fields ns) bs × (length ns ≤ 64)) [
-        | true ↦ λ r s. subst (λ (xs : List ℕ). Spelled (number_fields xs) bs × (length xs ≤ 64)) (some_is s) (numbers_sound bs ms all p, leb-true (length ms) 64 r)
+      | Some ms ↦ λ p q. elim (nat_le (length ms) targets_max) as (λ t. nat_le (length ms) targets_max ≡ t → cond t (Some ms) None ≡ Some ns → Spelled (number_fields ns) bs × (length ns ≤ targets_max)) [
+        | true ↦ λ r s. subst (λ (xs : List ℕ). Spelled (number_fields xs) bs × (length xs ≤ targets_max)) (some_is s) (numbers_sound bs ms all p, leb-true (length ms) targets_max r)
         | false ↦ λ r s. absurd (cc)
       ] refl q
     ] refl e
@@ -96,6 +97,6 @@ numbers_back (n ∷ ns) h =
     ap (option_map (λ ms. little_number 4 (little_bytes 4 n ++ bytes_of (number_fields ns)) ∷ ms)) (numbers_back ns h.1)
     ∙ ap (λ m. Some (m ∷ ns)) (little_number-reads_back 4 n (bytes_of (number_fields ns)) h.0)
 
-pub blocks_back : (ns : List ℕ) → AllFit (number_fields ns) → length ns ≤ 64 → list_of_blocks (bytes_of (number_fields ns)) ≡ Some ns
+pub blocks_back : (ns : List ℕ) → AllFit (number_fields ns) → length ns ≤ targets_max → list_of_blocks (bytes_of (number_fields ns)) ≡ Some ns
 unfolding list_of_blocks
-blocks_back ns h few = bind_some _ _ _ _ (numbers_back ns h) (ap (λ t. cond t (Some ns) None) (le-leb (length ns) 64 few))
+blocks_back ns h few = bind_some _ _ _ _ (numbers_back ns h) (ap (λ t. cond t (Some ns) None) (le-leb (length ns) targets_max few))

@@ -4,7 +4,7 @@ use Rattle.std.specs.Prelude.{option_map}
 use Rattle.std.proofs.lemmas.Bool.{leb-true, le-leb, eqb-true}
 use Rattle.std.proofs.lemmas.List.{get_or-drop, length-append, length-take, take_at, drop_at, take-append-drop}
 use Rattle.byteorder.specs.Endian.{little_number, little_bytes}
-use Rattle.byteorder.specs.Numbers.{little_number-reads_back}
+use Rattle.byteorder.specs.Numbers.{little_from-take, little_number-reads_back}
 use Rattle.tsd_model.specs.declared.caps.Cap.{Cap}
 use Rattle.tsd_model.specs.declared.caps.Shown.{Shown}
 use Rattle.tsd_model.specs.declared.caps.Shown.TheVariants.{Nothing, Key}
@@ -38,6 +38,10 @@ number_is (a ∷ b ∷ c ∷ d ∷ rest) all h =
     let e : n ≡ a + 256 * (b + 256 * (c + 256 * d)) = omega arith in
     let s = same_four a b c d (all 0) (all 1) (all 2) (all 3) n e in
     (s.0, λ i. s.1 i ∷ s.2 i ∷ s.3 i ∷ s.4 i ∷ rest)
+
+-- four bytes have the number of those that begin with them
+pub number_taken : (bs : List ℕ) → little_number 4 (take 4 bs) ≡ little_number 4 bs
+number_taken bs = little_from-take 0 4 4 bs (omega arith)
 
 -- ---- readers
 

@@ -7,6 +7,7 @@ use Rattle.tsd_model.specs.declared.replies.Reply.TheVariants as reply
 use Rattle.tsd_model.specs.declared.replies.Rule.{Rule}
 use Rattle.tsd_model.specs.declared.replies.Rule.TheVariants as rule
 use Rattle.tsd_model.specs.ReplyForm.{IsBlockSize, HasBody, AreNumbers, RuleHasNumbers, HasNumbers, HasForm}
+use Rattle.tsd_model.specs.Step.{targets_max}
 use Rattle.request_frames.specs.Fields.{Field, Code, Number, Rank, Bytes, AllFit, bytes_of}
 use Rattle.request_frames.specs.Replies.{rule_fields, number_fields, reply_fields, reply_body, IsReply}
 use Rattle.request_frames.specs.Reading.{num_of, level_of, data_of, list_of_blocks, ends, dispatch}
@@ -264,7 +265,7 @@ blocks_reply_back : (ns : List ℕ) → AllFit (number_fields ns) → 1 ≤ leng
 unfolding blocks_reply
 blocks_reply_back ns h some few = bind_some _ _ _ _ (blocks_back ns h (omega (arith, few))) (ap (λ t. cond t (Some (reply.Blocks ns)) None) (and_from (nat_le 1 (length ns)) (nat_le (length ns) 32) (le-leb 1 (length ns) some) (le-leb (length ns) 32 few)))
 
-targets_back : (ns : List ℕ) → AllFit (number_fields ns) → length ns ≤ 64 → targets_reply (bytes_of (number_fields ns)) ≡ Some (reply.Targets ns)
+targets_back : (ns : List ℕ) → AllFit (number_fields ns) → length ns ≤ targets_max → targets_reply (bytes_of (number_fields ns)) ≡ Some (reply.Targets ns)
 unfolding targets_reply
 targets_back ns h few = bind_some _ _ _ _ (blocks_back ns h few) refl
 

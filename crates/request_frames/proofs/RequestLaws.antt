@@ -1,6 +1,6 @@
 -- What is read as a request is a body of it, and its body is read as it.
 use Rattle.std.proofs.Common.{◌≡◌, ◌≢◌, ◌⊎◌, inl, inr, ℕ, suc, ◌+◌, ◌<◌, ◌≤◌, lit≤, arith, length, true, false, cond, ◌==◌, List, [], ◌∷◌, refl, sym, ◌∙◌, ap, subst, Option, Some, None}
-use Rattle.std.specs.Prelude.{unwrap_or}
+use Rattle.std.specs.Prelude.{nat_le, option_map, unwrap_or}
 use Rattle.std.proofs.lemmas.Bool.{eqb-true}
 use Rattle.std.proofs.lemmas.List.{length-append}
 use Rattle.tsd_model.specs.declared.caps.Shown.TheVariants.{Nothing, Key}
@@ -10,11 +10,18 @@ use Rattle.tsd_model.specs.declared.caps.Shown.{Shown}
 use Rattle.tsd_model.specs.declared.requests.Hint.{Hint}
 use Rattle.tsd_model.specs.declared.requests.Request.{Request}
 use Rattle.tsd_model.specs.declared.requests.Request.TheVariants as ask
-use Rattle.request_frames.specs.declared.reader.Access.{Access}
+use Rattle.script_text.specs.declared.parsed.Access.{Access}
 use Rattle.request_frames.specs.Fields.{Field, Code, Number, Show, New, Near, Rank, Bytes, field_bytes, HasRoomFor, AllFit, bytes_of}
 use Rattle.request_frames.specs.Requests.{fields, request_body, IsBody}
-use Rattle.request_frames.specs.Reading.{num_of, cap_of, shown_of, hint_of, data_of, ◌>>=◌, access_of, begin_of, end_of, read_of, write_of, alloc_of, contig_of, free_of, create_of, delete_of, set_cap_of, sweep_of, list_of, dispatch, forms, coded, asked, request_of}
-use Rattle.request_frames.proofs.FieldLaws.{AreBytes, Spelled, some_is, bind_is, took, no_more, next, last, bind_some, num_sound, cap_sound, shown_sound, hint_sound, data_sound, num_back, cap_back, shown_back, hint_back, data_back}
+use Rattle.request_frames.specs.Reading.{num_of, cap_of, shown_of, hint_of, data_of, ends, ◌>>=◌, access_of, begin_of, end_of, read_of, write_of, alloc_of, contig_of, free_of, create_of, delete_of, set_cap_of, sweep_of, list_of, dispatch, forms, coded, asked, request_of}
+use Rattle.request_frames.proofs.FieldLaws.{AreBytes, Spelled, leaves, some_is, bind_is, took, no_more, next, last, bind_some, num_sound, cap_sound, shown_sound, hint_sound, data_sound, num_back, cap_back, shown_back, hint_back, data_back}
+
+-- all that is left is written, where a block may have so many bytes
+pub all_written : (p : Access) (bs : List ℕ) → option_map (λ d. ask.Write p.session p.block p.shown d) (cond (nat_le (length bs) 4096) (Some bs) None) ≡ (data_of bs >>= λ d. ends d.1 (ask.Write p.session p.block p.shown d.0))
+all_written p bs = elim (nat_le (length bs) 4096) as (λ t. option_map (λ d. ask.Write p.session p.block p.shown d) (cond t (Some bs) None) ≡ (cond t (leaves bs []) None >>= λ d. ends d.1 (ask.Write p.session p.block p.shown d.0))) [
+  | true ↦ refl
+  | false ↦ refl
+]
 
 -- the fields of a place, before others
 abbrev pub at_place : Access → List Field → List Field

@@ -14,7 +14,7 @@ is_short (reply.Gone n) = true
 is_short reply.NoMemory = true
 is_short (reply.Refused r) = true
 
--- Bytes stand after a length of two bytes and a code. All others have room where a list of 64 blocks has it.
+-- Bytes stand after a length of two bytes and a code. All others have room where the longest list of targets has it.
 abbrev pub frame_room : Reply → ℕ
 frame_room (reply.Bytes bytes) = 3 + length bytes
 frame_room (reply.Blocks blocks) = 259

@@ -4,6 +4,5 @@ pub mod Replies
 pub mod Frames
 pub mod Cutting
 pub mod Reading
-pub mod Parsing
 pub mod ReplyReading
 pub mod FrameRoom

@@ -2,6 +2,7 @@
 use Rattle.std.specs.Prelude.{ℕ, ◌==◌, cond, nat_le, List, [], ◌∷◌, length, drop, take, Option, Some, None, option_map}
 use Rattle.std.specs.Prelude.{unwrap_or}
 use Rattle.byteorder.specs.Endian.{little_number}
+use Rattle.tsd_model.specs.Step.{targets_max}
 use Rattle.tsd_model.specs.declared.caps.Cap.{Cap}
 use Rattle.tsd_model.specs.declared.caps.Shown.{Shown}
 use Rattle.tsd_model.specs.declared.caps.Shown.TheVariants.{Nothing, Key}
@@ -11,7 +12,7 @@ use Rattle.tsd_model.specs.declared.requests.Level.{Level}
 use Rattle.tsd_model.specs.declared.requests.Level.TheVariants as level
 use Rattle.tsd_model.specs.declared.requests.Request.{Request}
 use Rattle.tsd_model.specs.declared.requests.Request.TheVariants as ask
-use Rattle.request_frames.specs.declared.reader.Access.{Access}
+use Rattle.script_text.specs.declared.parsed.Access.{Access}
 
 -- the second step, where the first gave a value
 infixl 10 ◌>>=◌
@@ -24,6 +25,10 @@ None >>= f = None
 abbrev pub byte_of : List ℕ → Option (ℕ × List ℕ)
 byte_of [] = None
 byte_of (b ∷ bs) = Some (b, bs)
+
+-- so many bytes
+abbrev pub taken : ℕ → List ℕ → Option (List ℕ × List ℕ)
+taken k bs = cond (nat_le k (length bs)) (Some (take k bs, drop k bs)) None
 
 unfoldable pub num_of : List ℕ → Option (ℕ × List ℕ)
 num_of bs = cond (nat_le 4 (length bs)) (Some (little_number 4 bs, drop 4 bs)) None
@@ -67,12 +72,17 @@ numbers_of (a ∷ b ∷ c ∷ d ∷ bs) = option_map (λ ns. little_number 4 (a 
 
 -- so many numbers a list of blocks has room for
 unfoldable pub list_of_blocks : List ℕ → Option (List ℕ)
-list_of_blocks bs = numbers_of bs >>= λ ns. cond (nat_le (length ns) 64) (Some ns) None
+list_of_blocks bs = numbers_of bs >>= λ ns. cond (nat_le (length ns) targets_max) (Some ns) None
 
 -- no byte is left
 abbrev pub ends : {A : Type 0} → List ℕ → A → Option A
 ends [] x = Some x
 ends (b ∷ bs) x = None
+
+-- the request, where no byte is left
+abbrev pub ended : List ℕ → Option Request → Option Request
+ended bs None = None
+ended bs (Some q) = ends bs q
 
 unfoldable pub access_of : List ℕ → Option (Access × List ℕ)
 access_of bs = do

@@ -3,7 +3,7 @@
 //! However the text is cut into pieces, the frames are the same: those of the text itself.
 
 ghost use Rattle.std.specs.Prelude.{◌≡◌, ◌≢◌, ◌↔◌, ◌+◌, ◌-◌, ◌^◌, ◌<◌, ◌≤◌};
-ghost use Rattle.std.specs.Prelude.{◌++◌, ℕ, List, [], ◌∷◌, length, take, drop, slice_index, min, cond};
+ghost use Rattle.std.specs.Prelude.{◌++◌, ℕ, List, [], ◌∷◌, length, take, slice_index, min, cond};
 ghost use Rattle.std.specs.Prelude.{nat_le, true, false, IsTrue, IfOk};
 ghost use Rattle.std.specs.Vec.{vec_capacity};
 ghost use Rattle.request_frames.specs.Frames.{IsCut, frame_of, frames, unended, frame_size, has_frame};

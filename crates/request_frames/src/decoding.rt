@@ -6,14 +6,14 @@ ghost use Rattle.tsd_model.specs.declared.requests.Request.TheVariants as ask;
 ghost use Rattle.request_frames.specs.Requests.{IsBody};
 ghost use Rattle.request_frames.specs.Reading.{begin_of, end_of, read_of, write_of, alloc_of, contig_of, free_of};
 ghost use Rattle.request_frames.specs.Reading.{create_of, delete_of, set_cap_of, sweep_of, list_of, coded, asked};
-ghost use Rattle.request_frames.specs.Reading.{request_of};
-ghost use Rattle.request_frames.specs.Parsing.{ended, request_parsed, request_said};
+ghost use Rattle.request_frames.specs.Reading.{ended, request_of};
+ghost use Rattle.script_text.specs.Parsing.{request_parsed, request_said};
 
 use crate::codes::{
     ALLOC, BEGIN, CONTIG, CREATE, DELETE, END, GET_FREE, LIST, READ, SET_CAP, SWEEP, WRITE,
 };
-use crate::parsed::{Parsed, put_request};
 use crate::reader::BodyReader;
+use script_text::parsed::{Parsed, Sent, put_request};
 use tsd_model::{CapPair, Request};
 
 /// Puts the request that a body spells into the room for it, and Bad where it spells none.
@@ -109,14 +109,14 @@ fn read(mut reader: BodyReader<'_>) -> Option<Parsed<'_>>
     done(reader, Parsed::Read { access })
 }
 
-#[tactic(auto, unfolding(crate::specs::Reading::write_of))]
+#[tactic(auto, unfolding(crate::specs::Reading::write_of), using(crate::proofs::RequestLaws::all_written))]
 fn write(mut reader: BodyReader<'_>) -> Option<Parsed<'_>>
     ensures { request_said result ≡ write_of reader.entry }
 {
     let access = reader.access()?;
     Some(Parsed::Write {
         access,
-        bytes: reader.left(),
+        sent: Sent::Bytes(reader.left()),
     })
 }
 

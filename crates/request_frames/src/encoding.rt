@@ -1,4 +1,4 @@
-//! Requests as they are sent.
+//! Requests as they are sent. Tests alone call it: it stands here as a law, that what is sent decodes back.
 
 ghost use Rattle.std.specs.Prelude.{◌≡◌, ◌≢◌, ◌≤◌, [], ◌∷◌, length};
 ghost use Rattle.request_frames.specs.Fields.{Code, Number, Show, AllFit, bytes_of};

@@ -4,7 +4,8 @@
 //! lowest first, and the body. A body is a code byte and the fields that this code has, with nothing after them;
 //! numbers have four bytes, the lowest first.
 //!
-//! What it stands on: the types of `tsd_model`; `arrayvec` for buffers, `byteorder` for numbers in bytes.
+//! What it stands on: the types of `tsd_model`; `script_text` for a request as it was read, before it is put together;
+//! `arrayvec` for buffers, `byteorder` for numbers in bytes.
 //!
 //! What it promises:
 //!
@@ -26,8 +27,7 @@ pub mod cutter;
 mod decoding;
 mod encoding;
 pub mod frame_buf;
-mod parsed;
-mod reader;
+pub mod reader;
 mod reply_decoding;
 mod reply_encoding;
 mod writing;

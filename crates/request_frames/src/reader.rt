@@ -1,11 +1,12 @@
-//! The bytes of a body, read from its front field by field.
+//! The bytes of a body, read from its front field by field. The fields of other bodies are read by it too.
 
 ghost use Rattle.std.specs.Prelude.{◌≡◌, ◌↔◌, [], IsTrue, MatchOption};
-ghost use Rattle.request_frames.specs.Reading.{byte_of, num_of, cap_of, shown_of, hint_of, level_of, data_of};
+ghost use Rattle.request_frames.specs.Reading.{byte_of, taken, num_of, cap_of, shown_of, hint_of, level_of, data_of};
 ghost use Rattle.request_frames.specs.Reading.{list_of_blocks, access_of};
 
 use crate::codes::{ABSENT, LEVEL_NONE, LEVEL_READ, LEVEL_WRITE, PRESENT};
 use byteorder::{ByteOrder, LittleEndian};
+use script_text::parsed::Access;
 use std::marker::Model;
 use tsd_model::caps::CAP_BYTES;
 use tsd_model::lists::DATA_MAX;
@@ -13,19 +14,6 @@ use tsd_model::{BlockList, Cap, Data, Hint, Level, Shown};
 
 /// How many bytes a number has.
 pub const NUMBER_BYTES: usize = 4;
-
-/// What most requests begin with.
-#[derive(Clone, Copy, Debug)]
-pub struct Access {
-    /// The session.
-    pub session: u32,
-
-    /// The block, or the source of pointers.
-    pub block: u32,
-
-    /// What is shown.
-    pub shown: Shown,
-}
 
 /// The bytes of a body that aren't read yet. Contracts see them as a list.
 #[derive(Drop)]
@@ -72,30 +60,35 @@ impl<'a> BodyReader<'a> {
         Some(*first)
     }
 
+    /// The next bytes, so many.
+    pub fn take(&mut self, count: usize) -> Option<&'a [u8]>
+        ensures { MatchOption result (taken count self.old ≡ None) (λ bytes. taken count self.old
+            ≡ Some (bytes.now, self.new)) }
+    {
+        let left = self.left;
+        if left.len() < count {
+            return None;
+        }
+        self.left = &left[count..];
+        Some(&left[..count])
+    }
+
     /// The next four bytes as a number, the lowest first.
-    #[tactic(auto, unfolding(crate::specs::Reading::num_of))]
+    #[tactic(auto, unfolding(crate::specs::Reading::num_of), using(crate::proofs::FieldLaws::number_taken))]
     pub fn number(&mut self) -> Option<u32>
         ensures { MatchOption result (num_of self.old ≡ None) (λ n. num_of self.old ≡ Some (n, self.new)) }
     {
-        let left = self.left;
-        if left.len() < NUMBER_BYTES {
-            return None;
-        }
-        self.left = &left[NUMBER_BYTES..];
-        Some(LittleEndian::read_u32(left))
+        let bytes = self.take(NUMBER_BYTES)?;
+        Some(LittleEndian::read_u32(bytes))
     }
 
     /// The next 16 bytes as a capability.
     pub fn cap(&mut self) -> Option<Cap>
         ensures { MatchOption result (cap_of self.old ≡ None) (λ c. cap_of self.old ≡ Some (c, self.new)) }
     {
-        let left = self.left;
-        if left.len() < CAP_BYTES {
-            return None;
-        }
+        let taken = self.take(CAP_BYTES)?;
         let mut bytes = [0; CAP_BYTES];
-        bytes.copy_from_slice(&left[..CAP_BYTES]);
-        self.left = &left[CAP_BYTES..];
+        bytes.copy_from_slice(taken);
         Some(Cap { bytes })
     }
 

@@ -1,4 +1,4 @@
-//! The reply that a body spells.
+//! The reply that a body spells. Tests alone call it: it stands here as a law, that what is sent decodes back.
 
 ghost use Rattle.std.specs.Prelude.{◌≡◌, MatchOption};
 ghost use Rattle.tsd_model.specs.declared.replies.Reply.{Reply};

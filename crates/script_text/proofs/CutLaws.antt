@@ -7,6 +7,7 @@ use Rattle.std.proofs.Math.Seq.{take-length, take-append-add}
 use Rattle.std.specs.List.{position}
 use Rattle.std.specs.Prelude.{MatchBool}
 use Rattle.script_text.specs.Pieces.{pieces, onto_first, front, last_of, lines, unended}
+use Rattle.script_text.specs.Grammar.{held_max}
 use Rattle.script_text.specs.Lines.{Cutting, rest, WasFed, Cuts, FollowOn, text_fed, lines_held}
 use Rattle.script_text.proofs.PiecesLaws.{cut_upto, cut_none, some_pieces}
 
@@ -118,57 +119,57 @@ lines_on x y = ap front (pieces-glue 10 x y) ∙ front_on (lines x) (pieces 10 y
 -- ---- one feed
 
 -- the cutter goes on with what it held of the text
-goes_on : (text piece : List ℕ) (old : Cutting) → WasFed text old → take 8401 (rest old ++ piece) ≡ take 8401 (unended text ++ piece)
-goes_on text piece old fed = ap (λ xs. take 8401 (xs ++ piece)) fed ∙ take_cut 8401 (unended text) piece
+goes_on : (text piece : List ℕ) (old : Cutting) → WasFed text old → take held_max (rest old ++ piece) ≡ take held_max (unended text ++ piece)
+goes_on text piece old fed = ap (λ xs. take held_max (xs ++ piece)) fed ∙ take_cut held_max (unended text) piece
 
-pub cuts_line : (text piece : List ℕ) (i : ℕ) (old new : Cutting) → position (λ b. b == 10) piece ≡ Some i → new.whole ≡ true → new.line ≡ take 8401 (rest old ++ take i piece) → WasFed text old → Cuts text (take (i + 1) piece) new
+pub cuts_line : (text piece : List ℕ) (i : ℕ) (old new : Cutting) → position (λ b. b == 10) piece ≡ Some i → new.whole ≡ true → new.line ≡ take held_max (rest old ++ take i piece) → WasFed text old → Cuts text (take (i + 1) piece) new
 cuts_line text piece i old new e w l fed =
     let used = cut_upto 10 piece i e in
     subst (λ t. MatchBool t
-    ((line : List ℕ) × (lines (text ++ take (i + 1) piece) ≡ lines text ++ line ∷ []) × (unended (text ++ take (i + 1) piece) ≡ []) × (new.line ≡ take 8401 line))
-    ((lines (text ++ take (i + 1) piece) ≡ lines text) × (new.line ≡ take 8401 (unended (text ++ take (i + 1) piece))))) (sym w)
+    ((line : List ℕ) × (lines (text ++ take (i + 1) piece) ≡ lines text ++ line ∷ []) × (unended (text ++ take (i + 1) piece) ≡ []) × (new.line ≡ take held_max line))
+    ((lines (text ++ take (i + 1) piece) ≡ lines text) × (new.line ≡ take held_max (unended (text ++ take (i + 1) piece))))) (sym w)
     (unended text ++ take i piece, lines_more text (take (i + 1) piece) (take i piece) used, unended_none text (take (i + 1) piece) (take i piece) used, l ∙ goes_on text (take i piece) old fed)
 
-pub cuts_none : (text piece : List ℕ) (old new : Cutting) → ◌≡◌ {A = Option ℕ} (position (λ b. b == 10) piece) None → new.whole ≡ false → new.line ≡ take 8401 (rest old ++ piece) → WasFed text old → Cuts text (take (length piece) piece) new
+pub cuts_none : (text piece : List ℕ) (old new : Cutting) → ◌≡◌ {A = Option ℕ} (position (λ b. b == 10) piece) None → new.whole ≡ false → new.line ≡ take held_max (rest old ++ piece) → WasFed text old → Cuts text (take (length piece) piece) new
 cuts_none text piece old new e w l fed =
     let none = cut_none 10 piece e in
     subst (λ used. Cuts text used new) (sym (take-length piece))
     (subst (λ t. MatchBool t
-    ((line : List ℕ) × (lines (text ++ piece) ≡ lines text ++ line ∷ []) × (unended (text ++ piece) ≡ []) × (new.line ≡ take 8401 line))
-    ((lines (text ++ piece) ≡ lines text) × (new.line ≡ take 8401 (unended (text ++ piece))))) (sym w)
-    (lines_same text piece none, l ∙ goes_on text piece old fed ∙ ap (take 8401) (sym (unended_more text piece none))))
+    ((line : List ℕ) × (lines (text ++ piece) ≡ lines text ++ line ∷ []) × (unended (text ++ piece) ≡ []) × (new.line ≡ take held_max line))
+    ((lines (text ++ piece) ≡ lines text) × (new.line ≡ take held_max (unended (text ++ piece))))) (sym w)
+    (lines_same text piece none, l ∙ goes_on text piece old fed ∙ ap (take held_max) (sym (unended_more text piece none))))
 
 -- after a feed the cutter holds what stands after the last line feed
 pub fed_more : (text more : List ℕ) (new : Cutting) → Cuts text more new → WasFed (text ++ more) new
 fed_more text more new h =
     elim new.whole as (λ t. MatchBool t
-    ((line : List ℕ) × (lines (text ++ more) ≡ lines text ++ line ∷ []) × (unended (text ++ more) ≡ []) × (new.line ≡ take 8401 line))
-    ((lines (text ++ more) ≡ lines text) × (new.line ≡ take 8401 (unended (text ++ more)))) → cond t [] new.line ≡ take 8401 (unended (text ++ more))) [
-      | true ↦ λ g. ap (take 8401) (sym g.2)
+    ((line : List ℕ) × (lines (text ++ more) ≡ lines text ++ line ∷ []) × (unended (text ++ more) ≡ []) × (new.line ≡ take held_max line))
+    ((lines (text ++ more) ≡ lines text) × (new.line ≡ take held_max (unended (text ++ more)))) → cond t [] new.line ≡ take held_max (unended (text ++ more))) [
+      | true ↦ λ g. ap (take held_max) (sym g.2)
       | false ↦ λ g. g.1
     ] h
 
 -- ---- all feeds
 
 -- one feed: the lines of the text so far grow by the line that it ended, if it ended one
-held_next : (text more : List ℕ) (new : Cutting) → Cuts text more new → map (take 8401) (lines text) ++ cond new.whole (new.line ∷ []) [] ≡ map (take 8401) (lines (text ++ more))
+held_next : (text more : List ℕ) (new : Cutting) → Cuts text more new → map (take held_max) (lines text) ++ cond new.whole (new.line ∷ []) [] ≡ map (take held_max) (lines (text ++ more))
 held_next text more new h =
     elim new.whole as (λ t. MatchBool t
-    ((line : List ℕ) × (lines (text ++ more) ≡ lines text ++ line ∷ []) × (unended (text ++ more) ≡ []) × (new.line ≡ take 8401 line))
-    ((lines (text ++ more) ≡ lines text) × (new.line ≡ take 8401 (unended (text ++ more)))) → map (take 8401) (lines text) ++ cond t (new.line ∷ []) [] ≡ map (take 8401) (lines (text ++ more))) [
-      | true ↦ λ g. ap (λ l. map (take 8401) (lines text) ++ l ∷ []) g.3 ∙ sym (map-append (take 8401) (lines text) (g.0 ∷ [])) ∙ ap (map (take 8401)) (sym g.1)
-      | false ↦ λ g. append-nil (map (take 8401) (lines text)) ∙ ap (map (take 8401)) (sym g.0)
+    ((line : List ℕ) × (lines (text ++ more) ≡ lines text ++ line ∷ []) × (unended (text ++ more) ≡ []) × (new.line ≡ take held_max line))
+    ((lines (text ++ more) ≡ lines text) × (new.line ≡ take held_max (unended (text ++ more)))) → map (take held_max) (lines text) ++ cond t (new.line ∷ []) [] ≡ map (take held_max) (lines (text ++ more))) [
+      | true ↦ λ g. ap (λ l. map (take held_max) (lines text) ++ l ∷ []) g.3 ∙ sym (map-append (take held_max) (lines text) (g.0 ∷ [])) ∙ ap (map (take held_max)) (sym g.1)
+      | false ↦ λ g. append-nil (map (take held_max) (lines text)) ∙ ap (map (take held_max)) (sym g.0)
     ] h
 
-held_all : (text : List ℕ) (feeds : List (List ℕ × Cutting)) → FollowOn text feeds → map (take 8401) (lines text) ++ lines_held feeds ≡ map (take 8401) (lines (text ++ text_fed feeds))
-held_all text [] h = append-nil (map (take 8401) (lines text)) ∙ ap (λ t. map (take 8401) (lines t)) (sym (append-nil text))
+held_all : (text : List ℕ) (feeds : List (List ℕ × Cutting)) → FollowOn text feeds → map (take held_max) (lines text) ++ lines_held feeds ≡ map (take held_max) (lines (text ++ text_fed feeds))
+held_all text [] h = append-nil (map (take held_max) (lines text)) ∙ ap (λ t. map (take held_max) (lines t)) (sym (append-nil text))
 held_all text (feed ∷ feeds) h =
-    sym (append_assoc (map (take 8401) (lines text)) (cond feed.1.whole (feed.1.line ∷ []) []) (lines_held feeds))
+    sym (append_assoc (map (take held_max) (lines text)) (cond feed.1.whole (feed.1.line ∷ []) []) (lines_held feeds))
     ∙ ap (λ ls. ls ++ lines_held feeds) (held_next text feed.0 feed.1 h.0)
     ∙ held_all (text ++ feed.0) feeds h.1
-    ∙ ap (λ t. map (take 8401) (lines t)) (append_assoc text feed.0 (text_fed feeds))
+    ∙ ap (λ t. map (take held_max) (lines t)) (append_assoc text feed.0 (text_fed feeds))
 
-pub any_cutting_lem : (feeds : List (List ℕ × Cutting)) → FollowOn [] feeds → lines_held feeds ≡ map (take 8401) (lines (text_fed feeds))
+pub any_cutting_lem : (feeds : List (List ℕ × Cutting)) → FollowOn [] feeds → lines_held feeds ≡ map (take held_max) (lines (text_fed feeds))
 any_cutting_lem feeds h = held_all [] feeds h
 
 -- what there is room for

@@ -3,7 +3,7 @@ use Rattle.std.proofs.Common.{◌≡◌, ℕ, true, false, cond, List, [], ◌�
 use Rattle.std.specs.Prelude.{codes, bytes_eq, option_map}
 use Rattle.std.proofs.lemmas.Slice.Eq.{bytes_eq-Decides}
 use Rattle.tsd_model.specs.declared.requests.Request.{Request}
-use Rattle.script_text.specs.declared.words.Access.{Access}
+use Rattle.script_text.specs.declared.parsed.Access.{Access}
 use Rattle.script_text.specs.Reading.{num_of, new_of, shown_of, hint_of, data_of, reads, ends, Words, ◌>>=◌, access_of, begin_of, end_of, read_of, write_of, alloc_of, contig_of, free_of, create_of, delete_of, set_cap_of, sweep_of, list_of, dispatch, forms, named, asked}
 use Rattle.script_text.specs.Grammar.{Field, Number, Show, New, Near, Bytes, fields, IsField, AreFields}
 use Rattle.script_text.proofs.WordLaws.{num_is, new_is, shown_is, hint_is, data_is}

@@ -17,10 +17,10 @@ use Rattle.tsd_model.specs.declared.requests.Hint.{Hint}
 use Rattle.tsd_model.specs.declared.requests.Hint.TheVariants.{Null, At}
 use Rattle.tsd_model.specs.declared.requests.Request.{Request}
 use Rattle.tsd_model.specs.declared.requests.Request.TheVariants as ask
-use Rattle.script_text.specs.declared.words.Access.{Access}
+use Rattle.script_text.specs.declared.parsed.Access.{Access}
 use Rattle.script_text.specs.Pieces.{pieces}
 use Rattle.script_text.specs.Reading.{num_of, new_of, shown_of, hint_of, data_of, reads, ends, Words, ◌>>=◌, access_of, begin_of, end_of, read_of, write_of, alloc_of, contig_of, free_of, create_of, delete_of, set_cap_of, sweep_of, list_of, dispatch, forms, named, asked, request_of}
-use Rattle.script_text.specs.Grammar.{Field, Verb, Number, Show, New, Near, Bytes, fields, IsNumber, IsCapText, IsData, IsField, AreFields, IsLine}
+use Rattle.script_text.specs.Grammar.{line_max, held_max, Field, Verb, Number, Show, New, Near, Bytes, fields, IsNumber, IsCapText, IsData, IsField, AreFields, IsLine}
 use Rattle.script_text.proofs.PiecesLaws.{take_all, join-pieces, pieces-join, lacks, some_pieces}
 use Rattle.script_text.proofs.WordLaws.{are_digits, num_back, new_back, shown_back, hint_back, data_back}
 use Rattle.script_text.proofs.ReadingLaws.{at_place, asked_is}
@@ -224,11 +224,11 @@ names_lack (ask.List s b c n) = refl
 pub line_is : (line : List ℕ) → (request_of line ≡ ask.Bad) ⊎ IsLine line (request_of line)
 unfolding request_of
 line_is line =
-    elim (nat_lt 8400 (length line)) as (λ t. nat_lt 8400 (length line) ≡ t → (cond t ask.Bad (unwrap_or (asked (pieces 32 line)) ask.Bad) ≡ ask.Bad) ⊎ IsLine line (cond t ask.Bad (unwrap_or (asked (pieces 32 line)) ask.Bad))) [
+    elim (nat_lt line_max (length line)) as (λ t. nat_lt line_max (length line) ≡ t → (cond t ask.Bad (unwrap_or (asked (pieces 32 line)) ask.Bad) ≡ ask.Bad) ⊎ IsLine line (cond t ask.Bad (unwrap_or (asked (pieces 32 line)) ask.Bad))) [
       | true ↦ λ e. inl refl
       | false ↦ λ e. elim (asked (pieces 32 line)) as (λ o. asked (pieces 32 line) ≡ o → (unwrap_or o ask.Bad ≡ ask.Bad) ⊎ IsLine line (unwrap_or o ask.Bad)) [
         | None ↦ λ f. inl refl
-        | Some q ↦ λ f. inr (record { short = ltb-false 8400 (length line) e; words = pieces 32 line; some = some_words (pieces 32 line) (some_pieces 32 line); spelled = asked_is (pieces 32 line) q f; parted = sym (join-pieces 32 line) })
+        | Some q ↦ λ f. inr (record { short = ltb-false line_max (length line) e; words = pieces 32 line; some = some_words (pieces 32 line) (some_pieces 32 line); spelled = asked_is (pieces 32 line) q f; parted = sym (join-pieces 32 line) })
       ] refl
     ] refl
   where
@@ -241,15 +241,15 @@ pub line_back : (line : List ℕ) (q : Request) → IsLine line q → request_of
 unfolding request_of
 line_back line q h =
     let cut : pieces 32 line ≡ h.words = ap (pieces 32) h.parted ∙ pieces-join 32 h.words h.some (all_lack (fields q) h.words (names_lack q) h.spelled) in
-    ap (λ t. cond t ask.Bad (unwrap_or (asked (pieces 32 line)) ask.Bad)) (le-ltb 8400 (length line) h.short)
+    ap (λ t. cond t ask.Bad (unwrap_or (asked (pieces 32 line)) ask.Bad)) (le-ltb line_max (length line) h.short)
     ∙ ap (λ o. unwrap_or o ask.Bad) (ap asked cut ∙ asked_back q h.words h.some h.spelled)
 
--- a line that is cut after 8,401 bytes is as bad as the whole
-pub request_of-cut : (l : List ℕ) → request_of (take 8401 l) ≡ request_of l
+-- a line that is cut after `held_max` bytes is as bad as the whole
+pub request_of-cut : (l : List ℕ) → request_of (take held_max l) ≡ request_of l
 unfolding request_of
-request_of-cut l = elim (nat_lt 8400 (length l)) as (λ t. nat_lt 8400 (length l) ≡ t → cond (nat_lt 8400 (length (take 8401 l))) ask.Bad (unwrap_or (asked (pieces 32 (take 8401 l))) ask.Bad) ≡ cond t ask.Bad (unwrap_or (asked (pieces 32 l)) ask.Bad)) [
-  | true ↦ λ e. let long : 8400 < length (take 8401 l) = omega (arith, length-take 8401 l, ltb-true 8400 (length l) e) in
-      ap (λ t. cond t ask.Bad (unwrap_or (asked (pieces 32 (take 8401 l))) ask.Bad)) (lt-ltb 8400 (length (take 8401 l)) long)
-  | false ↦ λ e. let short : length l ≤ 8401 = omega (arith, ltb-false 8400 (length l) e) in
-      ap (λ m. cond (nat_lt 8400 (length m)) ask.Bad (unwrap_or (asked (pieces 32 m)) ask.Bad)) (take_all l 8401 short) ∙ ap (λ t. cond t ask.Bad (unwrap_or (asked (pieces 32 l)) ask.Bad)) e
+request_of-cut l = elim (nat_lt line_max (length l)) as (λ t. nat_lt line_max (length l) ≡ t → cond (nat_lt line_max (length (take held_max l))) ask.Bad (unwrap_or (asked (pieces 32 (take held_max l))) ask.Bad) ≡ cond t ask.Bad (unwrap_or (asked (pieces 32 l)) ask.Bad)) [
+  | true ↦ λ e. let long : line_max < length (take held_max l) = omega (arith, length-take held_max l, ltb-true line_max (length l) e) in
+      ap (λ t. cond t ask.Bad (unwrap_or (asked (pieces 32 (take held_max l))) ask.Bad)) (lt-ltb line_max (length (take held_max l)) long)
+  | false ↦ λ e. let short : length l ≤ held_max = omega (arith, ltb-false line_max (length l) e) in
+      ap (λ m. cond (nat_lt line_max (length m)) ask.Bad (unwrap_or (asked (pieces 32 m)) ask.Bad)) (take_all l held_max short) ∙ ap (λ t. cond t ask.Bad (unwrap_or (asked (pieces 32 l)) ask.Bad)) e
 ] refl

@@ -11,6 +11,14 @@ use Rattle.tsd_model.specs.declared.requests.Hint.TheVariants.{Null, At}
 use Rattle.tsd_model.specs.declared.requests.Request.{Request}
 use Rattle.tsd_model.specs.declared.requests.Request.TheVariants as ask
 
+-- the most bytes of a line, its line feed not counted
+abbrev pub line_max : ℕ
+line_max = 8400
+
+-- how many bytes of a line are held at most: one more, so that a line too long is told apart from every other
+abbrev pub held_max : ℕ
+held_max = 8401
+
 -- what one word of a line says
 pub data Field : Type 0 where
   Verb : List ℕ → Field
@@ -82,7 +90,7 @@ AreFields (f ∷ fs) (w ∷ ws) = IsField f w × AreFields fs ws
 
 -- The line spells the request: its words are parted by one space each, and there is at least one.
 pub record IsLine (line : List ℕ) (q : Request) : Type 0 where
-  pub short : length line ≤ 8400
+  pub short : length line ≤ line_max
   pub words : List (List ℕ)
   pub some : 1 ≤ length words
   pub spelled : AreFields (fields q) words

@@ -1,8 +1,9 @@
 -- What a cutter of lines holds of the text that it was fed.
 use Rattle.std.specs.Prelude.{◌≡◌, ℕ, Bool, cond, List, [], ◌∷◌, ◌++◌, take, MatchBool}
+use Rattle.script_text.specs.Grammar.{held_max}
 use Rattle.script_text.specs.Pieces.{lines, unended}
 
--- a line, cut to 8,401 bytes, and whether its line feed has come
+-- a line, cut to `held_max` bytes, and whether its line feed has come
 pub record Cutting : Type 0 where
   pub line : List ℕ
   pub whole : Bool
@@ -13,15 +14,15 @@ rest c = cond c.whole [] c.line
 
 -- the cutter was fed this text, in whatever pieces
 abbrev pub WasFed : List ℕ → Cutting → Type 0
-WasFed text c = rest c ≡ take 8401 (unended text)
+WasFed text c = rest c ≡ take held_max (unended text)
 
 -- More bytes came after a text. Either they end its next line, and the cutter holds this line, or they end none, and it
--- holds what stands after the last line feed. Each is cut to 8,401 bytes.
+-- holds what stands after the last line feed. Each is cut to `held_max` bytes.
 abbrev pub Cuts : List ℕ → List ℕ → Cutting → Type 0
 Cuts text more new = MatchBool new.whole
     ((line : List ℕ) × (lines (text ++ more) ≡ lines text ++ line ∷ []) × (unended (text ++ more) ≡ [])
-    × (new.line ≡ take 8401 line))
-    ((lines (text ++ more) ≡ lines text) × (new.line ≡ take 8401 (unended (text ++ more))))
+    × (new.line ≡ take held_max line))
+    ((lines (text ++ more) ≡ lines text) × (new.line ≡ take held_max (unended (text ++ more))))
 
 -- Feeds that came one after another, the first of them after this text: the bytes that each used, and what the cutter
 -- held after it.

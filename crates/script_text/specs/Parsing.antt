@@ -1,21 +1,29 @@
--- The request that the words of a line say, where only the bytes to write are still a word.
-use Rattle.std.specs.Prelude.{ℕ, Bool, true, false, List, Option, Some, None, option_map}
+-- The request that the words of a line say, or the fields of a body, where the bytes to write still stand as they were
+-- sent.
+use Rattle.std.specs.Prelude.{ℕ, Bool, true, false, cond, nat_le, List, length, Option, Some, None, option_map}
 use Rattle.tsd_model.specs.declared.requests.Request.{Request}
 use Rattle.tsd_model.specs.declared.requests.Request.TheVariants as ask
-use Rattle.script_text.specs.declared.words.Access.{Access}
+use Rattle.script_text.specs.declared.parsed.Access.{Access}
 use Rattle.script_text.specs.declared.parsed.Parsed.{Parsed}
 use Rattle.script_text.specs.declared.parsed.Parsed.TheVariants as say
+use Rattle.script_text.specs.declared.parsed.Sent.{Sent}
+use Rattle.script_text.specs.declared.parsed.Sent.TheVariants as sent
 use Rattle.script_text.specs.Reading.{Words, data_of, ends}
 
-abbrev pub write_parsed : Access → List ℕ → Option Request
-write_parsed p w = option_map (λ d. ask.Write p.session p.block p.shown d) (data_of w)
+-- the bytes to write, where a block may have them
+abbrev pub data_sent : Sent → Option (List ℕ)
+data_sent (sent.Word w) = data_of w.now
+data_sent (sent.Bytes bs) = cond (nat_le (length bs.now) 4096) (Some bs.now) None
+
+abbrev pub write_parsed : Access → Sent → Option Request
+write_parsed p s = option_map (λ d. ask.Write p.session p.block p.shown d) (data_sent s)
 
 abbrev pub request_parsed : Parsed → Option Request
 request_parsed say.Bad = None
 request_parsed (say.Begin s) = Some (ask.Begin s)
 request_parsed (say.End s) = Some (ask.End s)
 request_parsed (say.Read p) = Some (ask.Read p.session p.block p.shown)
-request_parsed (say.Write p w) = write_parsed p w.now
+request_parsed (say.Write p s) = write_parsed p s
 request_parsed (say.Alloc p h n) = Some (ask.Alloc p.session p.block p.shown h n)
 request_parsed (say.Contig p h n) = Some (ask.Contig p.session p.block p.shown h n)
 request_parsed say.GetFree = Some ask.GetFree
@@ -31,7 +39,7 @@ names_pointers say.Bad = false
 names_pointers (say.Begin s) = false
 names_pointers (say.End s) = false
 names_pointers (say.Read p) = false
-names_pointers (say.Write p w) = false
+names_pointers (say.Write p s) = false
 names_pointers say.GetFree = false
 names_pointers (say.Sweep s c) = false
 names_pointers (say.Alloc p h n) = true
@@ -47,7 +55,7 @@ is_making say.Bad = false
 is_making (say.Begin s) = false
 is_making (say.End s) = false
 is_making (say.Read p) = false
-is_making (say.Write p w) = false
+is_making (say.Write p s) = false
 is_making say.GetFree = false
 is_making (say.Sweep s c) = false
 is_making (say.Alloc p h n) = true

@@ -13,7 +13,8 @@ use Rattle.tsd_model.specs.declared.requests.Hint.{Hint}
 use Rattle.tsd_model.specs.declared.requests.Hint.TheVariants.{Null, At}
 use Rattle.tsd_model.specs.declared.requests.Request.{Request}
 use Rattle.tsd_model.specs.declared.requests.Request.TheVariants as ask
-use Rattle.script_text.specs.declared.words.Access.{Access}
+use Rattle.script_text.specs.declared.parsed.Access.{Access}
+use Rattle.script_text.specs.Grammar.{line_max}
 use Rattle.script_text.specs.Pieces.{pieces}
 
 abbrev pub Words : Type 0
@@ -154,4 +155,4 @@ asked (w ∷ ws) = named w ws
 
 -- the request of a line, Bad where it isn't one
 unfoldable pub request_of : List ℕ → Request
-request_of line = cond (nat_lt 8400 (length line)) ask.Bad (unwrap_or (asked (pieces 32 line)) ask.Bad)
+request_of line = cond (nat_lt line_max (length line)) ask.Bad (unwrap_or (asked (pieces 32 line)) ask.Bad)

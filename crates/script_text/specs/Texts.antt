@@ -1,5 +1,5 @@
 -- The texts of requests and replies as they are printed.
-use Rattle.std.specs.Prelude.{ℕ, Bool, true, false, cond, ◌==◌, nat_le, List, [], ◌∷◌, length, map, codes, decimal}
+use Rattle.std.specs.Prelude.{ℕ, Bool, true, cond, ◌==◌, nat_le, List, [], ◌∷◌, length, map, codes, decimal}
 use Rattle.std.specs.List.{list_all, join_with_byte}
 use Rattle.hex.specs.Hex.{encode_lower}
 use Rattle.tsd_model.specs.declared.caps.Shown.TheVariants.{Nothing, Key}

@@ -5,9 +5,9 @@
 
 ghost use Rattle.std.specs.Prelude.{◌≡◌, ◌<◌, ◌≤◌, ◌++◌, ℕ, List, [], length, map, take, true};
 ghost use Rattle.std.specs.Prelude.{false};
+ghost use Rattle.script_text.specs.Grammar.{held_max};
 ghost use Rattle.script_text.specs.Pieces.{lines};
 ghost use Rattle.script_text.specs.Lines.{Cutting, Cuts, FollowOn, WasFed, lines_held, rest, text_fed};
-ghost use Rattle.arrayvec.specs.ArrayVec.{array_vec_len};
 
 use crate::parse::LINE_MAX;
 use crate::words::first_position;
@@ -95,7 +95,7 @@ impl LineCutter {
     /// The line so far without its line feed, cut to 8,401 bytes; after a whole line that line, until the next feed.
     pub fn line(&self) -> &[u8]
         ensures value { result.now ≡ self.now.line }
-        ensures fits { length result.now ≤ 8401 }
+        ensures fits { length result.now ≤ held_max }
     {
         self.line.as_slice()
     }
@@ -104,7 +104,7 @@ impl LineCutter {
     /// is something.
     pub fn rest(&self) -> &[u8]
         ensures value { result.now ≡ rest self.now }
-        ensures fits { length result.now ≤ 8401 }
+        ensures fits { length result.now ≤ held_max }
     {
         if self.whole {
             return b"".as_slice();
@@ -115,7 +115,7 @@ impl LineCutter {
 
 /// Appends what there is room for.
 fn push_all(line: &mut ArrayVec<u8, HELD_MAX>, bytes: &[u8])
-    ensures { line.new.items ≡ take 8401 (line.old.items ++ bytes.now) }
+    ensures { line.new.items ≡ take held_max (line.old.items ++ bytes.now) }
 {
     let fitting = line.remaining_capacity().min(bytes.len());
     let _fit = line.try_extend_from_slice(&bytes[..fitting]);
@@ -127,7 +127,7 @@ pub fn any_cutting()
     /// promise: However a text is cut into pieces, the lines that are handed out are those of the text, each cut to
     /// 8,401 bytes.
     ensures { (feeds : List (List ℕ × Cutting)) → FollowOn [] feeds
-        → lines_held feeds ≡ map (take 8401) (lines (text_fed feeds)) }
+        → lines_held feeds ≡ map (take held_max) (lines (text_fed feeds)) }
 {}
 
 /// The lines of a text come first among those of a longer text: more bytes change no line that is whole.

@@ -1,6 +1,6 @@
 //! Hexadecimal digits as bytes.
 
-ghost use Rattle.std.specs.Prelude.{◌≡◌, ◌*◌, ℕ, cond, length, unwrap_or, Some, None};
+ghost use Rattle.std.specs.Prelude.{◌≡◌, ◌*◌, cond, length, unwrap_or, Some, None};
 ghost use Rattle.std.specs.Result.{result_ok};
 ghost use Rattle.hex.specs.Hex.{decode_sized, hex_digit_value};
 

@@ -26,7 +26,7 @@ mod digits;
 pub mod fields;
 pub mod out_buf;
 pub mod parse;
-mod parsed;
+pub mod parsed;
 pub mod printing;
 mod replies;
 mod requests;

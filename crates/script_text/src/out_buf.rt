@@ -41,7 +41,7 @@ impl OutBuf {
 
     /// Adds a byte at the end. A full buffer stays as it is.
     pub fn push(&mut self, byte: u8) -> Result<(), ListFull>
-        ensures variant { IsOk result ↔ (length self.old < 8400) }
+        ensures variant { IsOk result ↔ (length self.old < LINE_MAX) }
         ensures ok { OnOk result (self.new ≡ self.old ++ byte ∷ []) }
         ensures err { OnErr result (self.new ≡ self.old) }
     {
@@ -53,7 +53,7 @@ impl OutBuf {
 
     /// Adds bytes at the end, for which there is room.
     pub fn put(&mut self, bytes: &[u8])
-        requires { length self.old + length bytes.now ≤ 8400 }
+        requires { length self.old + length bytes.now ≤ LINE_MAX }
         ensures { self.new ≡ self.old ++ bytes.now }
     {
         let _fit = self.bytes.try_extend_from_slice(bytes);
@@ -62,7 +62,7 @@ impl OutBuf {
     /// The bytes.
     pub fn as_slice(&self) -> &[u8]
         ensures value { result.now ≡ self.now }
-        ensures fits { length self.now ≤ 8400 }
+        ensures fits { length self.now ≤ LINE_MAX }
     {
         self.bytes.as_slice()
     }

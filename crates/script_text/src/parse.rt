@@ -5,13 +5,13 @@
 ghost use Rattle.std.specs.Prelude.{◌≡◌, ◌⊎◌, ℕ, List, take, unwrap_or};
 ghost use Rattle.tsd_model.specs.declared.requests.Request.{Request};
 ghost use Rattle.tsd_model.specs.declared.requests.Request.TheVariants as ask;
-ghost use Rattle.script_text.specs.Grammar.{IsLine};
+ghost use Rattle.script_text.specs.Grammar.{IsLine, held_max};
 ghost use Rattle.script_text.specs.Reading.{begin_of, end_of, read_of, write_of, alloc_of, contig_of, free_of};
 ghost use Rattle.script_text.specs.Reading.{create_of, delete_of, set_cap_of, sweep_of, list_of, named, asked};
 ghost use Rattle.script_text.specs.Reading.{request_of};
 ghost use Rattle.script_text.specs.Parsing.{ended, request_parsed, request_said};
 
-use crate::parsed::{Parsed, put_request};
+use crate::parsed::{Parsed, Sent, put_request};
 use crate::words::Words;
 use tsd_model::{CapPair, Request};
 
@@ -29,7 +29,7 @@ pub fn parse_line(line: &[u8], into: &mut Request)
     ensures only { (q : Request) → IsLine line.now q → into.new ≡ q }
     // A longer line is as bad where it is cut to one byte more than a line may have.
     /// promise: A line that is too long is as bad where it is cut.
-    ensures cut { (whole : List ℕ) → line.now ≡ take 8401 whole → into.new ≡ request_of whole }
+    ensures cut { (whole : List ℕ) → line.now ≡ take held_max whole → into.new ≡ request_of whole }
     // As a function that computes.
     ensures value { into.new ≡ request_of line.now }
 {
@@ -129,8 +129,8 @@ fn write(mut words: Words<'_>) -> Option<Parsed<'_>>
     ensures { request_said result ≡ write_of words.entry }
 {
     let access = words.access()?;
-    let word = words.next()?;
-    done(words, Parsed::Write { access, word })
+    let sent = Sent::Word(words.next()?);
+    done(words, Parsed::Write { access, sent })
 }
 
 #[tactic(auto, unfolding(crate::specs::Reading::alloc_of))]

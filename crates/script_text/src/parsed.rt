@@ -1,20 +1,42 @@
-//! What the words of a line say.
+//! What the words of a line say, or the fields of a frame's body.
 //!
 //! It is small: a `Request` has room for a whole block, and each one that is made or handed on clears that room. So it
 //! is put together once, in the caller's room for it.
 
-ghost use Rattle.std.specs.Prelude.{◌≡◌, true, unwrap_or};
-ghost use Rattle.script_text.specs.Parsing.{is_making, names_pointers, request_parsed, write_parsed};
+ghost use Rattle.std.specs.Prelude.{◌≡◌, [], Some, None, cond, true, unwrap_or};
+ghost use Rattle.script_text.specs.Parsing.{data_sent, is_making, names_pointers, request_parsed, write_parsed};
 ghost use Rattle.tsd_model.specs.declared.requests.Request.TheVariants as ask;
 
 use crate::fields::read_data;
-use crate::words::Access;
 use tsd_model::{CapPair, Data, Hint, Request, Shown};
 
-/// A request, but for the bytes to write: those are still a word.
+/// What most requests begin with.
+#[derive(Clone, Copy, Debug)]
+pub struct Access {
+    /// The session.
+    pub session: u32,
+
+    /// The block, or the source of pointers.
+    pub block: u32,
+
+    /// What is shown.
+    pub shown: Shown,
+}
+
+/// Bytes to write, as they were sent.
+#[derive(Clone, Copy, Debug)]
+pub enum Sent<'a> {
+    /// The word of a line that is to spell them.
+    Word(&'a [u8]),
+
+    /// The bytes themselves.
+    Bytes(&'a [u8]),
+}
+
+/// A request, but for the bytes to write: those still stand where they were sent.
 #[derive(Drop)]
 pub enum Parsed<'a> {
-    /// The words say nothing.
+    /// What was sent says nothing.
     Bad,
 
     /// Opens a session.
@@ -32,10 +54,10 @@ pub enum Parsed<'a> {
         access: Access,
     },
 
-    /// Sets a block's bytes to those that the word spells, if it spells some.
+    /// Sets a block's bytes to those that were sent, if they are some that a block may have.
     Write {
         access: Access,
-        word: &'a [u8],
+        sent: Sent<'a>,
     },
 
     /// Takes free blocks.
@@ -120,8 +142,8 @@ pub fn put_request(parsed: &Parsed<'_>, into: &mut Request)
         };
         return;
     }
-    if let Parsed::Write { access, word } = *parsed {
-        put_write(&access, word, into);
+    if let Parsed::Write { access, sent } = *parsed {
+        put_write(&access, sent, into);
         return;
     }
     put_pointers(parsed, into);
@@ -211,10 +233,10 @@ fn put_making(parsed: &Parsed<'_>, into: &mut Request)
     *into = Request::Bad;
 }
 
-/// A write of the bytes that the word spells, and Bad where it spells none.
+/// A write of the bytes that were sent, and Bad where a block may not have them.
 #[inline(never)]
-fn put_write(access: &Access, word: &[u8], into: &mut Request)
-    ensures { into.new ≡ unwrap_or (write_parsed access.now word.now) ask.Bad }
+fn put_write(access: &Access, sent: Sent<'_>, into: &mut Request)
+    ensures { into.new ≡ unwrap_or (write_parsed access.now sent.entry) ask.Bad }
 {
     *into = Request::Write {
         session: access.session,
@@ -222,11 +244,22 @@ fn put_write(access: &Access, word: &[u8], into: &mut Request)
         shown: access.shown,
         bytes: Data::new(),
     };
-    let mut is_spelled = false;
+    let mut is_put = false;
     if let Request::Write { bytes, .. } = into {
-        is_spelled = read_data(word, bytes);
+        is_put = put_data(sent, bytes);
     }
-    if !is_spelled {
+    if !is_put {
         *into = Request::Bad;
+    }
+}
+
+/// Puts the bytes that were sent into `room`, which is empty, and answers whether a block may have them.
+fn put_data(sent: Sent<'_>, room: &mut Data) -> bool
+    requires { room.old ≡ [] }
+    ensures { data_sent sent.entry ≡ cond result (Some room.new) None }
+{
+    match sent {
+        Sent::Word(word) => read_data(word, room),
+        Sent::Bytes(bytes) => room.extend_from_slice(bytes).is_ok(),
     }
 }

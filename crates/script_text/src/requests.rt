@@ -1,4 +1,4 @@
-//! Requests as they are printed.
+//! Requests as they are printed. Tests alone call it: it stands here as a law, that what is printed parses back.
 
 ghost use Rattle.std.specs.Prelude.{◌≡◌, ◌≢◌, ◌+◌, ◌<◌, ◌≤◌, [], ◌∷◌, ◌++◌, length};
 ghost use Rattle.std.specs.List.{join_with_byte};

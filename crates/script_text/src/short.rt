@@ -1,7 +1,7 @@
 //! Replies of short lines: all but those that tell many bytes.
 
 ghost use Rattle.std.specs.Prelude.{◌≡◌, ◌+◌, ◌*◌, ◌<◌, ◌≤◌, [], ◌∷◌, ◌++◌, length, decimal, true, false};
-ghost use Rattle.std.specs.Prelude.{MatchOption, flat_map};
+ghost use Rattle.std.specs.Prelude.{flat_map};
 ghost use Rattle.std.specs.List.{join_with_byte};
 ghost use Rattle.hex.specs.Hex.{encode_lower};
 ghost use Rattle.tsd_model.specs.declared.replies.Reply.TheVariants as answer;

@@ -5,21 +5,9 @@ ghost use Rattle.script_text.specs.Pieces.{pieces, words_left};
 ghost use Rattle.script_text.specs.Reading.{reads, num_of, new_of, shown_of, hint_of, access_of};
 
 use crate::fields::{parse_cap, parse_hint, parse_number, parse_shown};
+use crate::parsed::Access;
 use std::marker::Model;
 use tsd_model::{Cap, Hint, Shown};
-
-/// What most requests begin with.
-#[derive(Clone, Copy, Debug)]
-pub struct Access {
-    /// The session.
-    pub session: u32,
-
-    /// The block, or the source of pointers.
-    pub block: u32,
-
-    /// What is shown.
-    pub shown: Shown,
-}
 
 /// The words of a line that aren't read yet. Contracts see them as a list.
 #[derive(Drop)]

@@ -220,16 +220,25 @@ module _ {Q : Type 0} (k : Service Q) (counted : IsCounted k) (w : WorkCount Q k
       ]
 
       -- how promptly, where this request stopped the run
-      pub prompt_stopped : (why : Status) (final : k.States) → (why ≡ status.DeviceFault) ⊎ (why ≡ status.PutFault) → LeftBy why k m q final v.sent new.sent → Promptly why k w port s (mark v0) (mark new)
-      prompt_stopped why final stops left =
+      pub prompt_stopped : (why : Status) (final : k.States) → (why ≡ status.DeviceFault) ⊎ (why ≡ status.PutFault) → LeftBy why k m q final v.sent new.sent
+          → (p : Spelling Q) (n limit : ℕ) (source : Taking) (bytes : List ℕ) (more : List Q) → n ≡ limit → source.came bytes → AskedBy why p n bytes source.at_end ((qs ++ q ∷ []) ++ more) → Promptly why k w port p limit s source (mark v0) (mark new)
+      prompt_stopped why final stops left p n limit source bytes more same came asked =
           let f = front_of why final stops left in
           record {
+            bytes = bytes;
+            came_in = came;
+            asked = (qs ++ q ∷ []) ++ more;
+            these = subst (λ l. AskedBy why p l bytes source.at_end ((qs ++ q ∷ []) ++ more)) same asked;
             answered = qs;
+            rest = q ∷ more;
+            parts = append_assoc qs (q ∷ []) more;
+            none_left = λ device put. elim stops [ inl e ↦ absurd (device e) | inr e ↦ absurd (put e) ];
             answers = goes.answers;
             state = m;
             run = goes.run;
             rested = mark v;
             each = goes.prompt;
+            not_after = any.later;
             front = f.0;
             sent = f.1;
             one_more = f.2;
@@ -327,14 +336,23 @@ module _ {Q : Type 0} (k : Service Q) (w : WorkCount Q k.States) (s final : k.St
 
 -- how promptly, where nothing of a further answer was sent
 pub prompt_done : {Q : Type 0} (r : Status) (k : Service Q) (counted : IsCounted k) (w : WorkCount Q k.States) (port : Mark → Type 0) (s : k.States) (due : ℕ) (v0 : View) (qs : List Q) (m : k.States) (due1 : ℕ) (v new : View)
-    → Goes k w port s due v0 qs m due1 v → new.sent ≡ v.sent → (IsCutShort r → mark new ≡ mark v) → Promptly r k w port s (mark v0) (mark new)
-prompt_done r k counted w port s due v0 qs m due1 v new goes same still = record {
+    → Goes k w port s due v0 qs m due1 v → new.sent ≡ v.sent → v.clock ≤ new.clock → (IsCutShort r → mark new ≡ mark v)
+    → (p : Spelling Q) (n limit : ℕ) (source : Taking) (bytes : List ℕ) → n ≡ limit → source.came bytes → AskedBy r p n bytes source.at_end qs → Promptly r k w port p limit s source (mark v0) (mark new)
+prompt_done r k counted w port s due v0 qs m due1 v new goes same later still p n limit source bytes within came asked = record {
+  bytes = bytes;
+  came_in = came;
+  asked = qs;
+  these = subst (λ l. AskedBy r p l bytes source.at_end qs) within asked;
   answered = qs;
+  rest = [];
+  parts = sym (append-nil qs);
+  none_left = λ device put. refl;
   answers = goes.answers;
   state = m;
   run = goes.run;
   rested = mark v;
   each = goes.prompt;
+  not_after = later;
   front = [];
   sent = same ∙ sym (append-nil v.sent);
   one_more = omega (arith, counted.nothing);

@@ -12,7 +12,9 @@
 //! bytes came in, which requests they hold and what of the answers was sent. Where the device tells: what a crash at
 //! any moment may have left, as the whole answers among the bytes sent say (`specs/Runs.antt`); how many writes there
 //! were (`specs/Costs.antt`); and how much was left to be done in each image that a crash may have left
-//! (`specs/Debts.antt`). A count of faults rose only where the status is that fault's.
+//! (`specs/Debts.antt`). A count of faults rose exactly where the status is that fault's (`specs/Faults.antt`). The
+//! first of the requests that came in, and all of them unless the device or the sending failed, were answered with a
+//! bound on what was written before each answer and behind it (`specs/Prompt.antt`).
 //!
 //! The loop takes no memory; what carries out the requests may. That the answers come in time is shown by the code and
 //! no clause; that none is late is: where a take fails, every whole request before is answered.

@@ -1,7 +1,7 @@
 //! One request after another.
 
 ghost use Rattle.std.specs.Prelude.{◌≡◌, ◌≢◌, ◌≤◌, ◌<◌, ◌+◌, ◌-◌, ◌^◌, ◌++◌, []};
-ghost use Rattle.std.specs.Prelude.{ℕ, true, false, cond, List, length, min, take, ◌↔◌, IfOk, OnErr};
+ghost use Rattle.std.specs.Prelude.{ℕ, true, false, List, length, min, take, ◌↔◌, IfOk, OnErr};
 ghost use Rattle.image_device.specs.Counts.{CountsEnd, CountsFault, Rose};
 ghost use Rattle.serving.specs.Goes.{IsFresh, SameCounts, unread, remaining, ends_left, IsNextAtEnd, Handed, Reads, IsFoundNext};
 ghost use Rattle.serving.specs.Input.{completed};

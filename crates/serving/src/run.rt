@@ -1,8 +1,8 @@
 //! The loop over an input.
 
-ghost use Rattle.std.specs.Prelude.{◌≡◌, ◌≢◌, ◌≤◌, [], ℕ, List};
-ghost use Rattle.image_device.specs.Counts.{Rose};
+ghost use Rattle.std.specs.Prelude.{◌≡◌, ◌≢◌, ◌≤◌, []};
 ghost use Rattle.image_device.specs.Runs.{LeavesPart};
+ghost use Rattle.serving.specs.Faults.{TellsFaults};
 ghost use Rattle.serving.specs.Goes.{IsFresh};
 ghost use Rattle.serving.specs.Handling.{FitsDevice};
 ghost use Rattle.serving.specs.Prompt.{IsOfPort, Promptly, mark};
@@ -42,12 +42,16 @@ pub fn serve<S: Source, P: Port, R: Protocol, H: Server<R>>(
         (H.state server.new (P.view port.new).reads) limit
         (taking S.told S.taken S.left_bytes S.ended source.old source.new)
         (H.due server.old (P.view port.old).reads) (moments P.told P.view port.old port.new) }
-    /// promise: Each answer is prompt: where the request isn't a sweep, there is a state of the port's type at which
-    /// the whole answer was sent and no more was written since the request came than the server's work has before an
+    /// promise: **Each answer is prompt**: the requests that were answered so are the first of those that came in, and
+    /// all of them unless the device or the sending failed. Where a request isn't a sweep, there is a state of the
+    /// port's type, in time between the one at which the request came and the one at which the next did, at which the
+    /// whole answer was sent and no more was written since the request came than the server's work has before an
     /// answer, and after which no more came before the next request than it has after one. After SourceFault, TooLong
     /// and Truncated nothing more is written.
-    ensures prompt { P.told → Promptly result H.service H.work (IsOfPort P.view) (H.state server.old
-        (P.view port.old).reads) (mark (P.view port.old)) (mark (P.view port.new)) }
+    ensures prompt { P.told → Promptly result H.service H.work (IsOfPort P.view) R.spelling limit
+        (H.state server.old (P.view port.old).reads)
+        (taking S.told S.taken S.left_bytes S.ended source.old source.new) (mark (P.view port.old))
+        (mark (P.view port.new)) }
     /// promise: However the run ends, a crash at any moment leaves what no request touches as it was.
     ensures aside_kept { P.told → LeavesPart (H.aside server.old) (P.view port.old) (P.view port.new) }
     ensures aside { H.aside server.new ≡ H.aside server.old }
@@ -60,14 +64,9 @@ pub fn serve<S: Source, P: Port, R: Protocol, H: Server<R>>(
     ensures closed { result ≡ Status.Done → P.told → H.is_closed (P.view port.new).reads }
     /// promise: Nothing is taken after the end of the input was found.
     ensures once { EndsOnce (S.ends source.old) (S.ends source.new) }
-    /// promise (with device_fault, put_fault, no_source_fault, no_device_fault, no_put_fault): A count of faults rose
-    /// exactly where the status is that fault's.
-    ensures source_fault { result ≡ Status.SourceFault → Rose (S.faults source.old) (S.faults source.new) }
-    ensures device_fault { result ≡ Status.DeviceFault → Rose (P.view port.old).faults (P.view port.new).faults }
-    ensures put_fault { result ≡ Status.PutFault → Rose (P.view port.old).put_faults (P.view port.new).put_faults }
-    ensures no_source_fault { result ≢ Status.SourceFault → S.faults source.new ≡ S.faults source.old }
-    ensures no_device_fault { result ≢ Status.DeviceFault → (P.view port.new).faults ≡ (P.view port.old).faults }
-    ensures no_put_fault { result ≢ Status.PutFault → (P.view port.new).put_faults ≡ (P.view port.old).put_faults }
+    /// promise: A count of faults rose exactly where the status is that fault's.
+    ensures faults { TellsFaults result (S.faults source.old) (S.faults source.new) (P.view port.old)
+        (P.view port.new) }
 {
     let mut intake = Intake::new(limit);
     serve_in(server, protocol, source, port, limit, &mut intake)
@@ -93,8 +92,10 @@ pub fn serve_in<S: Source, P: Port, R: Protocol, H: Server<R>>(
         (H.state server.new (P.view port.new).reads) limit
         (taking S.told S.taken S.left_bytes S.ended source.old source.new)
         (H.due server.old (P.view port.old).reads) (moments P.told P.view port.old port.new) }
-    ensures prompt { P.told → Promptly result H.service H.work (IsOfPort P.view) (H.state server.old
-        (P.view port.old).reads) (mark (P.view port.old)) (mark (P.view port.new)) }
+    ensures prompt { P.told → Promptly result H.service H.work (IsOfPort P.view) R.spelling limit
+        (H.state server.old (P.view port.old).reads)
+        (taking S.told S.taken S.left_bytes S.ended source.old source.new) (mark (P.view port.old))
+        (mark (P.view port.new)) }
     ensures aside_kept { P.told → LeavesPart (H.aside server.old) (P.view port.old) (P.view port.new) }
     ensures aside { H.aside server.new ≡ H.aside server.old }
     ensures lender { H.lender server.new ≡ H.lender server.old }
@@ -103,12 +104,8 @@ pub fn serve_in<S: Source, P: Port, R: Protocol, H: Server<R>>(
     ensures spent { result ≡ Status.DeviceFault → H.is_spent server.new }
     ensures closed { result ≡ Status.Done → P.told → H.is_closed (P.view port.new).reads }
     ensures once { EndsOnce (S.ends source.old) (S.ends source.new) }
-    ensures source_fault { result ≡ Status.SourceFault → Rose (S.faults source.old) (S.faults source.new) }
-    ensures device_fault { result ≡ Status.DeviceFault → Rose (P.view port.old).faults (P.view port.new).faults }
-    ensures put_fault { result ≡ Status.PutFault → Rose (P.view port.old).put_faults (P.view port.new).put_faults }
-    ensures no_source_fault { result ≢ Status.SourceFault → S.faults source.new ≡ S.faults source.old }
-    ensures no_device_fault { result ≢ Status.DeviceFault → (P.view port.new).faults ≡ (P.view port.old).faults }
-    ensures no_put_fault { result ≢ Status.PutFault → (P.view port.new).put_faults ≡ (P.view port.old).put_faults }
+    ensures faults { TellsFaults result (S.faults source.old) (S.faults source.new) (P.view port.old)
+        (P.view port.new) }
 {
     let mut request = R::blank();
     loop {

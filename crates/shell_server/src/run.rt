@@ -2,10 +2,10 @@
 
 ghost use Rattle.std.specs.Prelude.{◌≡◌, ◌≢◌, ◌≤◌, [], true, None};
 ghost use Rattle.gathered_tasks.specs.Rooms.{IsFree};
-ghost use Rattle.image_device.specs.Counts.{Rose};
 ghost use Rattle.image_device.specs.Runs.{LeavesPart};
 ghost use Rattle.image_world.specs.Behind.{behind};
 ghost use Rattle.image_world.specs.Stands.{world_of};
+ghost use Rattle.serving.specs.Faults.{TellsFaults};
 ghost use Rattle.serving.specs.Handling.{FitsDevice};
 ghost use Rattle.serving.specs.Prompt.{IsOfPort, Promptly, mark};
 ghost use Rattle.serving.specs.Ran.{EndsOnce, Ran, moments, taking};
@@ -61,10 +61,14 @@ pub fn serve_shell<
         (taking S.told S.taken S.left_bytes S.ended source.old source.new) (due core.old.volume)
         (moments P.told P.view port.old port.new) × (final.world ≡ world_of (P.view port.new).reads)
         × (final.under_way ≡ None) }
-    /// promise: After SourceFault and TooLong the disk is as it was at some state of the port's type at which the last
-    /// answer was sent; where no ask was answered, as it was at the start.
-    ensures prompt { P.told → Promptly result (shell_service K.start) shell_work (IsOfPort P.view)
-        (shell_state (F.view files.old) (P.view port.old).reads) (mark (P.view port.old)) (mark (P.view port.new)) }
+    /// promise: The asks that were answered are the first of those that came in, and all of them unless the device or
+    /// the sending failed. After SourceFault and TooLong the disk is as it was at some state of the port's type, in
+    /// time between the start and the end, at which the last answer was sent; where no ask came in, as it was at the
+    /// start.
+    ensures prompt { P.told → Promptly result (shell_service K.start) shell_work (IsOfPort P.view) M.spelling limit
+        (shell_state (F.view files.old) (P.view port.old).reads)
+        (taking S.told S.taken S.left_bytes S.ended source.old source.new) (mark (P.view port.old))
+        (mark (P.view port.new)) }
     // However it ended, a crash at any moment leaves what lies behind the image as it was.
     /// promise: What lies after the image is as it was in each image that a crash leaves.
     ensures behind { P.told → LeavesPart (behind (told_world core.old).geometry) (P.view port.old) (P.view port.new) }
@@ -75,13 +79,8 @@ pub fn serve_shell<
     ensures closed { result ≡ Status.Done → P.told → IsQuiet (P.view port.new).reads }
     /// promise: Nothing is taken after the end of the input was found.
     ensures once { EndsOnce (S.ends source.old) (S.ends source.new) }
-    // A count of faults rose only where the status is that fault's.
-    ensures source_fault { result ≡ Status.SourceFault → Rose (S.faults source.old) (S.faults source.new) }
-    ensures device_fault { result ≡ Status.DeviceFault → Rose (P.view port.old).faults (P.view port.new).faults }
-    ensures put_fault { result ≡ Status.PutFault → Rose (P.view port.old).put_faults (P.view port.new).put_faults }
-    ensures no_source_fault { result ≢ Status.SourceFault → S.faults source.new ≡ S.faults source.old }
-    ensures no_device_fault { result ≢ Status.DeviceFault → (P.view port.new).faults ≡ (P.view port.old).faults }
-    ensures no_put_fault { result ≢ Status.PutFault → (P.view port.new).put_faults ≡ (P.view port.old).put_faults }
+    ensures faults { TellsFaults result (S.faults source.old) (S.faults source.new) (P.view port.old)
+        (P.view port.new) }
 {
     let mut server: ShellServer<F, L, K> = ShellServer {
         core,

@@ -2,11 +2,9 @@
 
 ghost use Rattle.std.specs.Prelude.{◌≡◌, true};
 ghost use Rattle.image_world.specs.Behind.{behind};
-ghost use Rattle.serving.specs.Handling.{FitsDevice};
 ghost use Rattle.tsd_core.specs.Core.{told_world};
 ghost use Rattle.volume_laws.specs.Quiet.{IsQuiet};
 ghost use Rattle.volume_laws.specs.Writes.{due};
-ghost use Rattle.shell_server.specs.Carried.{IsServed};
 ghost use Rattle.shell_server.specs.Kept.{FitsShell, IsServerReady, shell_state, shell_stands, shell_rests};
 ghost use Rattle.shell_server.specs.Shell.{shell_service, shell_work};
 ghost use Rattle.shell_server.specs.ShellLaws.{shell_counted};

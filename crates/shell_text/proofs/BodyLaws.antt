@@ -7,7 +7,7 @@ use Rattle.std.proofs.Math.Nat.{pow-succ', div-div-eq-div-mul}
 use Rattle.std.proofs.lemmas.Bool.{and_parts, and_from, leb-true, le-leb}
 use Rattle.std.proofs.lemmas.List.{length-append, length-take, take_at, drop_at, take-append-drop}
 use Rattle.byteorder.specs.Endian.{little_from, little_number, little_bytes}
-use Rattle.byteorder.specs.Numbers.{little_from-cons, little_from-lt, little_number-reads_back}
+use Rattle.byteorder.specs.Numbers.{little_from-cons, little_from-lt, little_from-take, little_number-reads_back}
 use Rattle.request_frames.specs.Reading.{◌>>=◌}
 use Rattle.request_frames.proofs.FieldLaws.{AreBytes, bytes-drop, leaves, some_is, bind_is, bind_some}
 use Rattle.script_text.proofs.WordLaws.{cond_some}
@@ -39,6 +39,10 @@ number_whole (suc k) (b ∷ bs) all h =
     let high : n ≡ m / 256 = omega (arith, byte, e) in
     let rest : bs ≡ bytes_low_first 1 k m ++ drop k bs = number_whole k bs (λ i. all (suc i)) (omega (arith, h)) ∙ ap (λ r. bytes_low_first 0 k r ++ drop k bs) high ∙ ap (λ r. r ++ drop k bs) (sym (bytes_shifted 0 k m)) in
     λ i. low i ∷ rest i
+
+-- eight bytes have the number of those that begin with them
+pub start_taken : (bs : List ℕ) → little_number 8 (take 8 bs) ≡ little_number 8 bs
+start_taken bs = little_from-take 0 8 8 bs (omega arith)
 
 -- ---- readers
 

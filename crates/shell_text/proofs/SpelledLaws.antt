@@ -4,6 +4,7 @@ use Rattle.std.specs.Prelude.{codes, option_map, unwrap_or}
 use Rattle.std.proofs.lemmas.Bool.{and_parts, and_from, ltb-true, lt-ltb, ltb-false, le-ltb}
 use Rattle.std.specs.List.{list_all}
 use Rattle.std.proofs.lemmas.List.{length-take}
+use Rattle.script_text.specs.Grammar.{line_max, held_max}
 use Rattle.script_text.specs.Pieces.{pieces}
 use Rattle.script_text.specs.Reading.{data_of, reads, Words}
 use Rattle.script_text.proofs.PiecesLaws.{take_all, join-pieces, pieces-join, lacks, some_pieces}
@@ -129,11 +130,11 @@ commands_lack kind ask.Df = refl
 pub line_is : (kind : ShellKind) (line : List ℕ) → (ask_of kind line ≡ ask.Bad) ⊎ IsShellLine kind line (ask_of kind line)
 unfolding ask_of
 line_is kind line =
-    elim (nat_lt 8400 (length line)) as (λ t. nat_lt 8400 (length line) ≡ t → (cond t ask.Bad (unwrap_or (asked kind (pieces 32 line)) ask.Bad) ≡ ask.Bad) ⊎ IsShellLine kind line (cond t ask.Bad (unwrap_or (asked kind (pieces 32 line)) ask.Bad))) [
+    elim (nat_lt line_max (length line)) as (λ t. nat_lt line_max (length line) ≡ t → (cond t ask.Bad (unwrap_or (asked kind (pieces 32 line)) ask.Bad) ≡ ask.Bad) ⊎ IsShellLine kind line (cond t ask.Bad (unwrap_or (asked kind (pieces 32 line)) ask.Bad))) [
       | true ↦ λ e. inl refl
       | false ↦ λ e. elim (asked kind (pieces 32 line)) as (λ o. asked kind (pieces 32 line) ≡ o → (unwrap_or o ask.Bad ≡ ask.Bad) ⊎ IsShellLine kind line (unwrap_or o ask.Bad)) [
         | None ↦ λ f. inl refl
-        | Some a ↦ λ f. inr (record { short = ltb-false 8400 (length line) e; words = pieces 32 line; some = some_words (pieces 32 line) (some_pieces 32 line); spelled = asked_is kind (pieces 32 line) a f; parted = sym (join-pieces 32 line) })
+        | Some a ↦ λ f. inr (record { short = ltb-false line_max (length line) e; words = pieces 32 line; some = some_words (pieces 32 line) (some_pieces 32 line); spelled = asked_is kind (pieces 32 line) a f; parted = sym (join-pieces 32 line) })
       ] refl
     ] refl
   where
@@ -146,15 +147,15 @@ pub line_back : (kind : ShellKind) (line : List ℕ) (a : ShellAsk) → IsShellL
 unfolding ask_of
 line_back kind line a h =
     let cut : pieces 32 line ≡ h.words = ap (pieces 32) h.parted ∙ pieces-join 32 h.words h.some (all_lack (fields kind a) h.words (commands_lack kind a) h.spelled) in
-    ap (λ t. cond t ask.Bad (unwrap_or (asked kind (pieces 32 line)) ask.Bad)) (le-ltb 8400 (length line) h.short)
+    ap (λ t. cond t ask.Bad (unwrap_or (asked kind (pieces 32 line)) ask.Bad)) (le-ltb line_max (length line) h.short)
     ∙ ap (λ o. unwrap_or o ask.Bad) (ap (asked kind) cut ∙ asked_back kind a h.words h.some h.spelled)
 
--- a line that is cut after 8,401 bytes is as bad as the whole
-pub ask_of-cut : (kind : ShellKind) (l : List ℕ) → ask_of kind (take 8401 l) ≡ ask_of kind l
+-- a line that is cut after `held_max` bytes is as bad as the whole
+pub ask_of-cut : (kind : ShellKind) (l : List ℕ) → ask_of kind (take held_max l) ≡ ask_of kind l
 unfolding ask_of
-ask_of-cut kind l = elim (nat_lt 8400 (length l)) as (λ t. nat_lt 8400 (length l) ≡ t → cond (nat_lt 8400 (length (take 8401 l))) ask.Bad (unwrap_or (asked kind (pieces 32 (take 8401 l))) ask.Bad) ≡ cond t ask.Bad (unwrap_or (asked kind (pieces 32 l)) ask.Bad)) [
-  | true ↦ λ e. let long : 8400 < length (take 8401 l) = omega (arith, length-take 8401 l, ltb-true 8400 (length l) e) in
-      ap (λ t. cond t ask.Bad (unwrap_or (asked kind (pieces 32 (take 8401 l))) ask.Bad)) (lt-ltb 8400 (length (take 8401 l)) long)
-  | false ↦ λ e. let short : length l ≤ 8401 = omega (arith, ltb-false 8400 (length l) e) in
-      ap (λ m. cond (nat_lt 8400 (length m)) ask.Bad (unwrap_or (asked kind (pieces 32 m)) ask.Bad)) (take_all l 8401 short) ∙ ap (λ t. cond t ask.Bad (unwrap_or (asked kind (pieces 32 l)) ask.Bad)) e
+ask_of-cut kind l = elim (nat_lt line_max (length l)) as (λ t. nat_lt line_max (length l) ≡ t → cond (nat_lt line_max (length (take held_max l))) ask.Bad (unwrap_or (asked kind (pieces 32 (take held_max l))) ask.Bad) ≡ cond t ask.Bad (unwrap_or (asked kind (pieces 32 l)) ask.Bad)) [
+  | true ↦ λ e. let long : line_max < length (take held_max l) = omega (arith, length-take held_max l, ltb-true line_max (length l) e) in
+      ap (λ t. cond t ask.Bad (unwrap_or (asked kind (pieces 32 (take held_max l))) ask.Bad)) (lt-ltb line_max (length (take held_max l)) long)
+  | false ↦ λ e. let short : length l ≤ held_max = omega (arith, ltb-false line_max (length l) e) in
+      ap (λ m. cond (nat_lt line_max (length m)) ask.Bad (unwrap_or (asked kind (pieces 32 m)) ask.Bad)) (take_all l held_max short) ∙ ap (λ t. cond t ask.Bad (unwrap_or (asked kind (pieces 32 l)) ask.Bad)) e
 ] refl

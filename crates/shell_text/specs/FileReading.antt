@@ -1,8 +1,8 @@
 -- The ask of a frame's body as a function that computes.
-use Rattle.std.specs.Prelude.{ℕ, zero, suc, cond, nat_le, Bool, List, [], ◌∷◌, length, drop, take, Option, Some, None}
+use Rattle.std.specs.Prelude.{ℕ, zero, suc, cond, nat_le, Bool, List, [], ◌∷◌, length, drop, Option, Some, None}
 use Rattle.std.specs.Prelude.{option_map, unwrap_or}
 use Rattle.byteorder.specs.Endian.{little_number}
-use Rattle.request_frames.specs.Reading.{◌>>=◌, num_of, data_of, ends, dispatch}
+use Rattle.request_frames.specs.Reading.{◌>>=◌, taken, num_of, data_of, ends, dispatch}
 use Rattle.fs_trees.specs.Names.{Name, Path, is_name, path_max}
 use Rattle.fs_trees.specs.declared.ask.ShellAsk.TheVariants as ask
 use Rattle.fs_trees.specs.declared.ask.ShellKind.{ShellKind}
@@ -20,7 +20,7 @@ start_of bs = cond (nat_le 8 (length bs)) (Some (little_number 8 bs, drop 8 bs))
 -- as many bytes as the first of them says
 abbrev pub word_of : List ℕ → Option (List ℕ × List ℕ)
 word_of [] = None
-word_of (k ∷ bs) = cond (nat_le k (length bs)) (Some (take k bs, drop k bs)) None
+word_of (k ∷ bs) = taken k bs
 
 -- such bytes, where they are good
 abbrev pub kept : (List ℕ → Bool) → List ℕ × List ℕ → Option (List ℕ × List ℕ)

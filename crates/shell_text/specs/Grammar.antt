@@ -1,7 +1,7 @@
 -- The lines that spell asks of a file system, said apart from any reading.
 use Rattle.std.specs.Prelude.{◌≡◌, ℕ, ◌≤◌, true, List, [], ◌∷◌, length, codes}
 use Rattle.std.specs.List.{join_with_byte}
-use Rattle.script_text.specs.Grammar.{IsData}
+use Rattle.script_text.specs.Grammar.{line_max, IsData}
 use Rattle.fs_trees.specs.Names.{Path, is_path}
 use Rattle.fs_trees.specs.declared.ask.ShellAsk.{ShellAsk}
 use Rattle.fs_trees.specs.declared.ask.ShellAsk.TheVariants as ask
@@ -55,7 +55,7 @@ AreFields (f ∷ fs) (w ∷ ws) = IsField f w × AreFields fs ws
 
 -- The line spells the ask: its words are parted by one space each, and there is at least one.
 pub record IsShellLine (kind : ShellKind) (line : List ℕ) (a : ShellAsk) : Type 0 where
-  pub short : length line ≤ 8400
+  pub short : length line ≤ line_max
   pub words : List (List ℕ)
   pub some : 1 ≤ length words
   pub spelled : AreFields (fields kind a) words

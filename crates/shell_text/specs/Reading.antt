@@ -2,6 +2,7 @@
 use Rattle.std.specs.Prelude.{ℕ, cond, ◌==◌, nat_lt, List, [], ◌∷◌, length, codes, bytes_eq, Option, Some, None}
 use Rattle.std.specs.Prelude.{unwrap_or}
 use Rattle.std.specs.Borrow.{Bor}
+use Rattle.script_text.specs.Grammar.{line_max}
 use Rattle.script_text.specs.Pieces.{pieces}
 use Rattle.script_text.specs.Reading.{data_of, reads, ends, ◌>>=◌, Words}
 use Rattle.fs_trees.specs.Names.{Name, Path, is_name, is_path}
@@ -96,4 +97,4 @@ asked kind (w ∷ ws) = named kind w ws
 
 -- the ask of a line, Bad where it isn't one
 unfoldable pub ask_of : ShellKind → List ℕ → ShellAsk
-ask_of kind line = cond (nat_lt 8400 (length line)) ask.Bad (unwrap_or (asked kind (pieces 32 line)) ask.Bad)
+ask_of kind line = cond (nat_lt line_max (length line)) ask.Bad (unwrap_or (asked kind (pieces 32 line)) ask.Bad)

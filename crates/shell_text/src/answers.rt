@@ -1,7 +1,7 @@
 //! Answers as they are printed.
 
 ghost use Rattle.std.specs.Prelude.{◌≡◌, ◌≢◌, ◌+◌, ◌<◌, ◌≤◌, ℕ, List, [], ◌∷◌};
-ghost use Rattle.std.specs.Prelude.{◌++◌, length, flat_map, codes, decimal};
+ghost use Rattle.std.specs.Prelude.{◌++◌, length, flat_map, decimal};
 ghost use Rattle.std.specs.List.{join_with_byte};
 ghost use Rattle.hex.specs.Hex.{encode_lower};
 ghost use Rattle.fs_trees.specs.Names.{Name};

@@ -9,9 +9,10 @@ ghost use Rattle.shell_text.specs.FileBodies.{IsAskBody};
 ghost use Rattle.shell_text.specs.FileReading.{put_of, append_of, cat_of, ls_of, make_dir_of, rm_of, copy_of};
 ghost use Rattle.shell_text.specs.FileReading.{size_of, read_of, next_of, of_inodes, coded, asked, file_ask_of};
 
-use crate::body::AskReader;
+use crate::body::{read_after, read_path, read_start};
 use crate::file_ask::FileAsk;
 use fs_trees::{ShellAsk, ShellKind};
+use request_frames::reader::BodyReader;
 
 /// An empty tree.
 const MAKE: u8 = 1;
@@ -68,14 +69,14 @@ pub fn decode_ask(kind: ShellKind, body: &[u8]) -> FileAsk
 fn read_body(kind: ShellKind, body: &[u8]) -> FileAsk
     ensures { result ≡ file_ask_of kind body.now }
 {
-    match asked(kind, AskReader::of(body)) {
+    match asked(kind, BodyReader::of(body)) {
         Some(ask) => ask,
         None => FileAsk::Shell { ask: ShellAsk::Bad },
     }
 }
 
 #[tactic(auto, unfolding(crate::specs::FileReading::asked))]
-fn asked(kind: ShellKind, mut reader: AskReader) -> Option<FileAsk>
+fn asked(kind: ShellKind, mut reader: BodyReader) -> Option<FileAsk>
     ensures { result ≡ asked kind reader.entry }
 {
     let code = reader.byte()?;
@@ -84,7 +85,7 @@ fn asked(kind: ShellKind, mut reader: AskReader) -> Option<FileAsk>
 
 /// The ask by its code.
 #[tactic(auto, unfolding(crate::specs::FileReading::coded))]
-fn coded(kind: ShellKind, code: u8, reader: AskReader) -> Option<FileAsk>
+fn coded(kind: ShellKind, code: u8, reader: BodyReader) -> Option<FileAsk>
     ensures { result ≡ coded kind code reader.entry }
 {
     match code {
@@ -105,61 +106,61 @@ fn coded(kind: ShellKind, code: u8, reader: AskReader) -> Option<FileAsk>
 }
 
 /// The ask, where no byte is left.
-fn done(reader: AskReader, ask: FileAsk) -> Option<FileAsk>
+fn done(reader: BodyReader, ask: FileAsk) -> Option<FileAsk>
     ensures { result ≡ ends reader.entry ask }
 {
     if reader.is_empty() { Some(ask) } else { None }
 }
 
 /// The ask of the shell, where no byte is left.
-fn shell(reader: AskReader, ask: ShellAsk) -> Option<FileAsk>
+fn shell(reader: BodyReader, ask: ShellAsk) -> Option<FileAsk>
     ensures { result ≡ ends reader.entry (file.Shell ask) }
 {
     done(reader, FileAsk::Shell { ask })
 }
 
 #[tactic(auto, unfolding(crate::specs::FileReading::put_of))]
-fn put(mut reader: AskReader) -> Option<FileAsk>
+fn put(mut reader: BodyReader) -> Option<FileAsk>
     ensures { result ≡ put_of reader.entry }
 {
-    let path = reader.path()?;
+    let path = read_path(&mut reader)?;
     let bytes = reader.data()?;
     shell(reader, ShellAsk::Put { path, bytes })
 }
 
 #[tactic(auto, unfolding(crate::specs::FileReading::append_of))]
-fn append(mut reader: AskReader) -> Option<FileAsk>
+fn append(mut reader: BodyReader) -> Option<FileAsk>
     ensures { result ≡ append_of reader.entry }
 {
-    let path = reader.path()?;
+    let path = read_path(&mut reader)?;
     let bytes = reader.data()?;
     shell(reader, ShellAsk::Append { path, bytes })
 }
 
 #[tactic(auto, unfolding(crate::specs::FileReading::cat_of))]
-fn cat(mut reader: AskReader) -> Option<FileAsk>
+fn cat(mut reader: BodyReader) -> Option<FileAsk>
     ensures { result ≡ cat_of reader.entry }
 {
-    let path = reader.path()?;
+    let path = read_path(&mut reader)?;
     shell(reader, ShellAsk::Cat { path })
 }
 
 #[tactic(auto, unfolding(crate::specs::FileReading::ls_of))]
-fn ls(mut reader: AskReader) -> Option<FileAsk>
+fn ls(mut reader: BodyReader) -> Option<FileAsk>
     ensures { result ≡ ls_of reader.entry }
 {
-    let path = reader.path()?;
+    let path = read_path(&mut reader)?;
     shell(reader, ShellAsk::Ls { path })
 }
 
 /// A new directory: inodes alone have those.
 #[tactic(auto, unfolding(crate::specs::FileReading::make_dir_of))]
-fn make_dir(kind: ShellKind, mut reader: AskReader) -> Option<FileAsk>
+fn make_dir(kind: ShellKind, mut reader: BodyReader) -> Option<FileAsk>
     ensures { result ≡ of_inodes kind make_dir_of reader.entry }
 {
     match kind {
         ShellKind::Inode => {
-            let path = reader.path()?;
+            let path = read_path(&mut reader)?;
             shell(reader, ShellAsk::MakeDir { path })
         }
         ShellKind::Chain => None,
@@ -167,22 +168,22 @@ fn make_dir(kind: ShellKind, mut reader: AskReader) -> Option<FileAsk>
 }
 
 #[tactic(auto, unfolding(crate::specs::FileReading::rm_of))]
-fn rm(mut reader: AskReader) -> Option<FileAsk>
+fn rm(mut reader: BodyReader) -> Option<FileAsk>
     ensures { result ≡ rm_of reader.entry }
 {
-    let path = reader.path()?;
+    let path = read_path(&mut reader)?;
     shell(reader, ShellAsk::Rm { path })
 }
 
 /// A copy: inodes alone have those.
 #[tactic(auto, unfolding(crate::specs::FileReading::copy_of))]
-fn copy(kind: ShellKind, mut reader: AskReader) -> Option<FileAsk>
+fn copy(kind: ShellKind, mut reader: BodyReader) -> Option<FileAsk>
     ensures { result ≡ of_inodes kind copy_of reader.entry }
 {
     match kind {
         ShellKind::Inode => {
-            let path = reader.path()?;
-            let new = reader.path()?;
+            let path = read_path(&mut reader)?;
+            let new = read_path(&mut reader)?;
             shell(reader, ShellAsk::Copy { path, new })
         }
         ShellKind::Chain => None,
@@ -190,28 +191,28 @@ fn copy(kind: ShellKind, mut reader: AskReader) -> Option<FileAsk>
 }
 
 #[tactic(auto, unfolding(crate::specs::FileReading::size_of))]
-fn size(mut reader: AskReader) -> Option<FileAsk>
+fn size(mut reader: BodyReader) -> Option<FileAsk>
     ensures { result ≡ size_of reader.entry }
 {
-    let path = reader.path()?;
+    let path = read_path(&mut reader)?;
     done(reader, FileAsk::Size { path })
 }
 
 #[tactic(auto, unfolding(crate::specs::FileReading::read_of))]
-fn read(mut reader: AskReader) -> Option<FileAsk>
+fn read(mut reader: BodyReader) -> Option<FileAsk>
     ensures { result ≡ read_of reader.entry }
 {
-    let path = reader.path()?;
-    let start = reader.start()?;
-    let count = reader.count()?;
+    let path = read_path(&mut reader)?;
+    let start = read_start(&mut reader)?;
+    let count = reader.number()?;
     done(reader, FileAsk::Read { path, start, count })
 }
 
 #[tactic(auto, unfolding(crate::specs::FileReading::next_of))]
-fn next(mut reader: AskReader) -> Option<FileAsk>
+fn next(mut reader: BodyReader) -> Option<FileAsk>
     ensures { result ≡ next_of reader.entry }
 {
-    let path = reader.path()?;
-    let after = reader.after()?;
+    let path = read_path(&mut reader)?;
+    let after = read_after(&mut reader)?;
     done(reader, FileAsk::Next { path, after })
 }

@@ -6,7 +6,7 @@
 //!
 //! What it stands on: `fs_trees` for names, paths, asks and refusals; `script_text` for buffers, numbers and bytes in
 //! digits, and for the cutting of a text; `hex` and `itoa` for digits of bytes that are sent in parts and of sizes;
-//! `byteorder` for numbers in bytes, and of `request_frames` what reads a number and a rest of bytes in its specs.
+//! `request_frames` for the reading of a body, field by field; `byteorder` for numbers in bytes.
 //!
 //! What it promises:
 //!

@@ -1,6 +1,6 @@
 //! Names and paths as they are written.
 
-ghost use Rattle.std.specs.Prelude.{◌≡◌, ◌≤◌, true, length};
+ghost use Rattle.std.specs.Prelude.{◌≡◌, ◌≤◌, length};
 ghost use Rattle.std.specs.List.{list_all};
 ghost use Rattle.fs_trees.specs.Names.{is_name_byte, is_reserved, is_name};
 ghost use Rattle.script_text.specs.Pieces.{pieces};

@@ -1,6 +1,7 @@
 //! The ask that a line spells.
 
 ghost use Rattle.std.specs.Prelude.{◌≡◌, ◌⊎◌, ℕ, List, take};
+ghost use Rattle.script_text.specs.Grammar.{held_max};
 ghost use Rattle.script_text.specs.Reading.{ends};
 ghost use Rattle.fs_trees.specs.declared.ask.ShellAsk.{ShellAsk};
 ghost use Rattle.shell_text.specs.Grammar.{IsShellLine};
@@ -21,7 +22,7 @@ pub fn parse_shell(kind: ShellKind, line: &[u8]) -> ShellAsk
     ensures only { (a : ShellAsk) → IsShellLine kind line.now a → result ≡ a }
     // A longer line is as bad where it is cut to one byte more than a line may have.
     /// promise: A line that is too long is as bad where it is cut.
-    ensures cut { (whole : List ℕ) → line.now ≡ take 8401 whole → result ≡ ask_of kind whole }
+    ensures cut { (whole : List ℕ) → line.now ≡ take held_max whole → result ≡ ask_of kind whole }
     // As a function that computes.
     ensures value { result ≡ ask_of kind line.now }
 {

@@ -1,9 +1,9 @@
 //! What the loop's promise is at a handler that is lent beside something, over lines.
 
 ghost use Rattle.std.specs.Prelude.{◌≡◌, ◌≤◌, []};
-ghost use Rattle.image_device.specs.Counts.{Rose};
 ghost use Rattle.image_device.specs.Runs.{IsFirm};
 ghost use Rattle.script_text.specs.Lines.{WasFed};
+ghost use Rattle.serving.specs.Faults.{TellsFaults};
 ghost use Rattle.serving.specs.Handling.{FitsDevice};
 ghost use Rattle.serving.specs.LineSpelling.{line_spelling, line_voice};
 ghost use Rattle.serving.specs.Ran.{Ran, moments, taking};
@@ -85,7 +85,8 @@ pub fn serve_lent_lines<S: Source, P: Port, H: Handler>(
         × (result ≡ Status.Done → P.told → IsFirm (P.view port.new)
         × H.rules.stands final (P.view port.new).reads × H.is_closed (P.view port.new).reads) }
     ensures spent { result ≡ Status.DeviceFault → H.is_spent handler.new }
-    ensures put_fault { result ≡ Status.PutFault → Rose (P.view port.old).put_faults (P.view port.new).put_faults }
+    ensures faults { TellsFaults result (S.faults source.old) (S.faults source.new) (P.view port.old)
+        (P.view port.new) }
 {
     let mut lent = Lent { handler, number };
     serve::<S, P, LineCutter, Lent<'_, H>>(&mut lent, cutter, source, port, limit)

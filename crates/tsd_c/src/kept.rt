@@ -1,6 +1,6 @@
 //! A disk that stays open from call to call, with its sessions.
 
-ghost use Rattle.std.specs.Prelude.{◌≡◌, ◌≢◌, ◌≤◌, ◌↔◌, ◌⊎◌, IfSome, IsNone, IsSomeAnd, None, Some, false, length};
+ghost use Rattle.std.specs.Prelude.{◌≡◌, ◌≢◌, ◌≤◌, ◌↔◌, ◌⊎◌, IsNone, IsSomeAnd, None, Some, false, length};
 ghost use Rattle.tsd_model.specs.Rank.{rank_of};
 ghost use Rattle.tsd_model.specs.declared.requests.PlaceKind.TheVariants.{Near};
 

@@ -1,7 +1,6 @@
 //! A disk made in an image, and how many bytes one has.
 
 ghost use Rattle.std.specs.Prelude.{◌≡◌, ◌≤◌, ◌*◌, ◌+◌, length};
-ghost use Rattle.tsd_model.specs.Geometry.{IsLawful};
 ghost use Rattle.tsd_model.specs.declared.geometry.Geometry.{Geometry as Size};
 ghost use Rattle.image_layout.specs.Areas.{total};
 

@@ -1,10 +1,8 @@
 //! Reading and writing blocks, and their capabilities. Each call but a read puts a reply into its room first, so that
 //! the room is written on each of its ways.
 
-ghost use Rattle.std.specs.Prelude.{◌≡◌, ℕ, ◌+◌, ◌<◌, ◌≤◌, true, false, length, Some, None, IfOk};
-ghost use Rattle.std.specs.Prelude.{IfSome, OnOk, slice_index_or, Ok};
+ghost use Rattle.std.specs.Prelude.{◌≡◌, ℕ, ◌+◌, ◌<◌, ◌≤◌, true, length};
 ghost use Rattle.tsd_model.specs.Geometry.{block_len};
-ghost use Rattle.tsd_model.specs.Pairs.{holds};
 ghost use Rattle.tsd_model.specs.World.{is_live};
 ghost use Rattle.tsd_model.specs.declared.caps.Shown.{Shown as AnyShown};
 ghost use Rattle.tsd_model.specs.declared.requests.PlaceKind.{PlaceKind};

@@ -4,7 +4,7 @@ ghost use Rattle.std.specs.Prelude.{◌≡◌, ◌+◌, ◌<◌, false, length};
 ghost use Rattle.tsd_model.specs.Attained.{shown_level};
 ghost use Rattle.tsd_model.specs.Sessions.{no_sessions};
 ghost use Rattle.tsd_model.specs.World.{free_count};
-ghost use Rattle.tsd_core.specs.Core.{IsCoreReady, sessions_of, told_world};
+ghost use Rattle.tsd_core.specs.Core.{IsCoreReady, told_world};
 ghost use Rattle.volume_laws.specs.Volume.{IsVolumeReady};
 
 use grant_table::Grants;
@@ -56,14 +56,6 @@ impl Core {
         ensures { result ≡ free_count (told_world self.now) }
     {
         self.volume.free_count()
-    }
-
-    /// How many blocks are live.
-    pub fn live_count(&self) -> u32
-        requires { IsCoreReady self.now }
-        ensures { result + free_count (told_world self.now) ≡ (told_world self.now).geometry.blocks }
-    {
-        self.volume.geometry().blocks - self.volume.free_count()
     }
 
     /// How many pointers are held.

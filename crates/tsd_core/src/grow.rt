@@ -1,9 +1,7 @@
 //! Allocation. Each call puts a reply into its room first, so that the room is written on each of its ways.
 
-ghost use Rattle.std.specs.Prelude.{◌≡◌, ℕ, ◌+◌, ◌<◌, ◌≤◌, true, false, length, Some, None, IfOk};
-ghost use Rattle.std.specs.Prelude.{IfSome, OnOk, slice_index_or, Ok};
-ghost use Rattle.tsd_model.specs.Geometry.{block_len};
-ghost use Rattle.tsd_model.specs.Pairs.{holds};
+ghost use Rattle.std.specs.Prelude.{◌≡◌, ℕ, ◌+◌, ◌<◌, ◌≤◌, true, false, length};
+ghost use Rattle.std.specs.Prelude.{Ok};
 ghost use Rattle.tsd_model.specs.World.{is_live};
 ghost use Rattle.tsd_model.specs.declared.caps.Shown.{Shown as AnyShown};
 ghost use Rattle.tsd_model.specs.declared.requests.PlaceKind.{PlaceKind};
@@ -13,9 +11,8 @@ ghost use Rattle.tsd_core.specs.Carrying.{IsKnown, IsCarriedOut, left_in};
 ghost use Rattle.tsd_model.specs.Placing.{chosen, chosen_run, hint_block, runs};
 ghost use Rattle.tsd_model.specs.Step.{run_at};
 ghost use Rattle.tsd_model.specs.Verdict.{is_empty};
-ghost use Rattle.tsd_model.specs.World.{free_count, is_free};
+ghost use Rattle.tsd_model.specs.World.{free_count};
 ghost use Rattle.tsd_model.specs.declared.requests.Hint.{Hint as AnyHint};
-ghost use Rattle.std.specs.Prelude.{slice_get};
 ghost use Rattle.std.specs.List.{range_with_len};
 ghost use Rattle.tsd_core.specs.Seen.{dropped_each};
 ghost use Rattle.grant_table.specs.Table.{with_sessions};

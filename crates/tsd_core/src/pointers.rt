@@ -1,9 +1,7 @@
 //! Pointers, and what hangs on them. Each call puts a reply into its room first, so that the room is written on each of
 //! its ways.
 
-ghost use Rattle.std.specs.Prelude.{◌≡◌, ℕ, ◌+◌, ◌<◌, ◌≤◌, true, false, length, Some, None, IfOk};
-ghost use Rattle.std.specs.Prelude.{IfSome, OnOk, slice_index_or, Ok};
-ghost use Rattle.tsd_model.specs.Geometry.{block_len};
+ghost use Rattle.std.specs.Prelude.{◌≡◌, ℕ, ◌+◌, ◌<◌, ◌≤◌, true, false, length};
 ghost use Rattle.tsd_model.specs.Pairs.{holds};
 ghost use Rattle.tsd_model.specs.World.{is_live};
 ghost use Rattle.tsd_model.specs.declared.caps.Shown.{Shown as AnyShown};

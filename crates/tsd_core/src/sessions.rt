@@ -1,16 +1,12 @@
 //! Requests that ask nothing of the device.
 
-ghost use Rattle.std.specs.Prelude.{◌≡◌, ℕ, ◌+◌, ◌<◌, ◌≤◌, true, false, length, Some, None, IfOk};
-ghost use Rattle.std.specs.Prelude.{IfSome, OnOk, slice_index_or, Ok};
-ghost use Rattle.tsd_model.specs.Geometry.{block_len};
-ghost use Rattle.tsd_model.specs.Pairs.{holds};
+ghost use Rattle.std.specs.Prelude.{◌≡◌, ◌+◌, ◌<◌, ◌≤◌, true, None};
+ghost use Rattle.std.specs.Prelude.{Ok};
 ghost use Rattle.tsd_model.specs.World.{is_live};
 ghost use Rattle.tsd_model.specs.declared.caps.Shown.{Shown as AnyShown};
-ghost use Rattle.tsd_model.specs.declared.requests.PlaceKind.{PlaceKind};
 ghost use Rattle.tsd_model.specs.declared.requests.Request.TheVariants as ask;
-ghost use Rattle.tsd_core.specs.Core.{IsCoreReady, IsCoreAt, told_world};
-ghost use Rattle.tsd_core.specs.Carrying.{IsKnown, IsCarriedOut, left_in};
-ghost use Rattle.tsd_model.specs.Verdict.{first_rule, session_rules};
+ghost use Rattle.tsd_core.specs.Core.{IsCoreReady, told_world};
+ghost use Rattle.tsd_core.specs.Carrying.{IsKnown, left_in};
 ghost use Rattle.tsd_model.specs.Sessions.{session_begun, session_ended};
 ghost use Rattle.tsd_model.specs.World.{free_count};
 ghost use Rattle.tsd_model.specs.Step.{targets_from};

@@ -4,6 +4,7 @@ use Rattle.tsd_model.specs.declared.replies.Reply.{Reply}
 use Rattle.tsd_model.specs.declared.replies.Reply.TheVariants as reply
 use Rattle.tsd_model.specs.declared.replies.Rule.{Rule}
 use Rattle.tsd_model.specs.declared.replies.Rule.TheVariants as rule
+use Rattle.tsd_model.specs.Step.{targets_max}
 
 -- the request is refused, by a rule or for want of memory
 abbrev pub is_refusal : Reply → Bool
@@ -15,11 +16,11 @@ is_refusal r = false
 abbrev pub IsBlockSize : ℕ → Type 0
 IsBlockSize n = (n ≡ 512) ⊎ (n ≡ 1024) ⊎ (n ≡ 2048) ⊎ (n ≡ 4096)
 
--- Bytes are those of a block, new blocks are 1 to 32, targets at most 64.
+-- Bytes are those of a block, new blocks are 1 to 32, targets at most `targets_max`.
 abbrev pub HasBody : Reply → Type 0
 HasBody (reply.Bytes bytes) = IsBlockSize (length bytes)
 HasBody (reply.Blocks blocks) = (1 ≤ length blocks) × (length blocks ≤ 32)
-HasBody (reply.Targets blocks) = length blocks ≤ 64
+HasBody (reply.Targets blocks) = length blocks ≤ targets_max
 HasBody reply.Done = Unit {0}
 HasBody (reply.Free n) = Unit {0}
 HasBody (reply.Gone n) = Unit {0}

@@ -1,6 +1,6 @@
 //! What a request names and needs.
 
-ghost use Rattle.std.specs.Prelude.{◌≡◌, [], ◌∷◌};
+ghost use Rattle.std.specs.Prelude.{◌≡◌, ◌∷◌};
 ghost use Rattle.tsd_model.specs.Needs.{session_of, named_blocks, needs, wanted_blocks, wanted_pairs};
 ghost use Rattle.tsd_model.specs.Verdict.{is_bad, is_begin, is_no_session, has_bad_session, has_bad_count};
 

@@ -38,7 +38,7 @@ use Rattle.tsd_words.specs.declared.status.Status.TheVariants as status
 use Rattle.tsd_serve.specs.MirrorDid.{AreSoundAtEnd, HasFailed as Failed, MirrorHeadline, NoSideIsLeft, WritesWhatDiffers}
 use Rattle.tsd_serve.specs.MirrorStatus.{own_status}
 use Rattle.tsd_serve.specs.MirrorTest.{AreSpared, DidTest, HasPassed, HasPut, HasStopped, HasTold, IsFound, OpensImage}
-use Rattle.tsd_serve.specs.MirrorTest.{StandsForNone, TellsFaults}
+use Rattle.tsd_serve.specs.MirrorTest.{StandsForNone, TellsWhatIsWrong}
 use Rattle.tsd_serve.specs.declared.mirror_status.MirrorStatus.TheVariants.{Ended, SideLost}
 use Rattle.tsd_serve.proofs.Mirrored.{headline_unbegun}
 
@@ -384,8 +384,8 @@ module _ (told : Type 0) (words : Option Command) (u v : SidesView) (sound : tol
   none_found status.Truncated failed t found = absurd found
   none_found (status.RootDenied level) failed t found = absurd found
 
-  none_said : (s : Status) → HasNotPassed told words s u v → (TellsFaults words → IsFound s → ⊥) → told
-      → TellsFaults words → (t : Telling) → HasChecked t s u.first.reads u.sent v.sent
+  none_said : (s : Status) → HasNotPassed told words s u v → (TellsWhatIsWrong words → IsFound s → ⊥) → told
+      → TellsWhatIsWrong words → (t : Telling) → HasChecked t s u.first.reads u.sent v.sent
   none_said status.DeviceFault failed untold t tells telling = same_sent u v (failed.reads t)
   none_said status.NoMemory failed untold t tells telling = same_sent u v (failed.reads t)
   none_said (status.NotImage f) failed untold t tells telling = absurd (untold tells tt)
@@ -397,7 +397,7 @@ module _ (told : Type 0) (words : Option Command) (u v : SidesView) (sound : tol
   none_said status.Truncated failed untold t tells telling = absurd failed.unopened
   none_said (status.RootDenied level) failed untold t tells telling = absurd failed.unopened
 
-  stopped_unsaid : (s : Status) → HasNotPassed told words s u v → (TellsFaults words → IsFound s → ⊥)
+  stopped_unsaid : (s : Status) → HasNotPassed told words s u v → (TellsWhatIsWrong words → IsFound s → ⊥)
       → HasStopped told words s u v
   stopped_unsaid s failed untold = record {
     opens = failed.opens;
@@ -418,7 +418,7 @@ module _ (told : Type 0) (words : Option Command) (u v : SidesView) (sound : tol
   }
 
   -- the line was put, or a front of it
-  module _ (w : SidesView) (f : ImageFault) (tells : TellsFaults words)
+  module _ (w : SidesView) (f : ImageFault) (tells : TellsWhatIsWrong words)
       (failed : HasNotPassed told words (status.NotImage f) u v) where
     first_same : SidesPut v w → w.first.faults ≡ u.first.faults
     first_same puts = puts.first_faults ∙ failed.faults (λ e. absurd (cc))
@@ -547,7 +547,7 @@ module _ (told : Type 0) (words : Option Command) (r : Status) (u w : SidesView)
   pub usage_stopped : (c : Command) → words ≡ Some c → (Ended r ≡ Ended status.Usage) ↔ (words ≡ None)
   usage_stopped c is = (λ e. absurd ((stopped_not told words r u w stopped).0 (ap own_status e)), λ e. absurd (cc (e, is)))
 
-  pub late_stopped : told → SidesAreSound u → (TellsFaults words → StandsForNone u.first.reads → ⊥)
+  pub late_stopped : told → SidesAreSound u → (TellsWhatIsWrong words → StandsForNone u.first.reads → ⊥)
       → (i : Item) → w.left u.clock i → i.sent ≡ u.sent
   late_stopped t sound silent =
       silent_merely u w (stopped.quiet t (λ tells found. silent tells (stopped.none t found))) sound

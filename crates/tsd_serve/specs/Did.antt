@@ -43,8 +43,8 @@ use Rattle.tsd_serve.specs.Grouped.{OpenedInGroups}
 
 -- What a command that opens an image leaves alone. Of one that stands for no world: where it fails one of the first
 -- three tests, of the format gate, the journal and the header, nothing was written, and the disk reads as before. Where
--- it fails another, all that a repair could use is still there, whatever the status is, in the end and after a crash at
--- any moment. And of each image what lies behind it.
+-- it fails another, all that a repair could use is still there, whatever the status is, in the end and, where nothing
+-- was loose at the start, after a crash at any moment. And of each image what lies behind it, where nothing was loose.
 pub record SparesImage (port : Moments) : Type 0 where
   pub foreign : port.tells → IsForeign port.old.reads → IsUntouched port.old port.new
   pub damaged : port.tells → SparesDamaged port.old port.new

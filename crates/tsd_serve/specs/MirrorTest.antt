@@ -32,10 +32,10 @@ OpensImage (Some words) = ⊤
 OpensImage None = ⊥
 
 -- They are one that tells what is wrong with an image, in a line.
-abbrev pub TellsFaults : Option Command → Type 0
-TellsFaults (Some command.Check) = ⊤
-TellsFaults (Some command.Info) = ⊤
-TellsFaults words = ⊥
+abbrev pub TellsWhatIsWrong : Option Command → Type 0
+TellsWhatIsWrong (Some command.Check) = ⊤
+TellsWhatIsWrong (Some command.Info) = ⊤
+TellsWhatIsWrong words = ⊥
 
 abbrev pub StandsForNone : Image → Type 0
 StandsForNone image = (w : World) → Stands image w → ⊥
@@ -68,13 +68,13 @@ pub record HasPassed (told : Type 0) (words : Option Command) (old new : SidesVi
 -- or memory was short. A command that tells what is wrong with an image put that, and failed in it or not.
 pub record HasStopped (told : Type 0) (words : Option Command) (r : Status) (old new : SidesView) : Type 0 where
   pub opens : OpensImage words
-  pub ended : IsUnopened r ⊎ (TellsFaults words × (r ≡ status.PutFault))
+  pub ended : IsUnopened r ⊎ (TellsWhatIsWrong words × (r ≡ status.PutFault))
   pub judged : told → (why : ImageFault) → r ≡ status.NotImage why → IsFirstFault old.first.reads why
   pub none : told → IsFound r → StandsForNone old.first.reads
   pub spared : told → AreSpared old new
-  pub said : told → TellsFaults words → (t : Telling) → HasChecked t r old.first.reads old.sent new.sent
+  pub said : told → TellsWhatIsWrong words → (t : Telling) → HasChecked t r old.first.reads old.sent new.sent
   -- where nothing was to tell, nothing was put
-  pub quiet : told → (TellsFaults words → IsFound r → ⊥) → ∥ OnlyReads old new ∥₁
+  pub quiet : told → (TellsWhatIsWrong words → IsFound r → ⊥) → ∥ OnlyReads old new ∥₁
   pub clock : old.clock ≤ new.clock
   pub second_faults : new.second.faults ≡ old.second.faults
   pub second_syncs : new.second.syncs ≡ old.second.syncs
@@ -103,7 +103,7 @@ pub record HasPut (told : Type 0) (text : List ℕ) (s r : Status) (old new : Si
 
 -- A command that tells of faults put the line of this one.
 pub record HasToldFault (told : Type 0) (words : Option Command) (s r : Status) (old new : SidesView) : Type 0 where
-  pub tells : TellsFaults words
+  pub tells : TellsWhatIsWrong words
   pub why : ImageFault
   pub is : s ≡ status.NotImage why
   pub put : HasPut told (fault_text why ++ 10 ∷ []) s r old new
@@ -112,7 +112,7 @@ pub record HasToldFault (told : Type 0) (words : Option Command) (s r : Status) 
 pub record HasToldNothing {P : Type 0} (words : Option Command) (s r : Status) (old new : P) : Type 0 where
   pub status : r ≡ s
   pub same : new ≡ old
-  pub silent : TellsFaults words → IsFound s → ⊥
+  pub silent : TellsWhatIsWrong words → IsFound s → ⊥
 
 -- what is wrong was told, where the command tells that
 abbrev pub HasTold : {P : Type 0} → Type 0 → (P → SidesView) → Option Command → Status → Status → P → P → Type 0

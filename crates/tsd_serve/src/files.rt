@@ -1,7 +1,7 @@
 //! Frames over the tree of files in an image.
 
-ghost use Rattle.std.specs.Prelude.{◌≡◌, ◌≢◌, Some};
-ghost use Rattle.image_device.specs.Counts.{Rose};
+ghost use Rattle.std.specs.Prelude.{◌≢◌, Some};
+ghost use Rattle.serving.specs.Faults.{TellsFaults};
 ghost use Rattle.serving.specs.Ran.{EndsOnce, moments, taking};
 ghost use Rattle.tsd_serve.specs.Did.{Did};
 ghost use Rattle.tsd_serve.specs.Prompt.{AnswersPromptly};
@@ -28,15 +28,11 @@ pub(crate) fn file_frames<S: Source, P: Port>(
     ensures other { result ≢ Status.Usage }
     ensures did { Did (Some (command.Files shell.now)) result
         (taking S.told S.taken S.left_bytes S.ended source.old source.new) (moments P.told P.view port.old port.new) }
-    ensures prompt { P.told → AnswersPromptly (Some (command.Files shell.now)) result P.view port.old port.new }
+    ensures prompt { P.told → AnswersPromptly (Some (command.Files shell.now)) result
+        (taking S.told S.taken S.left_bytes S.ended source.old source.new) P.view port.old port.new }
     ensures once { EndsOnce (S.ends source.old) (S.ends source.new) }
-    // A count of faults rose only where the status is that fault's.
-    ensures source_fault { result ≡ Status.SourceFault → Rose (S.faults source.old) (S.faults source.new) }
-    ensures device_fault { result ≡ Status.DeviceFault → Rose (P.view port.old).faults (P.view port.new).faults }
-    ensures put_fault { result ≡ Status.PutFault → Rose (P.view port.old).put_faults (P.view port.new).put_faults }
-    ensures no_source_fault { result ≢ Status.SourceFault → S.faults source.new ≡ S.faults source.old }
-    ensures no_device_fault { result ≢ Status.DeviceFault → (P.view port.new).faults ≡ (P.view port.old).faults }
-    ensures no_put_fault { result ≢ Status.PutFault → (P.view port.new).put_faults ≡ (P.view port.old).put_faults }
+    ensures faults { TellsFaults result (S.faults source.old) (S.faults source.new) (P.view port.old)
+        (P.view port.new) }
 {
     let placement = places.pick(shell.kind);
     match shell.layout {

@@ -4,7 +4,7 @@ ghost use Rattle.std.specs.Prelude.{◌≡◌, ◌↔◌, ◌∷◌, ◌++◌, [
 ghost use Rattle.image_runs.specs.Opened.{status_of};
 ghost use Rattle.tsd_words.specs.StatusText.{fault_text};
 ghost use Rattle.tsd_words.specs.declared.status.Status.TheVariants as status;
-ghost use Rattle.tsd_serve.specs.MirrorTest.{HasPassed, HasPut, HasStopped, HasTold, OpensImage, TellsFaults};
+ghost use Rattle.tsd_serve.specs.MirrorTest.{HasPassed, HasPut, HasStopped, HasTold, OpensImage, TellsWhatIsWrong};
 
 use image_layout::ImageFault;
 use image_probe::{OpenFault, test_first};
@@ -49,7 +49,7 @@ fn tell<P: Sides>(words: &Command, why: OpenFault, sides: P) -> (Status, P)
 fn tell_fault<P: Sides>(words: &Command, fault: ImageFault, sides: P) -> (Status, P)
     ensures { HasTold P.told P.view (Some words.now) (status.NotImage fault) result.0 sides result.1 }
 {
-    if tells_faults(words) {
+    if tells_what_is_wrong(words) {
         return put_fault(fault, sides);
     }
     (Status::NotImage(fault), sides)
@@ -84,8 +84,8 @@ fn opens_image(words: &Command) -> bool
 }
 
 /// Whether a command tells what is wrong with an image.
-fn tells_faults(words: &Command) -> bool
-    ensures { IsTrue result ↔ TellsFaults (Some words.now) }
+fn tells_what_is_wrong(words: &Command) -> bool
+    ensures { IsTrue result ↔ TellsWhatIsWrong (Some words.now) }
 {
     matches!(words, Command::Check | Command::Info)
 }

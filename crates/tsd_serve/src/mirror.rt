@@ -9,7 +9,7 @@ ghost use Rattle.mirror_device.specs.declared.side.Serving.{Serving};
 ghost use Rattle.serving.specs.Ran.{EndsOnce, moments, taking};
 ghost use Rattle.tsd_serve.specs.MirrorDid.{AreSoundAtEnd, DidCopy, DidOver, HasFailed, MirrorHeadline, NoSideIsLeft};
 ghost use Rattle.tsd_serve.specs.MirrorDid.{WritesWhatDiffers, lost_of};
-ghost use Rattle.tsd_serve.specs.MirrorTest.{AreSpared, DidTest, OpensImage, StandsForNone, TellsFaults};
+ghost use Rattle.tsd_serve.specs.MirrorTest.{AreSpared, DidTest, OpensImage, StandsForNone, TellsWhatIsWrong};
 ghost use Rattle.tsd_serve.specs.MirrorStatus.{own_status};
 ghost use Rattle.tsd_words.specs.Words.{command_of};
 ghost use Rattle.tsd_words.specs.declared.commands.Command.{Command as Words};
@@ -67,7 +67,7 @@ pub fn tsd_mirror<S: Source, P: Sides + Drop, K: Began>(
         (P.view result.1) }
     /// promise: Where bytes were sent by this call, the second side's syncs or faults are above those of the start,
     /// unless a command told what is wrong with the first image.
-    ensures sends_late { P.told → (TellsFaults (command_of (map string_bytes words.now.items))
+    ensures sends_late { P.told → (TellsWhatIsWrong (command_of (map string_bytes words.now.items))
         → StandsForNone (P.view sides).first.reads → ⊥) → CanRise (start_at (P.view sides)) → (i : Item)
         → (P.view result.1).left (P.view sides).clock i → IsIdle (start_at (P.view sides)) i.second
         → i.sent ≡ (P.view sides).sent }

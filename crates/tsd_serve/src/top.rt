@@ -1,7 +1,7 @@
 //! The top call.
 
 ghost use Rattle.std.specs.Prelude.{◌≡◌, ◌≢◌, ◌↔◌, ◌⊎◌, map, string_bytes, None, Some};
-ghost use Rattle.image_device.specs.Counts.{Rose};
+ghost use Rattle.serving.specs.Faults.{TellsFaults};
 ghost use Rattle.serving.specs.Ran.{EndsOnce, moments, taking};
 ghost use Rattle.tsd_model.specs.Geometry.{IsLawful};
 ghost use Rattle.tsd_serve.specs.Did.{Did};
@@ -62,9 +62,11 @@ pub fn tsd<S: Source, P: Port>(
     // nothing is done behind the last one but that.
     /// promise: With `run`, `serve` and `fresh` each reply is sent whole when so often was written since its request
     /// came as is said of `serve_core`, and at most 400 writes come after it; after SourceFault, TooLong and Truncated
-    /// nothing is written but these. With `shell` and `files` the last is alone said, of the last answer.
-    ensures prompt { P.told → AnswersPromptly (command_of (map string_bytes words.now.items)) result P.view port.old
-        port.new }
+    /// nothing is written but these. With `shell` and `files` the last is alone said, of the last answer. With each the
+    /// requests that were answered so are the first of those that came in, and all of them unless the device or the
+    /// sending failed.
+    ensures prompt { P.told → AnswersPromptly (command_of (map string_bytes words.now.items)) result
+        (taking S.told S.taken S.left_bytes S.ended source.old source.new) P.view port.old port.new }
     /// promise: With `group`, **round by round**: bytes came, and then all requests were answered by turns, and their
     /// replies sent, that were whole in what had come. A turn is a group, with at most 236 writes from its first call
     /// to its last reply, or a request on the disk itself. Of what comes in a round all but the last 65,536 bytes make
@@ -75,15 +77,9 @@ pub fn tsd<S: Source, P: Port>(
     // Nothing more is taken once the end was found.
     /// promise: Nothing is taken after the end of the input was found.
     ensures once { EndsOnce (S.ends source.old) (S.ends source.new) }
-    // A count of faults rose only where the status is that fault's.
-    /// promise (with device_fault, put_fault, no_source_fault, no_device_fault, no_put_fault): A count of faults rose
-    /// exactly where the status is that fault's.
-    ensures source_fault { result ≡ Status.SourceFault → Rose (S.faults source.old) (S.faults source.new) }
-    ensures device_fault { result ≡ Status.DeviceFault → Rose (P.view port.old).faults (P.view port.new).faults }
-    ensures put_fault { result ≡ Status.PutFault → Rose (P.view port.old).put_faults (P.view port.new).put_faults }
-    ensures no_source_fault { result ≢ Status.SourceFault → S.faults source.new ≡ S.faults source.old }
-    ensures no_device_fault { result ≢ Status.DeviceFault → (P.view port.new).faults ≡ (P.view port.old).faults }
-    ensures no_put_fault { result ≢ Status.PutFault → (P.view port.new).put_faults ≡ (P.view port.old).put_faults }
+    /// promise: A count of faults rose exactly where the status is that fault's.
+    ensures faults { TellsFaults result (S.faults source.old) (S.faults source.new) (P.view port.old)
+        (P.view port.new) }
 {
     match command(words) {
         Some(words) => obey(alloc, words, source, port, places),
@@ -108,17 +104,13 @@ pub(crate) fn obey<S: Source, P: Port>(
         (taking S.told S.taken S.left_bytes S.ended source.old source.new) (moments P.told P.view port.old port.new) }
     // What is written before each reply has a bound, and what is written behind it; where the input was cut short,
     // nothing is done behind the last one but that.
-    ensures prompt { P.told → AnswersPromptly (Some words) result P.view port.old port.new }
+    ensures prompt { P.told → AnswersPromptly (Some words) result
+        (taking S.told S.taken S.left_bytes S.ended source.old source.new) P.view port.old port.new }
     ensures rounds { P.told → AnswersByRounds (Some words) result
         (taking S.told S.taken S.left_bytes S.ended source.old source.new) P.view port.old port.new }
     ensures once { EndsOnce (S.ends source.old) (S.ends source.new) }
-    // A count of faults rose only where the status is that fault's.
-    ensures source_fault { result ≡ Status.SourceFault → Rose (S.faults source.old) (S.faults source.new) }
-    ensures device_fault { result ≡ Status.DeviceFault → Rose (P.view port.old).faults (P.view port.new).faults }
-    ensures put_fault { result ≡ Status.PutFault → Rose (P.view port.old).put_faults (P.view port.new).put_faults }
-    ensures no_source_fault { result ≢ Status.SourceFault → S.faults source.new ≡ S.faults source.old }
-    ensures no_device_fault { result ≢ Status.DeviceFault → (P.view port.new).faults ≡ (P.view port.old).faults }
-    ensures no_put_fault { result ≢ Status.PutFault → (P.view port.new).put_faults ≡ (P.view port.old).put_faults }
+    ensures faults { TellsFaults result (S.faults source.old) (S.faults source.new) (P.view port.old)
+        (P.view port.new) }
 {
     match words {
         Command::Fresh(fresh) => fresh_lines(alloc, &fresh, source, port, places),
@@ -152,14 +144,11 @@ fn fresh_lines<S: Source, P: Port>(
     ensures other { result ≢ Status.Usage }
     ensures did { Did (Some (command.Fresh fresh.now)) result
         (taking S.told S.taken S.left_bytes S.ended source.old source.new) (moments P.told P.view port.old port.new) }
-    ensures prompt { P.told → AnswersPromptly (Some (command.Fresh fresh.now)) result P.view port.old port.new }
+    ensures prompt { P.told → AnswersPromptly (Some (command.Fresh fresh.now)) result
+        (taking S.told S.taken S.left_bytes S.ended source.old source.new) P.view port.old port.new }
     ensures once { EndsOnce (S.ends source.old) (S.ends source.new) }
-    ensures source_fault { result ≡ Status.SourceFault → Rose (S.faults source.old) (S.faults source.new) }
-    ensures device_fault { result ≡ Status.DeviceFault → Rose (P.view port.old).faults (P.view port.new).faults }
-    ensures put_fault { result ≡ Status.PutFault → Rose (P.view port.old).put_faults (P.view port.new).put_faults }
-    ensures no_source_fault { result ≢ Status.SourceFault → S.faults source.new ≡ S.faults source.old }
-    ensures no_device_fault { result ≢ Status.DeviceFault → (P.view port.new).faults ≡ (P.view port.old).faults }
-    ensures no_put_fault { result ≢ Status.PutFault → (P.view port.new).put_faults ≡ (P.view port.old).put_faults }
+    ensures faults { TellsFaults result (S.faults source.old) (S.faults source.new) (P.view port.old)
+        (P.view port.new) }
 {
     let mut cutter = LineCutter::new();
     serve_fresh(
@@ -186,14 +175,11 @@ fn run_lines<S: Source, P: Port>(
     ensures other { result ≢ Status.Usage }
     ensures did { Did (Some (command.Run kind)) result
         (taking S.told S.taken S.left_bytes S.ended source.old source.new) (moments P.told P.view port.old port.new) }
-    ensures prompt { P.told → AnswersPromptly (Some (command.Run kind)) result P.view port.old port.new }
+    ensures prompt { P.told → AnswersPromptly (Some (command.Run kind)) result
+        (taking S.told S.taken S.left_bytes S.ended source.old source.new) P.view port.old port.new }
     ensures once { EndsOnce (S.ends source.old) (S.ends source.new) }
-    ensures source_fault { result ≡ Status.SourceFault → Rose (S.faults source.old) (S.faults source.new) }
-    ensures device_fault { result ≡ Status.DeviceFault → Rose (P.view port.old).faults (P.view port.new).faults }
-    ensures put_fault { result ≡ Status.PutFault → Rose (P.view port.old).put_faults (P.view port.new).put_faults }
-    ensures no_source_fault { result ≢ Status.SourceFault → S.faults source.new ≡ S.faults source.old }
-    ensures no_device_fault { result ≢ Status.DeviceFault → (P.view port.new).faults ≡ (P.view port.old).faults }
-    ensures no_put_fault { result ≢ Status.PutFault → (P.view port.new).put_faults ≡ (P.view port.old).put_faults }
+    ensures faults { TellsFaults result (S.faults source.old) (S.faults source.new) (P.view port.old)
+        (P.view port.new) }
 {
     let mut cutter = LineCutter::new();
     serve_image(
@@ -218,14 +204,11 @@ fn run_frames<S: Source, P: Port>(
     ensures other { result ≢ Status.Usage }
     ensures did { Did (Some (command.Serve kind)) result
         (taking S.told S.taken S.left_bytes S.ended source.old source.new) (moments P.told P.view port.old port.new) }
-    ensures prompt { P.told → AnswersPromptly (Some (command.Serve kind)) result P.view port.old port.new }
+    ensures prompt { P.told → AnswersPromptly (Some (command.Serve kind)) result
+        (taking S.told S.taken S.left_bytes S.ended source.old source.new) P.view port.old port.new }
     ensures once { EndsOnce (S.ends source.old) (S.ends source.new) }
-    ensures source_fault { result ≡ Status.SourceFault → Rose (S.faults source.old) (S.faults source.new) }
-    ensures device_fault { result ≡ Status.DeviceFault → Rose (P.view port.old).faults (P.view port.new).faults }
-    ensures put_fault { result ≡ Status.PutFault → Rose (P.view port.old).put_faults (P.view port.new).put_faults }
-    ensures no_source_fault { result ≢ Status.SourceFault → S.faults source.new ≡ S.faults source.old }
-    ensures no_device_fault { result ≢ Status.DeviceFault → (P.view port.new).faults ≡ (P.view port.old).faults }
-    ensures no_put_fault { result ≢ Status.PutFault → (P.view port.new).put_faults ≡ (P.view port.old).put_faults }
+    ensures faults { TellsFaults result (S.faults source.old) (S.faults source.new) (P.view port.old)
+        (P.view port.new) }
 {
     match FrameCutter::new(alloc) {
         Ok(mut cutter) => serve_image(
@@ -252,14 +235,11 @@ fn shell_lines<S: Source, P: Port>(
     ensures other { result ≢ Status.Usage }
     ensures did { Did (Some (command.Shell shell.now)) result
         (taking S.told S.taken S.left_bytes S.ended source.old source.new) (moments P.told P.view port.old port.new) }
-    ensures prompt { P.told → AnswersPromptly (Some (command.Shell shell.now)) result P.view port.old port.new }
+    ensures prompt { P.told → AnswersPromptly (Some (command.Shell shell.now)) result
+        (taking S.told S.taken S.left_bytes S.ended source.old source.new) P.view port.old port.new }
     ensures once { EndsOnce (S.ends source.old) (S.ends source.new) }
-    ensures source_fault { result ≡ Status.SourceFault → Rose (S.faults source.old) (S.faults source.new) }
-    ensures device_fault { result ≡ Status.DeviceFault → Rose (P.view port.old).faults (P.view port.new).faults }
-    ensures put_fault { result ≡ Status.PutFault → Rose (P.view port.old).put_faults (P.view port.new).put_faults }
-    ensures no_source_fault { result ≢ Status.SourceFault → S.faults source.new ≡ S.faults source.old }
-    ensures no_device_fault { result ≢ Status.DeviceFault → (P.view port.new).faults ≡ (P.view port.old).faults }
-    ensures no_put_fault { result ≢ Status.PutFault → (P.view port.new).put_faults ≡ (P.view port.old).put_faults }
+    ensures faults { TellsFaults result (S.faults source.old) (S.faults source.new) (P.view port.old)
+        (P.view port.new) }
 {
     let placement = places.pick(shell.kind);
     match shell.layout {

@@ -1,6 +1,6 @@
 //! Lines of capabilities.
 
-ghost use Rattle.std.specs.Prelude.{◌≡◌, ◌+◌, ◌≤◌, [], ◌∷◌, ◌++◌, length};
+ghost use Rattle.std.specs.Prelude.{◌≡◌, ◌+◌, ◌≤◌, ◌∷◌, ◌++◌, length};
 ghost use Rattle.tsd_words.specs.Lines.{cap_lines, cap_words, line_of};
 
 use script_text::OutBuf;

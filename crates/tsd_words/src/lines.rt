@@ -1,10 +1,11 @@
 //! Lines of numbers.
 
-ghost use Rattle.std.specs.Prelude.{◌≡◌, ◌+◌, ◌≤◌, [], ◌∷◌, ◌++◌, length, codes, decimal};
+ghost use Rattle.std.specs.Prelude.{◌≡◌, ◌+◌, ◌≤◌, ◌∷◌, ◌++◌, length, decimal};
 ghost use Rattle.tsd_model.specs.Geometry.{IsLawful};
 ghost use Rattle.tsd_words.specs.Lines.{clean_words, info_lines, line_of, load_words, upgrade_line, value_line};
 
 use image_layout::Layout;
+use image_layout::sectors::SECTOR_BYTES;
 use script_text::OutBuf;
 use script_text::parse::LINE_MAX;
 use script_text::printing::{put_number, put_word};
@@ -15,9 +16,6 @@ const COUNTED_ROOM: usize = 20;
 
 /// The most bytes of a line of a name and a value.
 const VALUE_ROOM: usize = 31;
-
-/// The bytes of a sector.
-const SECTOR_BYTES: u64 = 512;
 
 /// The version of an image that keeps digests.
 const DIGEST_VERSION: u32 = 2;
@@ -65,7 +63,7 @@ pub fn info_lines(version: u32, size: &Geometry, free: u32, pointers: u32) -> Ou
     /// promise: The lines that `info` prints of a world.
     ensures { result ≡ info_lines version size.now free pointers }
 {
-    let bytes = u64::from(Layout::of(size).total()) * SECTOR_BYTES;
+    let bytes = u64::from(Layout::of(size).total()) * SECTOR_BYTES as u64;
     let mut lines = OutBuf::new();
     put_value(&mut lines, b"version".as_slice(), u64::from(version));
     put_value(&mut lines, b"sectors".as_slice(), u64::from(size.sectors));

@@ -1,16 +1,13 @@
 //! Capabilities.
 
-ghost use Rattle.std.specs.Prelude.{◌≡◌, [], ◌+◌, ◌<◌, true, false, OnOk, OnErr};
+ghost use Rattle.std.specs.Prelude.{◌≡◌, [], ◌+◌, ◌<◌, false, OnOk};
 ghost use Rattle.tsd_model.specs.Records.{kept};
 ghost use Rattle.tsd_model.specs.Step.{with_caps};
-ghost use Rattle.image_device.specs.Calls.{Uses};
-ghost use Rattle.image_device.specs.Counts.{CountsFault};
 ghost use Rattle.intent_journal.specs.Ring.{checkpoint_writes};
 ghost use Rattle.volume_laws.specs.Operations.{IsOperation, IsWithin};
 ghost use Rattle.volume_laws.specs.Rings.{CommitsOnce};
-ghost use Rattle.volume_laws.specs.Volume.{IsVolumeAt, IsVolumeReady, told_by, world_on};
-ghost use Rattle.volume_laws.specs.Writes.{batch_cost, due, IsPaid};
-ghost use Rattle.volume_laws.specs.Moments.{LeavesEither, LeavesOwed};
+ghost use Rattle.volume_laws.specs.Volume.{IsVolumeAt, IsVolumeReady, told_by};
+ghost use Rattle.volume_laws.specs.Writes.{batch_cost};
 ghost use Rattle.image_world.specs.Debt.{owed};
 
 use crate::volume::Volume;

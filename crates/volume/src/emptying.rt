@@ -1,15 +1,11 @@
 //! Emptying the journal.
 
-ghost use Rattle.std.specs.Prelude.{◌≡◌, [], true, false, OnOk, OnErr};
-ghost use Rattle.image_device.specs.Calls.{Uses};
-ghost use Rattle.image_device.specs.Counts.{CountsFault};
+ghost use Rattle.std.specs.Prelude.{◌≡◌, [], false, OnOk};
 ghost use Rattle.intent_journal.specs.Records.{AreClosed};
 ghost use Rattle.intent_journal.specs.Home.{AgreeBut, home, is_journal};
 ghost use Rattle.intent_journal.specs.Ring.{checkpoint_writes};
 ghost use Rattle.volume_laws.specs.Operations.{IsOperation, IsWithin};
-ghost use Rattle.volume_laws.specs.Volume.{IsVolumeAt, told_by, world_on};
-ghost use Rattle.volume_laws.specs.Writes.{batch_cost, due, IsPaid};
-ghost use Rattle.volume_laws.specs.Moments.{LeavesWorld, LeavesOwed};
+ghost use Rattle.volume_laws.specs.Volume.{IsVolumeAt};
 ghost use Rattle.image_world.specs.Debt.{owed};
 
 use crate::volume::Volume;

@@ -1,17 +1,15 @@
 //! Ending what an image holds of a sweep and a cascade.
 
-ghost use Rattle.std.specs.Prelude.{◌≡◌, [], ◌+◌, ◌-◌, ◌≤◌, true, false, OnOk, OnErr, IfOk};
+ghost use Rattle.std.specs.Prelude.{◌≡◌, [], ◌+◌, ◌-◌, ◌≤◌, true, false, OnOk, IfOk};
 ghost use Rattle.block_alloc.specs.LiveMap.{free_count as free_in};
 ghost use Rattle.image_device.specs.Calls.{Uses};
-ghost use Rattle.image_device.specs.Counts.{CountsFault};
 ghost use Rattle.image_world.specs.Raw.{world_with, zeros_of};
 ghost use Rattle.tsd_model.specs.World.{free_count};
 ghost use Rattle.volume.specs.Sweeping.{left_due};
-ghost use Rattle.volume_laws.specs.Moments.{LeavesWorld, LeavesOwed};
 ghost use Rattle.image_world.specs.Debt.{owed};
 ghost use Rattle.volume_laws.specs.Operations.{IsOperation, IsWithin};
-ghost use Rattle.volume_laws.specs.Volume.{IsVolumeAt, IsVolumeReady, told_by, world_on};
-ghost use Rattle.volume_laws.specs.Writes.{due, IsPaid, Works};
+ghost use Rattle.volume_laws.specs.Volume.{IsVolumeAt, IsVolumeReady, told_by};
+ghost use Rattle.volume_laws.specs.Writes.{due};
 
 use crate::volume::Volume;
 use block_alloc::LiveMap;

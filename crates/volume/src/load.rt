@@ -1,6 +1,6 @@
 //! Loading a volume.
 
-ghost use Rattle.std.specs.Prelude.{◌≡◌, [], Ok, true, false, IfOk};
+ghost use Rattle.std.specs.Prelude.{◌≡◌, [], Ok, false, IfOk};
 ghost use Rattle.image_device.specs.Calls.{Rests, Uses};
 ghost use Rattle.image_device.specs.Counts.{CountsFault, CountsFaultOf};
 ghost use Rattle.image_device.specs.Runs.{IsFirm};

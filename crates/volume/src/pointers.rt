@@ -1,19 +1,18 @@
 //! Pointers.
 
 ghost use Rattle.std.specs.Prelude.{◌≡◌, ◌≢◌, [], ◌+◌, ◌-◌, ◌<◌, ◌≤◌, ◌*◌, true, false, length};
-ghost use Rattle.std.specs.Prelude.{OnOk, OnErr, IfOk};
+ghost use Rattle.std.specs.Prelude.{OnOk, IfOk};
 ghost use Rattle.tsd_model.specs.Doomed.{settle};
 ghost use Rattle.tsd_model.specs.Pairs.{holds};
 ghost use Rattle.tsd_model.specs.Step.{with_pointer, without_pointer};
 ghost use Rattle.tsd_model.specs.World.{is_live, free_count};
 ghost use Rattle.image_device.specs.Calls.{Uses};
-ghost use Rattle.image_device.specs.Counts.{CountsFault};
 ghost use Rattle.intent_journal.specs.Ring.{checkpoint_writes};
 ghost use Rattle.volume_laws.specs.Operations.{IsOperation, IsWithin};
 ghost use Rattle.volume_laws.specs.Rings.{CommitsOnce};
-ghost use Rattle.volume_laws.specs.Volume.{IsVolumeAt, IsVolumeReady, told_by, world_on};
-ghost use Rattle.volume_laws.specs.Writes.{batch_cost, due, IsPaid};
-ghost use Rattle.volume_laws.specs.Moments.{LeavesEither, LeavesOwed, made};
+ghost use Rattle.volume_laws.specs.Volume.{IsVolumeAt, IsVolumeReady, told_by};
+ghost use Rattle.volume_laws.specs.Writes.{batch_cost, due};
+ghost use Rattle.volume_laws.specs.Moments.{made};
 ghost use Rattle.image_world.specs.Debt.{owed, graph_in};
 ghost use Rattle.volume_laws.specs.Writes.{lost_cost};
 ghost use Rattle.image_world.specs.Tables.{pairs_of};

@@ -1,13 +1,11 @@
 //! Reading a block.
 
-ghost use Rattle.std.specs.Prelude.{◌≡◌, [], true, false, length, Some, OnOk, OnErr};
+ghost use Rattle.std.specs.Prelude.{◌≡◌, [], true, false, length, Some, OnOk};
 ghost use Rattle.tsd_model.specs.Geometry.{block_len};
 ghost use Rattle.tsd_model.specs.World.{is_live, contents};
-ghost use Rattle.image_device.specs.Calls.{Rests, Uses};
-ghost use Rattle.image_device.specs.Counts.{CountsFault};
+ghost use Rattle.image_device.specs.Calls.{Rests};
 ghost use Rattle.volume_laws.specs.Operations.{IsOperation, IsWithin};
 ghost use Rattle.volume_laws.specs.Volume.{IsVolumeAt, IsVolumeReady, told_by, world_on};
-ghost use Rattle.volume_laws.specs.Moments.{LeavesWorld, LeavesOwed};
 ghost use Rattle.image_world.specs.Debt.{owed};
 
 use crate::volume::Volume;

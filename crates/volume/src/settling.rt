@@ -1,18 +1,13 @@
 //! Reclaiming what is doomed.
 
 ghost use Rattle.std.specs.Prelude.{◌≡◌, [], length, ◌⊎◌, ◌↔◌, ◌+◌, ◌-◌, ◌≤◌, ◌<◌, ◌*◌};
-ghost use Rattle.std.specs.Prelude.{true, false, OnOk, OnErr, IfOk, IfSome, IsTrue, IsNone};
-ghost use Rattle.tsd_model.specs.Reach.{swept};
-ghost use Rattle.tsd_model.specs.World.{free_count};
-ghost use Rattle.image_world.specs.Raw.{world_with, zeros_of};
+ghost use Rattle.std.specs.Prelude.{true, false, OnOk, IfOk, IfSome, IsTrue, IsNone};
 ghost use Rattle.image_device.specs.Calls.{Uses};
-ghost use Rattle.image_device.specs.Counts.{CountsFault};
 ghost use Rattle.intent_journal.specs.Ring.{checkpoint_writes};
 ghost use Rattle.volume_laws.specs.Operations.{IsOperation, IsWithin};
 ghost use Rattle.volume_laws.specs.Rings.{HasBatch, HasBatches};
-ghost use Rattle.volume_laws.specs.Volume.{IsVolumeAt, IsVolumeReady, told_by, world_on};
-ghost use Rattle.volume_laws.specs.Writes.{batch_cost, due, IsPaid, Works};
-ghost use Rattle.volume_laws.specs.Moments.{LeavesEither, LeavesWorld, LeavesOwed};
+ghost use Rattle.volume_laws.specs.Volume.{IsVolumeAt, IsVolumeReady, told_by};
+ghost use Rattle.volume_laws.specs.Writes.{batch_cost, due};
 ghost use Rattle.tsd_model.specs.Doomed.{doomed};
 ghost use Rattle.image_world.specs.Debt.{graph_in, owed};
 ghost use Rattle.volume_laws.specs.Graphs.{IsStepNext};

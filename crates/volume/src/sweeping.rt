@@ -1,19 +1,16 @@
 //! Reclaiming the unreached blocks, to which no primary block leads.
 
-ghost use Rattle.std.specs.Prelude.{◌≡◌, [], ◌+◌, ◌-◌, ◌*◌, ◌<◌, ◌≤◌, true, false, OnOk, OnErr, IfOk, IfSome, IsNone};
+ghost use Rattle.std.specs.Prelude.{◌≡◌, [], ◌+◌, ◌-◌, ◌*◌, ◌<◌, ◌≤◌, true, false, OnOk, IfOk};
 ghost use Rattle.tsd_model.specs.Reach.{swept};
 ghost use Rattle.tsd_model.specs.World.{World, free_count};
-ghost use Rattle.cycle_sweep.specs.Sweep.{MaySweep, AreSweptBy};
 ghost use Rattle.graph_laws.specs.Graph.{HasGraphOf};
 ghost use Rattle.image_device.specs.Calls.{Uses};
-ghost use Rattle.image_device.specs.Counts.{CountsFault};
 ghost use Rattle.intent_journal.specs.Ring.{checkpoint_writes};
 ghost use Rattle.volume.specs.Sweeping.{sweep_cost, swept_size, taken_cost, unswept};
-ghost use Rattle.volume_laws.specs.Moments.{LeavesEither, LeavesWorld};
 ghost use Rattle.image_world.specs.Debt.{graph_in, owed};
 ghost use Rattle.volume_laws.specs.Operations.{IsOperation};
-ghost use Rattle.volume_laws.specs.Volume.{IsVolumeAt, IsVolumeReady, told_by, world_on};
-ghost use Rattle.volume_laws.specs.Writes.{batch_cost, due, IsPaid, Works};
+ghost use Rattle.volume_laws.specs.Volume.{IsVolumeAt, IsVolumeReady, told_by};
+ghost use Rattle.volume_laws.specs.Writes.{batch_cost, due, IsPaid};
 
 use crate::volume::Volume;
 use cycle_sweep::{mark, next_sweep_step};

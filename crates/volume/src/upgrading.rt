@@ -1,9 +1,7 @@
 //! Upgrading to digests.
 
-ghost use Rattle.std.specs.Prelude.{◌≡◌, ℕ, ◌+◌, ◌≤◌, [], true, false, OnOk, OnErr};
+ghost use Rattle.std.specs.Prelude.{◌≡◌, ℕ, ◌+◌, ◌≤◌, [], false, OnOk};
 ghost use Rattle.tsd_model.specs.Records.{upgraded};
-ghost use Rattle.image_device.specs.Calls.{Uses};
-ghost use Rattle.image_device.specs.Counts.{CountsFault};
 ghost use Rattle.image_device.specs.Image.{zeros};
 ghost use Rattle.intent_journal.specs.Records.{AreClosed};
 ghost use Rattle.image_device.specs.Runs.{IsConfined};
@@ -12,9 +10,8 @@ ghost use Rattle.intent_journal.specs.Ring.{checkpoint_writes};
 ghost use Rattle.volume_laws.specs.Erased.{is_body, HasOnlyDigests};
 ghost use Rattle.volume_laws.specs.Operations.{IsOperation, IsWithin};
 ghost use Rattle.volume_laws.specs.Rings.{CommitsOnce};
-ghost use Rattle.volume_laws.specs.Volume.{IsVolumeAt, IsVolumeReady, told_by, world_on};
-ghost use Rattle.volume_laws.specs.Writes.{batch_cost, due, IsPaid};
-ghost use Rattle.volume_laws.specs.Moments.{LeavesEither, LeavesWorld, LeavesOwed};
+ghost use Rattle.volume_laws.specs.Volume.{IsVolumeAt, IsVolumeReady, told_by};
+ghost use Rattle.volume_laws.specs.Writes.{batch_cost};
 ghost use Rattle.image_world.specs.Debt.{owed};
 
 use crate::volume::Volume;

@@ -1,18 +1,15 @@
 //! Writing a block.
 
-ghost use Rattle.std.specs.Prelude.{◌≡◌, ◌∷◌, [], ◌+◌, ◌≤◌, true, false, length, OnOk, OnErr};
-ghost use Rattle.image_device.specs.Calls.{Uses};
-ghost use Rattle.image_device.specs.Counts.{CountsFault};
+ghost use Rattle.std.specs.Prelude.{◌≡◌, ◌∷◌, [], ◌+◌, ◌≤◌, true, false, length, OnOk};
 ghost use Rattle.tsd_model.specs.Geometry.{block_len};
 ghost use Rattle.tsd_model.specs.World.{is_live};
 ghost use Rattle.intent_journal.specs.Ring.{checkpoint_writes};
 ghost use Rattle.volume_laws.specs.Operations.{IsOperation, IsWithin};
 ghost use Rattle.volume_laws.specs.Rings.{CommitsOnce};
-ghost use Rattle.volume_laws.specs.Volume.{IsVolumeAt, IsVolumeReady, told_by, world_on};
+ghost use Rattle.volume_laws.specs.Volume.{IsVolumeAt, IsVolumeReady, told_by};
 ghost use Rattle.tsd_model.specs.Step.{written};
-ghost use Rattle.volume_laws.specs.Moments.{LeavesEither, LeavesOwed};
 ghost use Rattle.image_world.specs.Debt.{owed};
-ghost use Rattle.volume_laws.specs.Writes.{batch_cost, IsPaid};
+ghost use Rattle.volume_laws.specs.Writes.{batch_cost};
 
 use crate::volume::Volume;
 use image_device::{Device, Failed};

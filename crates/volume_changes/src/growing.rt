@@ -4,7 +4,6 @@ ghost use Rattle.std.specs.Prelude.{◌≡◌, ℕ, ◌+◌, ◌*◌, ◌<◌, �
 ghost use Rattle.std.specs.Prelude.{length, slice_set, IsTrue};
 ghost use Rattle.image_device.specs.Image.{Image, put_at};
 ghost use Rattle.image_layout.specs.Ring.{bodies};
-ghost use Rattle.intent_journal.specs.Batch.{with_patch};
 ghost use Rattle.intent_journal.specs.Home.{overlaid};
 ghost use Rattle.intent_journal.specs.Homes.{is_lawful_home};
 ghost use Rattle.pointer_table.specs.Table.{pairs};

@@ -1,7 +1,6 @@
 //! Zeros in blocks that aren't live.
 
 ghost use Rattle.std.specs.Prelude.{◌≡◌, ℕ, ◌+◌, ◌*◌, ◌<◌, ◌≤◌, true, false, length, OnOk};
-ghost use Rattle.std.specs.Prelude.{OnErr};
 ghost use Rattle.tsd_model.specs.World.{has_number};
 ghost use Rattle.image_device.specs.Calls.{Uses};
 ghost use Rattle.image_device.specs.Counts.{CountsFault};

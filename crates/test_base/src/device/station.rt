@@ -1,7 +1,5 @@
 // Calls of a station and what they leave.
-use image_device::{
-    Device, Failed, FuseStation, MemStation, Pick, Port, put_all, write_run, write_through,
-};
+use image_device::{Device, Failed, FuseStation, MemStation, Pick, Port, put_all, write_through};
 use std::test::Fail;
 
 /// One call, by its sector and the byte that its sector is full of.
@@ -133,14 +131,15 @@ fn helpers_make_their_calls(rt: HostRuntime) -> Result<(), Fail> {
     let alloc = rt.alloc();
     let mut station = MemStation::new(alloc, Vec::new(alloc));
     write_through(&mut station, 3, &[1; 512])?;
-    write_run(&mut station, 4, &[[2; 512], [3; 512]])?;
+    write_through(&mut station, 4, &[2; 512])?;
+    write_through(&mut station, 5, &[3; 512])?;
     put_all(&mut station, b"")?;
     put_all(&mut station, b"done\n")?;
     assert!(rt; answers(&mut station, Call::Read(3, 1)));
     assert!(rt; answers(&mut station, Call::Read(4, 2)));
     assert!(rt; answers(&mut station, Call::Read(5, 3)));
     assert_eq!(rt; station.sent(), b"done\n".as_slice());
-    assert_eq!(rt; (station.calls(), station.write_calls()), (9, 3));
+    assert_eq!(rt; (station.calls(), station.write_calls()), (10, 3));
     Ok(())
 }
 

@@ -94,6 +94,12 @@ pub returns-clause-prompt : goal.returns-clause-prompt
 returns-clause-prompt g c told = record {
   replied = mark (g.P.Device.view c.put_reply.new.port);
   of_port = (c.put_reply.new.port, refl);
+  between =
+      let applied = (c.apply.ensures.any_moment told).later in
+      let put = c.put_reply.ensures.puts.clock in
+      let settled = (c.settle_some.ensures.any_moment told).later in
+      let emptied = (c.empty_ring.ensures.any_moment told).later in
+      (omega (arith, applied, put), omega (arith, settled, emptied));
   sent = sym (c.empty_ring.ensures.sent told ∙ c.settle_some.ensures.sent told);
   before = λ bounded.
       let same = c.put_reply.ensures.puts.writes in

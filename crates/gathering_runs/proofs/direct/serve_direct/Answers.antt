@@ -80,6 +80,6 @@ returns-clause-turn g c told =
     (λ at shut served replied left.
     let behind = g.met.H.GroupHandler.owes h2 v2.reads at.1 in
     turn_of_direct k w g.H.GroupHandler.may_wait (IsOfPort g.P.Device.view) (g.H.Handler.state h (cleared v0.reads)) (g.H.Handler.state h v1.reads) (g.H.Handler.state h2 v2.reads) (g.H.Handler.state h2 (cleared v2.reads)) c.args.request.now (mark v0) (mark v1) (mark v2)
-    c.requires.waits (c.empty_journal.new.port, refl) (c.empty_journal.ensures.sent told) c.empty_journal.ensures.uses.most (c.answer.new.port, refl) replied
+    c.requires.waits (c.empty_journal.new.port, refl) c.empty_journal.ensures.uses.clock (c.empty_journal.ensures.sent told) c.empty_journal.ensures.uses.most (c.answer.new.port, refl) replied
     (record { served = served; few = λ all. let h = left (All-head w.bounded c.args.request.now [] all) in let e = one_left k w _ _ _ _ c.args.request.now served (w.debt v0.reads) in omega (arith, h, e, before, behind) })
     over.1 (sym (to_cleared (g.H.Handler.holds h2) (g.H.Handler.state h2) (g.met.H.GroupHandler.carried h2) v2.reads at.1 shut).1))

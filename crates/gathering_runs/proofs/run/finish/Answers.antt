@@ -8,7 +8,7 @@ use Rattle.gathering_runs.specs.Sent.{IsSentBy}
 use Rattle.gathering_runs.proofs.Outcome.{err_is_if, ok_is}
 use Rattle.gathering_runs.proofs.Reclaiming.{owed_between}
 use Rattle.serving.specs.Prompt.{mark}
-use Rattle.gathering_runs.proofs.Turning.{turned_err, turned_then, went}
+use Rattle.gathering_runs.proofs.Turning.{later_mere, turned_err, turned_then, went}
 use Rattle.gathering_runs.proofs.run.finish.Goals as goal
 
 all_three : {T E A B C P : Type 0} (r : Result T E) → OnOk r A → OnOk r B → OnOk r C → (A → B → C → P) → OnOk r P
@@ -51,6 +51,7 @@ returns-in-Ok-clause-finished g c told =
       groups = groups.0;
       settled = mark (g.P.Device.view c.settle_in_groups-left.result.0.port);
       reclaimed = groups.1;
+      not_after = later_mere (g.P.Device.view c.settle_in_groups-left.result.0.port) (g.P.Device.view c.close-closed.new.disk.port) _ (e2.did told).any_moment;
       nothing_left = owed1 ∙ ok_is r1 tt c.in-Ok.is e1.none refl;
       nothing_sent = sent;
       writes = writes;

@@ -13,13 +13,13 @@ use Rattle.gathering_runs.specs.Sent.{IsSentBy}
 use Rattle.gathering_runs.specs.Turns.{StopsBy, Turned}
 use Rattle.gathering_runs.proofs.Ending.{asked_none, asked_then_stopped, asked_to_end, left_longer, not_cut, not_done}
 use Rattle.gathering_runs.proofs.Handing.{handed_then}
-use Rattle.gathering_runs.proofs.Outcome.{counts_ok, err_is_if, ok_is}
+use Rattle.gathering_runs.proofs.Outcome.{counts_ok, err_is_if, ok_is, stopped_faults}
 use Rattle.gathering_runs.proofs.Sent.{sent_longer, sent_stopped}
 use Rattle.serving.specs.Prompt.{IsOfPort, mark}
 use Rattle.gathering_runs.proofs.ByTurns.{all_turns}
 use Rattle.gathering_runs.proofs.Reclaiming.{owed_between}
 use Rattle.gathering_runs.proofs.Rounds.{all_handed, near_cut, near_end, near_fault, near_found, near_none, ran_by_rounds, run_none, so_far_more, so_far_none, take_none}
-use Rattle.gathering_runs.proofs.Turning.{Went, left_then, sent_turned, went, went_then}
+use Rattle.gathering_runs.proofs.Turning.{Went, later_mere, left_then, sent_turned, went, went_then}
 use Rattle.gathering_runs.proofs.run.serve_in_groups.Goals as goal
 
 pub returns-in-Err-clause-ran : goal.returns-in-Err-clause-ran
@@ -57,7 +57,7 @@ loop-server-init g c = record {
         let h1 = c.begin.new.server in
         let before = g.met.H.GroupHandler.owes h0 (g.P.Device.view c.args.port).reads (c.requires.at told).1 in
         let behind = owed_between (g.H.Handler.holds h1) g.H.Handler.work.debt (g.H.GroupHandler.owed h1) (g.met.H.GroupHandler.owes h1) (g.met.H.GroupHandler.owed_alike h1) _ (g.P.Device.view c.begin.new.port) (c.in-Ok.ensures.between told) in
-        so_far_none (spoken g.H.Handler.rules g.R.Replies.voice) g.H.Handler.work g.H.GroupHandler.may_wait (IsOfPort g.P.Device.view) g.R.Protocol.spelling c.args.limit _ _ _ (g.H.Handler.work.debt (g.P.Device.view c.args.port).reads) (mark (g.P.Device.view c.begin.new.port)) (c.begin.new.port, refl) (c.begin.ensures.sent told)
+        so_far_none (spoken g.H.Handler.rules g.R.Replies.voice) g.H.Handler.work g.H.GroupHandler.may_wait (IsOfPort g.P.Device.view) g.R.Protocol.spelling c.args.limit _ _ _ (g.H.Handler.work.debt (g.P.Device.view c.args.port).reads) _ (mark (g.P.Device.view c.begin.new.port)) (c.begin.new.port, refl) (later_mere (g.P.Device.view c.args.port) (g.P.Device.view c.begin.new.port) _ (c.in-Ok.ensures.did told).any_moment) (c.begin.ensures.sent told)
         (let same = c.in-Ok.ensures.owes in omega (arith, same, before, behind))
         (run_none (spoken g.H.Handler.rules g.R.Replies.voice) _ _ (c.in-Ok.ensures.did told).served.answers (c.in-Ok.ensures.did told).served.run),
   );
@@ -110,7 +110,7 @@ loop-server-preserved g c =
             went_then k part _ s1 s2 v0 v1 v2 was.1 (q ∷ did.0) (was.4 told)
             (went k part r _ s1 s2 v1 v2 (q ∷ did.0) c.in-Ok-served.is (subst (λ (p : Image → Image). Turned r k p s1 s2 v1 v2 (q ∷ did.0)) i.aside (did.2 told))),
         λ told.
-            so_far_more k g.H.Handler.work g.H.GroupHandler.may_wait (IsOfPort g.P.Device.view) sp c.args.limit _ s1 s2 was.0 found.0 was.1 (q ∷ did.0) _ _ (mark v1) (mark v2) (was.5 told)
+            so_far_more k g.H.Handler.work g.H.GroupHandler.may_wait (IsOfPort g.P.Device.view) sp c.args.limit _ s1 s2 was.0 found.0 was.1 (q ∷ did.0) _ _ _ (mark v1) (mark v2) (was.5 told)
             (near_found sp fed1 ended c.next.new.self c.args.limit was.0 found.0 was.1 q (c.next.ensures.limit ∙ i.limit) found.2)
             (all_turns k g.H.Handler.work g.H.GroupHandler.may_wait (IsOfPort g.P.Device.view) r _ s1 s2 (q ∷ did.0) (mark v1) (mark v2) c.in-Ok-served.is (did.3 told))
             (all_handed sp fed2 ended j c.args.limit bytes (was.1 ++ q ∷ did.0) (did.1.limit ∙ c.next.ensures.limit ∙ i.limit) read handed),
@@ -274,8 +274,8 @@ returns-in-Err-clause-rounds g c told =
     let sp = g.R.Protocol.spelling in
     let m0 = mark (g.P.Device.view c.args.port) in
     ran_by_rounds k w waits port sp c.args.limit c.in-Err.why _ _ _ _ [] [] [] [] m0 m0 m0 _
-    (so_far_none k w waits port sp c.args.limit _ _ _ (w.debt m0.reads) m0 (c.args.port, refl) refl (omega arith) refl)
-    (came_first g.S.Source.told _ _) (near_none sp c.args.limit g.met.R.Protocol.lawful.none (take_none c.args.limit)) (refl, refl) (λ cut. absurd (not_cut c.in-Err.why c.in-Err.ensures.stops cut)) (λ is. absurd (not_done c.in-Err.why c.in-Err.ensures.stops is))
+    (so_far_none k w waits port sp c.args.limit _ _ _ (w.debt m0.reads) m0.clock m0 (c.args.port, refl) (omega arith) refl (omega arith) refl)
+    (came_first g.S.Source.told _ _) (near_none sp c.args.limit g.met.R.Protocol.lawful.none (take_none c.args.limit)) (refl, refl) (later_mere (g.P.Device.view c.args.port) (g.P.Device.view c.begin.new.port) _ (c.in-Err.ensures.did told).any_moment) (λ cut. absurd (not_cut c.in-Err.why c.in-Err.ensures.stops cut)) (λ is. absurd (not_done c.in-Err.why c.in-Err.ensures.stops is))
 
 pub returns-in-Err-served-clause-rounds : goal.returns-in-Err-served-clause-rounds
 returns-in-Err-served-clause-rounds g c told =
@@ -293,7 +293,7 @@ returns-in-Err-served-clause-rounds g c told =
     let stops = err_is_if StopsBy c.serve_in_hand-left.result.1 _ c.in-Err-served.is c.serve_in_hand-left.ensures.stops in
     let t = c.serve_in_hand-left.ensures.did.3 told in
     ran_by_rounds k g.H.Handler.work g.H.GroupHandler.may_wait (IsOfPort g.P.Device.view) sp c.args.limit c.in-Err-served.why _ _ t.state _ was.0 found.0 was.1 t.turns _ m1 t.rested _ (was.5 told) came
-    (near_found sp fed1 ended c.next.new.self c.args.limit was.0 found.0 was.1 q (c.next.ensures.limit ∙ i.limit) found.2) t.each (λ cut. absurd (not_cut c.in-Err-served.why stops cut)) (λ is. absurd (not_done c.in-Err-served.why stops is))
+    (near_found sp fed1 ended c.next.new.self c.args.limit was.0 found.0 was.1 q (c.next.ensures.limit ∙ i.limit) found.2) t.each t.not_after (λ cut. absurd (not_cut c.in-Err-served.why stops cut)) (λ is. absurd (not_done c.in-Err-served.why stops is))
 
 pub returns-in-Ok-finished-clause-rounds : goal.returns-in-Ok-finished-clause-rounds
 returns-in-Ok-finished-clause-rounds g c told =
@@ -307,7 +307,7 @@ returns-in-Ok-finished-clause-rounds g c told =
     let came = came_then g.S.Source.told _ _ _ _ _ _ was.0 found.0 was.2 found.1 in
     let ended = IsAtEnd g.S.Source.told (g.S.Source.ended c.next.new.source) (g.S.Source.left_bytes c.next.new.source) in
     let by = subst (λ n. AskedBy status.Done sp n bytes ended was.1) (c.next.ensures.limit ∙ i.limit) found.2 in
-    ran_by_rounds k g.H.Handler.work g.H.GroupHandler.may_wait (IsOfPort g.P.Device.view) sp c.args.limit status.Done _ _ _ _ was.0 found.0 was.1 [] _ m1 m1 _ (was.5 told) came (near_end sp c.args.limit was.0 found.0 was.1 by.0 by.3) (refl, refl) (λ cut. absurd cut) (λ is. ok_is c.finish-left.result.1 _ c.in-Ok-finished.is (c.finish-left.ensures.finished told))
+    ran_by_rounds k g.H.Handler.work g.H.GroupHandler.may_wait (IsOfPort g.P.Device.view) sp c.args.limit status.Done _ _ _ _ was.0 found.0 was.1 [] _ m1 m1 _ (was.5 told) came (near_end sp c.args.limit was.0 found.0 was.1 by.0 by.3) (refl, refl) (later_mere (g.P.Device.view c.loop-server.disk.port) (g.P.Device.view c.finish-left.result.0.port) _ (c.finish-left.ensures.did told).any_moment) (λ cut. absurd cut) (λ is. ok_is c.finish-left.result.1 _ c.in-Ok-finished.is (c.finish-left.ensures.finished told))
 
 pub returns-in-Err-finished-clause-rounds : goal.returns-in-Err-finished-clause-rounds
 returns-in-Err-finished-clause-rounds g c told =
@@ -322,7 +322,7 @@ returns-in-Err-finished-clause-rounds g c told =
     let ended = IsAtEnd g.S.Source.told (g.S.Source.ended c.next.new.source) (g.S.Source.left_bytes c.next.new.source) in
     let by = subst (λ n. AskedBy status.Done sp n bytes ended was.1) (c.next.ensures.limit ∙ i.limit) found.2 in
     let stops = err_is_if StopsBy c.finish-left.result.1 _ c.in-Err-finished.is c.finish-left.ensures.stops in
-    ran_by_rounds k g.H.Handler.work g.H.GroupHandler.may_wait (IsOfPort g.P.Device.view) sp c.args.limit c.in-Err-finished.why _ _ _ _ was.0 found.0 was.1 [] _ m1 m1 _ (was.5 told) came (near_end sp c.args.limit was.0 found.0 was.1 by.0 by.3) (refl, refl) (λ cut. absurd (not_cut c.in-Err-finished.why stops cut)) (λ is. absurd (not_done c.in-Err-finished.why stops is))
+    ran_by_rounds k g.H.Handler.work g.H.GroupHandler.may_wait (IsOfPort g.P.Device.view) sp c.args.limit c.in-Err-finished.why _ _ _ _ was.0 found.0 was.1 [] _ m1 m1 _ (was.5 told) came (near_end sp c.args.limit was.0 found.0 was.1 by.0 by.3) (refl, refl) (later_mere (g.P.Device.view c.loop-server.disk.port) (g.P.Device.view c.finish-left.result.0.port) _ (c.finish-left.ensures.did told).any_moment) (λ cut. absurd (not_cut c.in-Err-finished.why stops cut)) (λ is. absurd (not_done c.in-Err-finished.why stops is))
 
 pub returns-in-CutOff-clause-rounds : goal.returns-in-CutOff-clause-rounds
 returns-in-CutOff-clause-rounds g c told =
@@ -336,7 +336,7 @@ returns-in-CutOff-clause-rounds g c told =
     let came = came_then g.S.Source.told _ _ _ _ _ _ was.0 found.0 was.2 found.1 in
     let ended = IsAtEnd g.S.Source.told (g.S.Source.ended c.next.new.source) (g.S.Source.left_bytes c.next.new.source) in
     let by = subst (λ n. AskedBy status.Truncated sp n bytes ended was.1) (c.next.ensures.limit ∙ i.limit) found.2 in
-    ran_by_rounds k g.H.Handler.work g.H.GroupHandler.may_wait (IsOfPort g.P.Device.view) sp c.args.limit status.Truncated _ _ _ _ was.0 found.0 was.1 [] _ m1 m1 m1 (was.5 told) came (near_end sp c.args.limit was.0 found.0 was.1 by.0 by.3) (refl, refl) (λ cut. refl) (λ is. absurd (cc))
+    ran_by_rounds k g.H.Handler.work g.H.GroupHandler.may_wait (IsOfPort g.P.Device.view) sp c.args.limit status.Truncated _ _ _ _ was.0 found.0 was.1 [] _ m1 m1 m1 (was.5 told) came (near_end sp c.args.limit was.0 found.0 was.1 by.0 by.3) (refl, refl) (omega arith) (λ cut. refl) (λ is. absurd (cc))
 
 pub returns-in-Fault-clause-rounds : goal.returns-in-Fault-clause-rounds
 returns-in-Fault-clause-rounds g c told =
@@ -349,7 +349,7 @@ returns-in-Fault-clause-rounds g c told =
     let m1 = mark (g.P.Device.view c.loop-server.disk.port) in
     let came = came_then g.S.Source.told _ _ _ _ _ _ was.0 found.0 was.2 found.1 in
     let by = subst (λ n. AskedBy status.SourceFault sp n bytes (Unit {0}) was.1) (c.next.ensures.limit ∙ i.limit) found.2 in
-    ran_by_rounds k g.H.Handler.work g.H.GroupHandler.may_wait (IsOfPort g.P.Device.view) sp c.args.limit status.SourceFault _ _ _ _ was.0 found.0 was.1 [] _ m1 m1 m1 (was.5 told) came (near_fault sp c.args.limit was.0 found.0 was.1 by.0 by.1) (refl, refl) (λ cut. refl) (λ is. absurd (cc))
+    ran_by_rounds k g.H.Handler.work g.H.GroupHandler.may_wait (IsOfPort g.P.Device.view) sp c.args.limit status.SourceFault _ _ _ _ was.0 found.0 was.1 [] _ m1 m1 m1 (was.5 told) came (near_fault sp c.args.limit was.0 found.0 was.1 by.0 by.1) (refl, refl) (omega arith) (λ cut. refl) (λ is. absurd (cc))
 
 pub returns-in-TooLong-clause-rounds : goal.returns-in-TooLong-clause-rounds
 returns-in-TooLong-clause-rounds g c told =
@@ -362,4 +362,18 @@ returns-in-TooLong-clause-rounds g c told =
     let m1 = mark (g.P.Device.view c.loop-server.disk.port) in
     let came = came_then g.S.Source.told _ _ _ _ _ _ was.0 found.0 was.2 found.1 in
     let by = subst (λ n. AskedBy status.TooLong sp n bytes (Unit {0}) was.1) (c.next.ensures.limit ∙ i.limit) found.2 in
-    ran_by_rounds k g.H.Handler.work g.H.GroupHandler.may_wait (IsOfPort g.P.Device.view) sp c.args.limit status.TooLong _ _ _ _ was.0 found.0 was.1 [] _ m1 m1 m1 (was.5 told) came (near_cut sp c.args.limit was.0 found.0 was.1 by.1) (refl, refl) (λ cut. refl) (λ is. absurd (cc))
+    ran_by_rounds k g.H.Handler.work g.H.GroupHandler.may_wait (IsOfPort g.P.Device.view) sp c.args.limit status.TooLong _ _ _ _ was.0 found.0 was.1 [] _ m1 m1 m1 (was.5 told) came (near_cut sp c.args.limit was.0 found.0 was.1 by.1) (refl, refl) (omega arith) (λ cut. refl) (λ is. absurd (cc))
+
+pub returns-in-Err-served-clause-faults : goal.returns-in-Err-served-clause-faults
+returns-in-Err-served-clause-faults g c =
+    let i = c.loop-server.invariant in
+    let e = c.serve_in_hand-left.ensures in
+    stopped_faults c.serve_in_hand-left.result.1 c.in-Err-served.why _ _ (g.P.Device.view c.args.port) (g.P.Device.view c.loop-server.disk.port) (g.P.Device.view c.serve_in_hand-left.result.0.port)
+    c.in-Err-served.is e.stops (c.in-Request.ensures.no_source_fault (λ e. cc) ∙ i.source_faults) i.faults i.put_faults e.device_fault e.put_fault
+
+pub returns-in-Err-finished-clause-faults : goal.returns-in-Err-finished-clause-faults
+returns-in-Err-finished-clause-faults g c =
+    let i = c.loop-server.invariant in
+    let e = c.finish-left.ensures in
+    stopped_faults c.finish-left.result.1 c.in-Err-finished.why _ _ (g.P.Device.view c.args.port) (g.P.Device.view c.loop-server.disk.port) (g.P.Device.view c.finish-left.result.0.port)
+    c.in-Err-finished.is e.stops (c.in-End.ensures.no_source_fault (λ e. cc) ∙ i.source_faults) i.faults i.put_faults e.device_fault e.put_fault

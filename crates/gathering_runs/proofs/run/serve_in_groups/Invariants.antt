@@ -29,7 +29,7 @@ invariant-loop-server g l =
           × Came g.S.Source.told (g.S.Source.taken before) (g.S.Source.taken l.source) (g.S.Source.left_bytes before) (g.S.Source.left_bytes l.source) bytes
           × Handed g.R.Protocol.spelling (λ x. g.R.Protocol.was_fed x l.protocol) (IsAtEnd g.S.Source.told (g.S.Source.ended l.source) (g.S.Source.left_bytes l.source)) l.intake bytes qs
           × (g.P.Device.told → Went (spoken g.H.Handler.rules g.R.Replies.voice) (g.H.Handler.aside l.fn.server) (g.H.Handler.state l.fn.server start.reads) (g.H.Handler.state l.server (cleared (view l.disk.port).reads)) start (view l.disk.port) qs)
-          × (g.P.Device.told → SoFar (spoken g.H.Handler.rules g.R.Replies.voice) g.H.Handler.work g.H.GroupHandler.may_wait (IsOfPort view) g.R.Protocol.spelling l.limit (g.H.Handler.state l.fn.server start.reads) (g.H.Handler.state l.server (cleared (view l.disk.port).reads)) bytes qs start.sent (g.H.Handler.work.debt start.reads) (mark (view l.disk.port)));
+          × (g.P.Device.told → SoFar (spoken g.H.Handler.rules g.R.Replies.voice) g.H.Handler.work g.H.GroupHandler.may_wait (IsOfPort view) g.R.Protocol.spelling l.limit (g.H.Handler.state l.fn.server start.reads) (g.H.Handler.state l.server (cleared (view l.disk.port).reads)) bytes qs start.sent (g.H.Handler.work.debt start.reads) start.clock (mark (view l.disk.port)));
     }
 
 abbrev pub decreases-loop-server : goal.decreases-loop-server

@@ -122,7 +122,7 @@ returns-in-Ok-clause-group g c told =
     record {
       of_port = (c.flush-inner.result.inner, refl);
       nothing_sent = ok_is c.flush-inner.result.result _ c.in-Ok.is (e2.sent told) ∙ ok_is r _ well.1 (e1.sent told) ∙ e0.sent;
-      writes = e2.bounded;
+      writes = (e2.later, e2.bounded);
       lowered = let less = ok_is r _ well.1 e1.lowered in omega (arith, less, before, behind);
     }
 

@@ -14,7 +14,7 @@ use Rattle.gathering_runs.proofs.Outcome.{counts_ok, ok_is, ok_is_if}
 use Rattle.serving.specs.Prompt.{IsOfPort, mark}
 use Rattle.gathering_runs.specs.ByTurns.{AnswersByTurns}
 use Rattle.gathering_runs.proofs.ByTurns.{AllTurns, no_turns, turn_then, turns_err, turns_ok}
-use Rattle.gathering_runs.proofs.Turning.{Went, left_then, sent_turned, turned_err, turned_ok, went, went_between, went_then}
+use Rattle.gathering_runs.proofs.Turning.{Went, later_mere, left_then, sent_turned, turned_err, turned_ok, went, went_between, went_then}
 use Rattle.gathering_runs.proofs.turns.serve_in_hand.Goals as goal
 
 pub loop-disk-init : goal.loop-disk-init
@@ -144,7 +144,7 @@ returns-in-Err-clause-did g c =
           (left_then k part s0 s1 v0 v1 v2 was.0 (q ∷ did.0) (was.4 told) (subst (λ (p : Image → Image). Turned r k p s1 s2 v1 v2 (q ∷ did.0)) i.aside (did.2 told)).any_moment)),
       λ told.
           subst (λ l. AnswersByTurns {T = Unit {0}} (Err c.in-Err.why) k g.H.Handler.work g.H.GroupHandler.may_wait (IsOfPort g.P.Device.view) s0 s2 l (mark v0) (mark v2)) (sym (behind_first c.args.request.now q was.1 was.0 did.0 was.2))
-          (turns_err k g.H.Handler.work g.H.GroupHandler.may_wait (IsOfPort g.P.Device.view) c.in-Err.why s0 s1 s2 was.0 (q ∷ did.0) (mark v0) (mark v1) (mark v2) (was.5 told)),
+          (turns_err k g.H.Handler.work g.H.GroupHandler.may_wait (IsOfPort g.P.Device.view) c.in-Err.why s0 s1 s2 was.0 (q ∷ did.0) (mark v0) (mark v1) (mark v2) (was.5 told) (later_mere v1 v2 _ (did.2 told).any_moment)),
     )
 
 pub returns-in-Ok-false-clause-read : goal.returns-in-Ok-false-clause-read

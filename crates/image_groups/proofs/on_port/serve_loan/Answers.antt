@@ -38,6 +38,7 @@ returns-clause-rounds g c told =
     (record {
       opened = ran.opened;
       of_port = (ran.of_port.0.loan.port.now, ran.of_port.1);
+      not_before = ran.not_before;
       nothing_sent = ran.nothing_sent;
       rounds = ran_over (disk_service g.R.Replies.voice) disk_work MayWait _ (IsOfPort view) (λ m here. (here.0.loan.port.now, here.1)) r g.R.Protocol.spelling c.args.limit _ source _ _ ran.rounds;
       nothing_left = ran.nothing_left;

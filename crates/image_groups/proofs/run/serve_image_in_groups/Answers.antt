@@ -39,17 +39,21 @@ returns-in-Ok-clause-ran g c =
           record { firm = at.0; stands = record { good = at.1.good; world = refl }; quiet = c.serve_in_groups.ensures.closed done told });
     }
 
-pub returns-in-Ok-clause-device_fault : goal.returns-in-Ok-clause-device_fault
-returns-in-Ok-clause-device_fault g c e = subst (λ (n : ℕ). Rose n (g.P.Device.view c.serve_in_groups.result.0).faults) (c.in-Ok.ensures.faults.1 (λ e. ok_no_err _ _ e)) (c.serve_in_groups.ensures.device_fault e)
-
-pub returns-in-Ok-clause-put_fault : goal.returns-in-Ok-clause-put_fault
-returns-in-Ok-clause-put_fault g c e = subst (λ (n : ℕ). Rose n (g.P.Device.view c.serve_in_groups.result.0).put_faults) c.open_core.ensures.works.put_faults (c.serve_in_groups.ensures.put_fault e)
-
-pub returns-in-Ok-clause-no_device_fault : goal.returns-in-Ok-clause-no_device_fault
-returns-in-Ok-clause-no_device_fault g c other = c.serve_in_groups.ensures.no_device_fault other ∙ c.in-Ok.ensures.faults.1 (λ e. ok_no_err _ _ e)
-
-pub returns-in-Ok-clause-no_put_fault : goal.returns-in-Ok-clause-no_put_fault
-returns-in-Ok-clause-no_put_fault g c other = c.serve_in_groups.ensures.no_put_fault other ∙ c.open_core.ensures.works.put_faults
+pub returns-in-Ok-clause-faults : goal.returns-in-Ok-clause-faults
+returns-in-Ok-clause-faults g c =
+    let opened = c.in-Ok.ensures.faults.1 (λ e. ok_no_err _ _ e) in
+    let put_before = c.open_core.ensures.works.put_faults in
+    let f = c.serve_in_groups.ensures.faults in
+    record {
+      source_fault = f.source_fault;
+      no_source_fault = f.no_source_fault;
+      port = record {
+        device_fault = λ e. subst (λ (n : ℕ). Rose n (g.P.Device.view c.serve_in_groups.result.0).faults) opened (f.port.device_fault e);
+        put_fault = λ e. subst (λ (n : ℕ). Rose n (g.P.Device.view c.serve_in_groups.result.0).put_faults) put_before (f.port.put_fault e);
+        no_device_fault = λ other. f.port.no_device_fault other ∙ opened;
+        no_put_fault = λ other. f.port.no_put_fault other ∙ put_before;
+      };
+    }
 
 pub returns-in-Ok-clause-untouched : goal.returns-in-Ok-clause-untouched
 returns-in-Ok-clause-untouched g c told foreign = absurd (not_foreign _ (c.in-Ok.ensures.read told) foreign)
@@ -72,20 +76,19 @@ returns-in-Err-clause-ran g c =
       ends = λ told. ends_unopened g.R.Replies.voice c.args.placement.now.kind old now [] (c.open_core.ensures.any_moment told) g.met.R.Replies.apart.nothing c.in-Err.why refl (c.open_core.ensures.sent told) c.in-Err.ensures.stops;
     }
 
-pub returns-in-Err-clause-source_fault : goal.returns-in-Err-clause-source_fault
-returns-in-Err-clause-source_fault g c e = absurd (not_of_source c.in-Err.why c.in-Err.ensures.stops e)
-
-pub returns-in-Err-clause-device_fault : goal.returns-in-Err-clause-device_fault
-returns-in-Err-clause-device_fault g c e = c.in-Err.ensures.faults.0 (ap (λ (w : Status). Err w) e)
-
-pub returns-in-Err-clause-put_fault : goal.returns-in-Err-clause-put_fault
-returns-in-Err-clause-put_fault g c e = absurd (not_of_put c.in-Err.why c.in-Err.ensures.stops e)
-
-pub returns-in-Err-clause-no_device_fault : goal.returns-in-Err-clause-no_device_fault
-returns-in-Err-clause-no_device_fault g c other = c.in-Err.ensures.faults.1 (λ e. other (cc))
-
-pub returns-in-Err-clause-no_put_fault : goal.returns-in-Err-clause-no_put_fault
-returns-in-Err-clause-no_put_fault g c other = c.open_core.ensures.works.put_faults
+pub returns-in-Err-clause-faults : goal.returns-in-Err-clause-faults
+returns-in-Err-clause-faults g c =
+    let stops = c.in-Err.ensures.stops in
+    record {
+      source_fault = λ e. absurd (not_of_source c.in-Err.why stops e);
+      no_source_fault = λ other. refl;
+      port = record {
+        device_fault = λ e. c.in-Err.ensures.faults.0 (ap (λ (w : Status). Err w) e);
+        put_fault = λ e. absurd (not_of_put c.in-Err.why stops e);
+        no_device_fault = λ other. c.in-Err.ensures.faults.1 (λ e. other (cc));
+        no_put_fault = λ other. c.open_core.ensures.works.put_faults;
+      };
+    }
 
 pub returns-in-Err-clause-untouched : goal.returns-in-Err-clause-untouched
 returns-in-Err-clause-untouched g c = c.open_core.ensures.untouched
@@ -113,6 +116,7 @@ returns-in-Ok-clause-rounds g c told =
     record {
       opened = mark mid;
       of_port = (c.open_core.new.dev, refl);
+      not_before = c.open_core.ensures.works.clock;
       nothing_sent = c.open_core.ensures.sent told;
       rounds = subst (λ (s : Placed). RanByRounds r (disk_service g.R.Replies.voice) disk_work MayWait (IsOfPort g.P.Device.view) g.R.Protocol.spelling c.args.limit s source (mark mid) (mark (g.P.Device.view c.serve_in_groups.result.0)))
           (placed_at c.args.placement.now.kind c.in-Ok.core mid.reads _ (c.in-Ok.ensures.state told)) (c.serve_in_groups.ensures.rounds told);
@@ -130,8 +134,9 @@ returns-in-Err-clause-rounds g c told =
     record {
       opened = m;
       of_port = (c.open_core.new.dev, refl);
+      not_before = c.open_core.ensures.works.clock;
       nothing_sent = c.open_core.ensures.sent told;
-      rounds = ran_by_rounds k disk_work MayWait port p c.args.limit c.in-Err.why s s s _ [] [] [] [] m m m m (so_far_none k disk_work MayWait port p c.args.limit s s m.sent (disk_work.debt m.reads) m (c.open_core.new.dev, refl) refl (omega arith) refl)
-          (record { taken = λ tells. sym (append-nil _); left = λ tells. refl }) (near_none p c.args.limit g.met.R.Protocol.lawful.none (take_none c.args.limit)) (refl, refl) (λ cut. refl) (λ is. absurd (not_unopened c.in-Err.why c.in-Err.ensures.stops is));
+      rounds = ran_by_rounds k disk_work MayWait port p c.args.limit c.in-Err.why s s s _ [] [] [] [] m m m m (so_far_none k disk_work MayWait port p c.args.limit s s m.sent (disk_work.debt m.reads) m.clock m (c.open_core.new.dev, refl) (omega arith) refl (omega arith) refl)
+          (record { taken = λ tells. sym (append-nil _); left = λ tells. refl }) (near_none p c.args.limit g.met.R.Protocol.lawful.none (take_none c.args.limit)) (refl, refl) (omega arith) (λ cut. refl) (λ is. absurd (not_unopened c.in-Err.why c.in-Err.ensures.stops is));
       nothing_left = inr (refl, refl);
     }

@@ -1,8 +1,7 @@
-use Rattle.std.proofs.Common.{◌≡◌, List, refl, sym, subst, append-nil}
+use Rattle.std.proofs.Common.{◌≡◌, inl, List, refl, sym, subst, append-nil}
 use Rattle.image_runs.proofs.Common.{LeavesOnly, Stands, IsFormatting, fresh_world, CapPair, disk_rules, spoken_counted, moments, taking, single_world, IsOfPort, mark}
 use Rattle.image_runs.proofs.Behind.{behind_format, behind_formatted, behind_fresh}
 use Rattle.image_runs.proofs.FreshRuns.{Formatted, prompt_formatted, ran_formatted, ran_unformatted}
-use Rattle.image_runs.proofs.Started.{prompt_nothing}
 use Rattle.image_runs.proofs.fresh.serve_fresh.Given as given
 use Rattle.image_runs.proofs.fresh.serve_fresh.Goals as goal
 
@@ -52,7 +51,8 @@ returns-in-Err-clause-ran g c =
 
 pub returns-in-Ok-clause-prompt : goal.returns-in-Ok-clause-prompt
 returns-in-Ok-clause-prompt g c told =
-    prompt_formatted c.serve_image.result g.R.Replies.voice c.args.placement.now.kind (single_world c.args.geometry.now c.args.caps.now) (IsOfPort g.P.Device.view)
+    let source = taking g.S.Source.told g.S.Source.taken g.S.Source.left_bytes g.S.Source.ended c.args.source.now c.serve_image.new.source in
+    prompt_formatted c.serve_image.result g.R.Replies.voice c.args.placement.now.kind (single_world c.args.geometry.now c.args.caps.now) (IsOfPort g.P.Device.view) g.R.Protocol.spelling c.args.limit source
     (g.P.Device.view c.args.port.now) (g.P.Device.view c.format.new.dev) (g.P.Device.view c.serve_image.new.port) (formatted_here g c told) (c.serve_image.ensures.prompt told)
 
 pub returns-in-Err-clause-prompt : goal.returns-in-Err-clause-prompt
@@ -61,9 +61,10 @@ returns-in-Err-clause-prompt g c told =
     record {
       opened = mark new;
       of_port = (c.format.new.dev, refl);
+      not_before = c.format.ensures.uses.clock;
       sent = c.format.ensures.sent told;
       writes = λ _. c.format.ensures.uses.most;
-      prompt = prompt_nothing _ g.R.Replies.voice (IsOfPort g.P.Device.view) _ (mark new) (spoken_counted disk_rules g.R.Replies.voice (λ s q r t given. given.1) g.met.R.Replies.apart);
+      prompt = inl (record { why = tt; untouched = refl; nothing = refl });
     }
 
 pub returns-in-Ok-clause-behind : goal.returns-in-Ok-clause-behind

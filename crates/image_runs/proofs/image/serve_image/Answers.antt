@@ -1,9 +1,9 @@
 use Rattle.std.proofs.Common.{inl, inr, ℕ, [], refl, sym, ◌∙◌, ap, subst, append-nil, arith, lit<}
 use Rattle.std.specs.Prelude.{Err}
-use Rattle.image_runs.proofs.Common.{Rose, Status, disk_rules, disk_work, placed_on, Placed, IsOfPort, Promptly, mark, spoken, spoken_counted, start_of}
+use Rattle.image_runs.proofs.Common.{Rose, Status, disk_rules, disk_work, placed_on, Placed, IsOfPort, Promptly, mark, spoken, spoken_counted, start_of, taking}
 use Rattle.image_runs.proofs.Behind.{behind_then, size_of_core}
 use Rattle.image_runs.proofs.Opened.{not_foreign}
-use Rattle.image_runs.proofs.Started.{placed_at, ends_opened, ends_unopened, judged_by, not_of_source, not_of_put, prompt_nothing}
+use Rattle.image_runs.proofs.Started.{placed_at, ends_opened, ends_unopened, judged_by, not_of_source, not_of_put}
 use Rattle.image_runs.proofs.image.serve_image.Goals as goal
 
 pub serve_core-requires-clause-few : goal.serve_core-requires-clause-few
@@ -57,26 +57,24 @@ returns-in-Ok-clause-ran g c =
           });
     }
 
-pub returns-in-Ok-clause-source_fault : goal.returns-in-Ok-clause-source_fault
-returns-in-Ok-clause-source_fault g c = c.serve_core.ensures.source_fault
-
-pub returns-in-Ok-clause-device_fault : goal.returns-in-Ok-clause-device_fault
-returns-in-Ok-clause-device_fault g c e = subst (λ (n : ℕ). Rose n (g.P.Device.view c.serve_core.new.port).faults) (c.in-Ok.ensures.faults.1 (λ e. cc)) (c.serve_core.ensures.device_fault e)
-
-pub returns-in-Ok-clause-put_fault : goal.returns-in-Ok-clause-put_fault
-returns-in-Ok-clause-put_fault g c e = subst (λ (n : ℕ). Rose n (g.P.Device.view c.serve_core.new.port).put_faults) c.open_core.ensures.works.put_faults (c.serve_core.ensures.put_fault e)
+pub returns-in-Ok-clause-faults : goal.returns-in-Ok-clause-faults
+returns-in-Ok-clause-faults g c =
+    let opened = c.in-Ok.ensures.faults.1 (λ e. cc) in
+    let put_before = c.open_core.ensures.works.put_faults in
+    let f = c.serve_core.ensures.faults in
+    record {
+      source_fault = f.source_fault;
+      no_source_fault = f.no_source_fault;
+      port = record {
+        device_fault = λ e. subst (λ (n : ℕ). Rose n (g.P.Device.view c.serve_core.new.port).faults) opened (f.port.device_fault e);
+        put_fault = λ e. subst (λ (n : ℕ). Rose n (g.P.Device.view c.serve_core.new.port).put_faults) put_before (f.port.put_fault e);
+        no_device_fault = λ other. f.port.no_device_fault other ∙ opened;
+        no_put_fault = λ other. f.port.no_put_fault other ∙ put_before;
+      };
+    }
 
 pub returns-in-Ok-clause-once : goal.returns-in-Ok-clause-once
 returns-in-Ok-clause-once g c = c.serve_core.ensures.once
-
-pub returns-in-Ok-clause-no_source_fault : goal.returns-in-Ok-clause-no_source_fault
-returns-in-Ok-clause-no_source_fault g c = c.serve_core.ensures.no_source_fault
-
-pub returns-in-Ok-clause-no_device_fault : goal.returns-in-Ok-clause-no_device_fault
-returns-in-Ok-clause-no_device_fault g c other = c.serve_core.ensures.no_device_fault other ∙ c.in-Ok.ensures.faults.1 (λ e. cc)
-
-pub returns-in-Ok-clause-no_put_fault : goal.returns-in-Ok-clause-no_put_fault
-returns-in-Ok-clause-no_put_fault g c other = c.serve_core.ensures.no_put_fault other ∙ c.open_core.ensures.works.put_faults
 
 pub returns-in-Err-clause-read : goal.returns-in-Err-clause-read
 returns-in-Err-clause-read g c = c.in-Err.ensures.read
@@ -101,26 +99,22 @@ returns-in-Err-clause-ran g c =
           });
     }
 
-pub returns-in-Err-clause-source_fault : goal.returns-in-Err-clause-source_fault
-returns-in-Err-clause-source_fault g c e = absurd (not_of_source c.in-Err.why c.in-Err.ensures.stops e)
-
-pub returns-in-Err-clause-device_fault : goal.returns-in-Err-clause-device_fault
-returns-in-Err-clause-device_fault g c e = c.in-Err.ensures.faults.0 (ap (λ (w : Status). Err w) e)
-
-pub returns-in-Err-clause-put_fault : goal.returns-in-Err-clause-put_fault
-returns-in-Err-clause-put_fault g c e = absurd (not_of_put c.in-Err.why c.in-Err.ensures.stops e)
+pub returns-in-Err-clause-faults : goal.returns-in-Err-clause-faults
+returns-in-Err-clause-faults g c =
+    let stops = c.in-Err.ensures.stops in
+    record {
+      source_fault = λ e. absurd (not_of_source c.in-Err.why stops e);
+      no_source_fault = λ other. refl;
+      port = record {
+        device_fault = λ e. c.in-Err.ensures.faults.0 (ap (λ (w : Status). Err w) e);
+        put_fault = λ e. absurd (not_of_put c.in-Err.why stops e);
+        no_device_fault = λ other. c.in-Err.ensures.faults.1 (λ e. other (cc));
+        no_put_fault = λ other. c.open_core.ensures.works.put_faults;
+      };
+    }
 
 pub returns-in-Err-clause-once : goal.returns-in-Err-clause-once
 returns-in-Err-clause-once g c = omega arith
-
-pub returns-in-Err-clause-no_source_fault : goal.returns-in-Err-clause-no_source_fault
-returns-in-Err-clause-no_source_fault g c other = refl
-
-pub returns-in-Err-clause-no_device_fault : goal.returns-in-Err-clause-no_device_fault
-returns-in-Err-clause-no_device_fault g c other = c.in-Err.ensures.faults.1 (λ e. other (cc))
-
-pub returns-in-Err-clause-no_put_fault : goal.returns-in-Err-clause-no_put_fault
-returns-in-Err-clause-no_put_fault g c other = c.open_core.ensures.works.put_faults
 
 pub returns-in-Ok-clause-untouched : goal.returns-in-Ok-clause-untouched
 returns-in-Ok-clause-untouched g c told foreign = absurd (not_foreign _ (c.in-Ok.ensures.read told) foreign)
@@ -136,16 +130,17 @@ returns-in-Err-clause-spared g c = c.open_core.ensures.spared
 
 pub returns-in-Ok-clause-prompt : goal.returns-in-Ok-clause-prompt
 returns-in-Ok-clause-prompt g c told =
-    let old = g.P.Device.view c.args.port.now in
     let mid = g.P.Device.view c.open_core.new.dev in
     let new = g.P.Device.view c.serve_core.new.port in
+    let source = taking g.S.Source.told g.S.Source.taken g.S.Source.left_bytes g.S.Source.ended c.args.source.now c.serve_core.new.source in
     record {
       opened = mark mid;
       of_port = (c.open_core.new.dev, refl);
+      not_before = c.open_core.ensures.works.clock;
       sent = c.open_core.ensures.sent told;
       writes = λ quiet. omega (arith, c.open_core.ensures.unwritten told quiet);
-      prompt = subst (λ (s : Placed). Promptly c.serve_core.result (spoken disk_rules g.R.Replies.voice) disk_work (IsOfPort g.P.Device.view) s (mark mid) (mark new))
-          (placed_at c.args.placement.now.kind c.in-Ok.core mid.reads _ (c.in-Ok.ensures.state told)) (c.serve_core.ensures.prompt told);
+      prompt = inr (subst (λ (s : Placed). Promptly c.serve_core.result (spoken disk_rules g.R.Replies.voice) disk_work (IsOfPort g.P.Device.view) g.R.Protocol.spelling c.args.limit s source (mark mid) (mark new))
+          (placed_at c.args.placement.now.kind c.in-Ok.core mid.reads _ (c.in-Ok.ensures.state told)) (c.serve_core.ensures.prompt told));
     }
 
 pub returns-in-Err-clause-prompt : goal.returns-in-Err-clause-prompt
@@ -154,9 +149,10 @@ returns-in-Err-clause-prompt g c told =
     record {
       opened = mark new;
       of_port = (c.open_core.new.dev, refl);
+      not_before = c.open_core.ensures.works.clock;
       sent = c.open_core.ensures.sent told;
       writes = λ quiet. omega (arith, c.open_core.ensures.unwritten told quiet);
-      prompt = prompt_nothing c.in-Err.why g.R.Replies.voice (IsOfPort g.P.Device.view) _ (mark new) (spoken_counted disk_rules g.R.Replies.voice (λ s q r t given. given.1) g.met.R.Replies.apart);
+      prompt = inl (record { why = c.in-Err.ensures.stops; untouched = refl; nothing = refl });
     }
 
 pub returns-in-Ok-clause-behind : goal.returns-in-Ok-clause-behind

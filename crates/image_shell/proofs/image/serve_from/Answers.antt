@@ -1,10 +1,12 @@
-use Rattle.std.proofs.Common.{refl, sym, ◌∙◌, ap, subst, arith, append-nil}
+use Rattle.std.proofs.Common.{ℕ, refl, sym, ◌∙◌, ap, subst, arith, append-nil}
 use Rattle.tsd_model.specs.World.{World}
 use Rattle.fs_port.specs.Files.{FilesView}
 use Rattle.image_world.specs.Stands.{world_of}
 use Rattle.serving.specs.Prompt.{IsOfPort, mark}
+use Rattle.serving.specs.Ran.{taking}
 use Rattle.image_shell.specs.Served.{IsPromptShell}
 use Rattle.image_shell.proofs.FromLaws.{prompt_earlier}
+use Rattle.image_device.specs.Counts.{Rose}
 use Rattle.image_device.specs.Runs.{LeavesPart}
 use Rattle.image_runs.proofs.Opened.{not_foreign}
 use Rattle.image_world.specs.Behind.{behind}
@@ -33,14 +35,22 @@ returns-in-Ok-clause-ran g c =
 pub returns-in-Ok-clause-once : goal.returns-in-Ok-clause-once
 returns-in-Ok-clause-once g c = c.serve_opened.ensures.once
 
-pub returns-in-Ok-clause-no_source_fault : goal.returns-in-Ok-clause-no_source_fault
-returns-in-Ok-clause-no_source_fault g c = c.serve_opened.ensures.faults.no_source_fault
-
-pub returns-in-Ok-clause-no_device_fault : goal.returns-in-Ok-clause-no_device_fault
-returns-in-Ok-clause-no_device_fault g c = λ other. c.serve_opened.ensures.faults.no_device_fault other ∙ c.in-Ok.ensures.faults.1 (loaded_is_no_fault c.in-Ok.core status.DeviceFault)
-
-pub returns-in-Ok-clause-no_put_fault : goal.returns-in-Ok-clause-no_put_fault
-returns-in-Ok-clause-no_put_fault g c = λ other. c.serve_opened.ensures.faults.no_put_fault other ∙ c.in-Ok.ensures.works.put_faults
+pub returns-in-Ok-clause-faults : goal.returns-in-Ok-clause-faults
+returns-in-Ok-clause-faults g c =
+    let opened = c.in-Ok.ensures.faults.1 (loaded_is_no_fault c.in-Ok.core status.DeviceFault) in
+    let put_before = c.in-Ok.ensures.works.put_faults in
+    let f = c.serve_opened.ensures.faults in
+    let new = g.P.Device.view c.serve_opened.new.port in
+    record {
+      source_fault = f.source_fault;
+      no_source_fault = f.no_source_fault;
+      port = record {
+        device_fault = λ e. subst (λ (n : ℕ). Rose n new.faults) opened (f.port.device_fault e);
+        put_fault = λ e. subst (λ (n : ℕ). Rose n new.put_faults) put_before (f.port.put_fault e);
+        no_device_fault = λ other. f.port.no_device_fault other ∙ opened;
+        no_put_fault = λ other. f.port.no_put_fault other ∙ put_before;
+      };
+    }
 
 pub returns-in-Err-clause-ran : goal.returns-in-Err-clause-ran
 returns-in-Err-clause-ran g c =
@@ -74,9 +84,15 @@ returns-in-Err-clause-behind g c = c.open_core.ensures.behind
 
 pub returns-in-Ok-clause-prompt : goal.returns-in-Ok-clause-prompt
 returns-in-Ok-clause-prompt g c told served =
-    subst (λ (f : FilesView). IsPromptShell c.serve_opened.result f (IsOfPort g.P.Device.view) (world_of (g.P.Device.view c.args.port.now).reads) (g.P.Device.view c.args.port.now).sent (mark (g.P.Device.view c.serve_opened.new.port))) c.requires.files
-    (subst (λ (w : World). IsPromptShell c.serve_opened.result (g.F.Files.view c.args.files.now) (IsOfPort g.P.Device.view) w (g.P.Device.view c.args.port.now).sent (mark (g.P.Device.view c.serve_opened.new.port))) (c.requires.start told)
-    (prompt_earlier c.serve_opened.result _ _ g.K.Started.start (g.P.Device.view c.open_core.new.dev).sent (g.P.Device.view c.args.port.now).sent _ (c.in-Ok.ensures.sent told) (c.serve_opened.ensures.prompt told served)))
+    let r = c.serve_opened.result in
+    let port = IsOfPort g.P.Device.view in
+    let p = g.M.Protocol.spelling in
+    let source = taking g.S.Source.told g.S.Source.taken g.S.Source.left_bytes g.S.Source.ended c.args.source.now c.serve_opened.new.source in
+    let old = g.P.Device.view c.args.port.now in
+    let new = mark (g.P.Device.view c.serve_opened.new.port) in
+    subst (λ (f : FilesView). IsPromptShell r f port p c.args.limit (world_of old.reads) source (mark old) new) c.requires.files
+    (subst (λ (w : World). IsPromptShell r (g.F.Files.view c.args.files.now) port p c.args.limit w source (mark old) new) (c.requires.start told)
+    (prompt_earlier r _ port p c.args.limit g.K.Started.start source (mark (g.P.Device.view c.open_core.new.dev)) (mark old) new (c.in-Ok.ensures.sent told) c.in-Ok.ensures.works.clock (c.serve_opened.ensures.prompt told served)))
 
 pub returns-in-Err-clause-prompt : goal.returns-in-Err-clause-prompt
 returns-in-Err-clause-prompt g c told served = absurd (served (not_served_by c.in-Err.why c.in-Err.ensures.stops))

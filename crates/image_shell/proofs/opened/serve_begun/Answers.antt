@@ -68,7 +68,7 @@ returns-in-Ok-clause-prompt g c told served =
     let m = c.in-Ok.ensures in
     let mid = c.mount_on.new.dev in
     let first = shell_state (g.F.Files.view c.mount_on.new.files) (g.P.Device.view mid).reads in
-    record { first = first; is_first = (m.first told).0; mounted = mark (g.P.Device.view mid); of_port = (mid, refl); sent = m.sent told; prompt = c.serve_shell.ensures.prompt told }
+    record { first = first; is_first = (m.first told).0; mounted = mark (g.P.Device.view mid); of_port = (mid, refl); not_before = m.clock; sent = m.sent told; prompt = c.serve_shell.ensures.prompt told }
 
 pub returns-then-is_device-clause-prompt : goal.returns-then-is_device-clause-prompt
 returns-then-is_device-clause-prompt g c told served = absurd (served tt)
@@ -79,4 +79,4 @@ returns-else-is_device-clause-prompt g c told served =
     let mid = c.mount_on.new.dev in
     let first = shell_state (g.F.Files.view c.mount_on.new.files) (g.P.Device.view mid).reads in
     let is_first = (m.first told).1 (not_device c.in-Err.why c.is_device.result c.is_device.ensures c.if-is_device.false) in
-    record { first = first; is_first = is_first; mounted = mark (g.P.Device.view mid); of_port = (mid, refl); sent = m.sent told; prompt = c.serve_shell-in-Err.ensures.prompt told }
+    record { first = first; is_first = is_first; mounted = mark (g.P.Device.view mid); of_port = (mid, refl); not_before = m.clock; sent = m.sent told; prompt = c.serve_shell-in-Err.ensures.prompt told }

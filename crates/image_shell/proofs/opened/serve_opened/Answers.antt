@@ -7,6 +7,7 @@ use Rattle.image_world.specs.Stands.{Stands}
 use Rattle.tsd_core.specs.Core.{told_world}
 use Rattle.core_blocks.proofs.BehindLaws.{behind_until}
 use Rattle.tsd_words.specs.declared.status.Status.TheVariants as status
+use Rattle.serving.specs.Prompt.{mark}
 use Rattle.image_shell.specs.FromCore.{IsAsAtStart}
 use Rattle.image_shell.proofs.FromLaws.{allowed_by, alone_no_fault, is_write, level_told, moments_of_start, not_served, not_write, opened_or_let_in, prompt_earlier, ran_earlier}
 use Rattle.image_shell.proofs.opened.serve_opened.Goals as goal
@@ -89,7 +90,7 @@ returns-then-is_below_write-clause-prompt g c told served = absurd (served tt)
 
 pub returns-in-Ok-clause-prompt : goal.returns-in-Ok-clause-prompt
 returns-in-Ok-clause-prompt g c told served =
-    prompt_earlier c.serve_begun.result _ _ g.K.Started.start (g.P.Device.view c.begin_on.new.dev).sent (g.P.Device.view c.args.port.now).sent _ (c.begin_on.ensures.sent told) (c.serve_begun.ensures.prompt told served)
+    prompt_earlier c.serve_begun.result _ _ g.M.Protocol.spelling c.args.limit g.K.Started.start _ (mark (g.P.Device.view c.begin_on.new.dev)) (mark (g.P.Device.view c.args.port.now)) _ (c.begin_on.ensures.sent told) c.begin_on.ensures.clock (c.serve_begun.ensures.prompt told served)
 
 pub returns-in-Err-clause-prompt : goal.returns-in-Err-clause-prompt
 returns-in-Err-clause-prompt g c told served = absurd (served (not_served c.in-Err.why c.in-Err.ensures.stops))

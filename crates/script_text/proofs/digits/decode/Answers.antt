@@ -1,4 +1,4 @@
-use Rattle.std.proofs.Common.{◌≡◌, ◌<◌, ◌*◌, ◌+◌, length, subst, sym, ◌∙◌, ap, arith}
+use Rattle.std.proofs.Common.{length, subst, sym, ◌∙◌, ap, arith}
 use Rattle.std.specs.Prelude.{max}
 use Rattle.script_text.proofs.DigitLaws.{AreRead, none_read, one_more_read, all_read}
 use Rattle.script_text.proofs.digits.decode.Goals as goal

@@ -1,4 +1,3 @@
-use Rattle.std.proofs.Common.{◌∙◌}
 use Rattle.std.specs.Prelude.{◌==◌}
 use Rattle.script_text.proofs.ByteLaws.{first_position}
 use Rattle.script_text.proofs.words.first_position.Goals as goal

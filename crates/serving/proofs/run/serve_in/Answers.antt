@@ -1,6 +1,7 @@
 use Rattle.std.proofs.Common.{◌≡◌, inr, [], ◌++◌, refl, ◌∙◌, arith}
 use Rattle.std.specs.Prelude.{Result, Ok, Err}
 use Rattle.image_device.proofs.Parts.{part_stays}
+use Rattle.tsd_words.specs.declared.status.Status.TheVariants as status
 use Rattle.serving.proofs.Aside.{aside_then}
 use Rattle.serving.proofs.Inputs.{came_first, came_then, handed_first, asked_stopped}
 use Rattle.serving.proofs.Steps.{served_of, ends_now, goes_first, goes_next, ends_stopped, ends_done, ends_close_fault, ends_longer, prompt_done, prompt_stopped, ran_of}
@@ -125,34 +126,58 @@ returns-in-TooLong-clause-ran g c =
 
 pub returns-in-Err-clause-prompt : goal.returns-in-Err-clause-prompt
 returns-in-Err-clause-prompt g c told =
-    let was = c.loop-server.invariant.goes in
+    let i = c.loop-server.invariant in
+    let was = i.goes in
+    let found = c.in-Request.ensures.found was.0 was.1 was.3 in
+    let asked = asked_stopped g.R.Protocol.spelling g.met.R.Protocol.lawful c.in-Err.why _ _ c.next.new.self (was.0 ++ found.0) _ c.in-Err.ensures.stops found.2 in
     prompt_stopped g.H.Server.service g.met.H.Server.counted g.H.Server.work (IsOfPort g.P.Device.view) _ _ (g.P.Device.view c.args.port.now) was.1 _ _ (g.P.Device.view c.loop-server.port) (was.4 told) _ (g.P.Device.view c.answer.new.port) (c.answer.ensures.any_moment told) (c.answer.ensures.debt told)
-    c.in-Err.why _ c.in-Err.ensures.stops (c.in-Err.ensures.left told)
+    c.in-Err.why _ c.in-Err.ensures.stops (c.in-Err.ensures.left told) g.R.Protocol.spelling c.next.new.self.limit c.args.limit (taking g.S.Source.told g.S.Source.taken g.S.Source.left_bytes g.S.Source.ended c.args.source.now c.next.new.source) (was.0 ++ found.0) asked.0 (c.next.ensures.limit ∙ i.limit)
+    (came_then g.S.Source.told _ _ _ _ _ _ was.0 found.0 was.2 found.1) asked.1
 
 pub returns-in-Ok-close-clause-prompt : goal.returns-in-Ok-close-clause-prompt
 returns-in-Ok-close-clause-prompt g c told =
-    let was = c.loop-server.invariant.goes in
-    prompt_done _ g.H.Server.service g.met.H.Server.counted g.H.Server.work (IsOfPort g.P.Device.view) _ _ (g.P.Device.view c.args.port.now) was.1 _ _ (g.P.Device.view c.loop-server.port) (g.P.Device.view c.close.new.dev) (was.4 told) (c.close.ensures.sent told) (λ cut. absurd cut)
+    let i = c.loop-server.invariant in
+    let was = i.goes in
+    let found = c.in-End.ensures.found was.0 was.1 was.3 in
+    prompt_done status.Done g.H.Server.service g.met.H.Server.counted g.H.Server.work (IsOfPort g.P.Device.view) _ _ (g.P.Device.view c.args.port.now) was.1 _ _ (g.P.Device.view c.loop-server.port) (g.P.Device.view c.close.new.dev) (was.4 told) (c.close.ensures.sent told) (c.close.ensures.any_moment told).later (λ cut. absurd cut)
+    g.R.Protocol.spelling c.next.new.self.limit c.args.limit (taking g.S.Source.told g.S.Source.taken g.S.Source.left_bytes g.S.Source.ended c.args.source.now c.next.new.source) (was.0 ++ found.0) (c.next.ensures.limit ∙ i.limit)
+    (came_then g.S.Source.told _ _ _ _ _ _ was.0 found.0 was.2 found.1) found.2
 
 pub returns-in-Err-close-clause-prompt : goal.returns-in-Err-close-clause-prompt
 returns-in-Err-close-clause-prompt g c told =
-    let was = c.loop-server.invariant.goes in
-    prompt_done _ g.H.Server.service g.met.H.Server.counted g.H.Server.work (IsOfPort g.P.Device.view) _ _ (g.P.Device.view c.args.port.now) was.1 _ _ (g.P.Device.view c.loop-server.port) (g.P.Device.view c.close.new.dev) (was.4 told) (c.close.ensures.sent told) (λ cut. absurd cut)
+    let i = c.loop-server.invariant in
+    let was = i.goes in
+    let found = c.in-End.ensures.found was.0 was.1 was.3 in
+    prompt_done status.DeviceFault g.H.Server.service g.met.H.Server.counted g.H.Server.work (IsOfPort g.P.Device.view) _ _ (g.P.Device.view c.args.port.now) was.1 _ _ (g.P.Device.view c.loop-server.port) (g.P.Device.view c.close.new.dev) (was.4 told) (c.close.ensures.sent told) (c.close.ensures.any_moment told).later (λ cut. absurd cut)
+    g.R.Protocol.spelling c.next.new.self.limit c.args.limit (taking g.S.Source.told g.S.Source.taken g.S.Source.left_bytes g.S.Source.ended c.args.source.now c.next.new.source) (was.0 ++ found.0) (c.next.ensures.limit ∙ i.limit)
+    (came_then g.S.Source.told _ _ _ _ _ _ was.0 found.0 was.2 found.1) (inr (found.2.0, found.2.1, found.2.3))
 
 pub returns-in-CutOff-clause-prompt : goal.returns-in-CutOff-clause-prompt
 returns-in-CutOff-clause-prompt g c told =
-    let was = c.loop-server.invariant.goes in
-    prompt_done _ g.H.Server.service g.met.H.Server.counted g.H.Server.work (IsOfPort g.P.Device.view) _ _ (g.P.Device.view c.args.port.now) was.1 _ _ (g.P.Device.view c.loop-server.port) (g.P.Device.view c.loop-server.port) (was.4 told) refl (λ cut. refl)
+    let i = c.loop-server.invariant in
+    let was = i.goes in
+    let found = c.in-CutOff.ensures.found was.0 was.1 was.3 in
+    prompt_done status.Truncated g.H.Server.service g.met.H.Server.counted g.H.Server.work (IsOfPort g.P.Device.view) _ _ (g.P.Device.view c.args.port.now) was.1 _ _ (g.P.Device.view c.loop-server.port) (g.P.Device.view c.loop-server.port) (was.4 told) refl (omega arith) (λ cut. refl)
+    g.R.Protocol.spelling c.next.new.self.limit c.args.limit (taking g.S.Source.told g.S.Source.taken g.S.Source.left_bytes g.S.Source.ended c.args.source.now c.next.new.source) (was.0 ++ found.0) (c.next.ensures.limit ∙ i.limit)
+    (came_then g.S.Source.told _ _ _ _ _ _ was.0 found.0 was.2 found.1) found.2
 
 pub returns-in-Fault-clause-prompt : goal.returns-in-Fault-clause-prompt
 returns-in-Fault-clause-prompt g c told =
-    let was = c.loop-server.invariant.goes in
-    prompt_done _ g.H.Server.service g.met.H.Server.counted g.H.Server.work (IsOfPort g.P.Device.view) _ _ (g.P.Device.view c.args.port.now) was.1 _ _ (g.P.Device.view c.loop-server.port) (g.P.Device.view c.loop-server.port) (was.4 told) refl (λ cut. refl)
+    let i = c.loop-server.invariant in
+    let was = i.goes in
+    let found = c.in-Fault.ensures.found was.0 was.1 was.3 in
+    prompt_done status.SourceFault g.H.Server.service g.met.H.Server.counted g.H.Server.work (IsOfPort g.P.Device.view) _ _ (g.P.Device.view c.args.port.now) was.1 _ _ (g.P.Device.view c.loop-server.port) (g.P.Device.view c.loop-server.port) (was.4 told) refl (omega arith) (λ cut. refl)
+    g.R.Protocol.spelling c.next.new.self.limit c.args.limit (taking g.S.Source.told g.S.Source.taken g.S.Source.left_bytes g.S.Source.ended c.args.source.now c.next.new.source) (was.0 ++ found.0) (c.next.ensures.limit ∙ i.limit)
+    (came_then g.S.Source.told _ _ _ _ _ _ was.0 found.0 was.2 found.1) found.2
 
 pub returns-in-TooLong-clause-prompt : goal.returns-in-TooLong-clause-prompt
 returns-in-TooLong-clause-prompt g c told =
-    let was = c.loop-server.invariant.goes in
-    prompt_done _ g.H.Server.service g.met.H.Server.counted g.H.Server.work (IsOfPort g.P.Device.view) _ _ (g.P.Device.view c.args.port.now) was.1 _ _ (g.P.Device.view c.loop-server.port) (g.P.Device.view c.loop-server.port) (was.4 told) refl (λ cut. refl)
+    let i = c.loop-server.invariant in
+    let was = i.goes in
+    let found = c.in-TooLong.ensures.found was.0 was.1 was.3 in
+    prompt_done status.TooLong g.H.Server.service g.met.H.Server.counted g.H.Server.work (IsOfPort g.P.Device.view) _ _ (g.P.Device.view c.args.port.now) was.1 _ _ (g.P.Device.view c.loop-server.port) (g.P.Device.view c.loop-server.port) (was.4 told) refl (omega arith) (λ cut. refl)
+    g.R.Protocol.spelling c.next.new.self.limit c.args.limit (taking g.S.Source.told g.S.Source.taken g.S.Source.left_bytes g.S.Source.ended c.args.source.now c.next.new.source) (was.0 ++ found.0) (c.next.ensures.limit ∙ i.limit)
+    (came_then g.S.Source.told _ _ _ _ _ _ was.0 found.0 was.2 found.1) found.2
 
 pub returns-in-Err-clause-aside_kept : goal.returns-in-Err-clause-aside_kept
 returns-in-Err-clause-aside_kept g c told =

@@ -26,7 +26,8 @@ returns-in-Ok-clause-prompt g c told served =
     let view = g.P.Device.view in
     let old = view c.args.port.now in
     let shell = c.args.shell.now in
-    subst (λ (k : ShellKind). IsPromptShell c.serve_inode_image.result (unmounted k shell.root shell.cap) (IsOfPort view) (world_of old.reads) old.sent (mark (view c.serve_inode_image.new.port))) (sym c.in-Inode.is)
+    let source = taking g.S.Source.told g.S.Source.taken g.S.Source.left_bytes g.S.Source.ended c.args.source.now c.serve_inode_image.new.source in
+    subst (λ (k : ShellKind). IsPromptShell c.serve_inode_image.result (unmounted k shell.root shell.cap) (IsOfPort view) (file_spelling k) (2 ^ 40) (world_of old.reads) source (mark old) (mark (view c.serve_inode_image.new.port))) (sym c.in-Inode.is)
     (c.serve_inode_image.ensures.prompt told served)
 
 pub returns-in-Ok-new-clause-did : goal.returns-in-Ok-new-clause-did
@@ -47,5 +48,6 @@ returns-in-Ok-new-clause-prompt g c told served =
     let view = g.P.Device.view in
     let old = view c.args.port.now in
     let shell = c.args.shell.now in
-    subst (λ (k : ShellKind). IsPromptShell c.serve_chain_image.result (unmounted k shell.root shell.cap) (IsOfPort view) (world_of old.reads) old.sent (mark (view c.serve_chain_image.new.port))) (sym c.in-Chain.is)
+    let source = taking g.S.Source.told g.S.Source.taken g.S.Source.left_bytes g.S.Source.ended c.args.source.now c.serve_chain_image.new.source in
+    subst (λ (k : ShellKind). IsPromptShell c.serve_chain_image.result (unmounted k shell.root shell.cap) (IsOfPort view) (file_spelling k) (2 ^ 40) (world_of old.reads) source (mark old) (mark (view c.serve_chain_image.new.port))) (sym c.in-Chain.is)
     (c.serve_chain_image.ensures.prompt told served)

@@ -29,8 +29,9 @@ returns-in-Err-clause-rounds g c told =
     record {
       opened = m;
       of_port = (c.args.port.now, refl);
+      not_before = omega arith;
       nothing_sent = refl;
-      rounds = ran_by_rounds k disk_work MayWait port frame_spelling (2 ^ 40) status.NoMemory s s s _ [] [] [] [] m m m m (so_far_none k disk_work MayWait port frame_spelling (2 ^ 40) s s m.sent (disk_work.debt m.reads) m (c.args.port.now, refl) refl (omega arith) refl)
-          (record { taken = λ tells. sym (append-nil _); left = λ tells. refl }) (near_none frame_spelling (2 ^ 40) frames_lawful.none (take_none (2 ^ 40))) (refl, refl) (λ cut. refl) (λ is. absurd (subst IsUnopened is tt));
+      rounds = ran_by_rounds k disk_work MayWait port frame_spelling (2 ^ 40) status.NoMemory s s s _ [] [] [] [] m m m m (so_far_none k disk_work MayWait port frame_spelling (2 ^ 40) s s m.sent (disk_work.debt m.reads) m.clock m (c.args.port.now, refl) (omega arith) refl (omega arith) refl)
+          (record { taken = λ tells. sym (append-nil _); left = λ tells. refl }) (near_none frame_spelling (2 ^ 40) frames_lawful.none (take_none (2 ^ 40))) (refl, refl) (omega arith) (λ cut. refl) (λ is. absurd (subst IsUnopened is tt));
       nothing_left = inr (refl, refl);
     }

@@ -213,5 +213,5 @@ returns-clause-sound g c =
     let s = c.obey-status.result in
     let stands : CountsAgree new (start_at old) n.serving = subst (λ k. CountsAgree new k n.serving) c.requires c.into_sides.ensures.stands in
     let left : s ≢ status.DeviceFault → LeftIsSound new (start_at old) n.serving =
-    λ other. subst (λ k. LeftIsSound new k n.serving) c.requires (c.into_sides.ensures.unfailed (c.obey-status.ensures.no_device_fault other ∙ c.in-Ok-after_reads.ensures.faults)) in
+    λ other. subst (λ k. LeftIsSound new k n.serving) c.requires (c.into_sides.ensures.unfailed (c.obey-status.ensures.faults.port.no_device_fault other ∙ c.in-Ok-after_reads.ensures.faults)) in
     subst (λ r. AreSoundAtEnd r old new) (sym (c.of-status.ensures.value ∙ ap (λ l. ended_with s l) c.lost_side.ensures)) (sound_at_end old new s n.serving stands left)

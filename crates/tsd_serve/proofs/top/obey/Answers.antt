@@ -45,14 +45,22 @@ returns-in-CopyFs-clause-did g c =
       },
     )
 
+pub returns-in-Fresh-clause-prompt : goal.returns-in-Fresh-clause-prompt
+returns-in-Fresh-clause-prompt g c told =
+    let source = taking g.S.Source.told g.S.Source.taken g.S.Source.left_bytes g.S.Source.ended c.args.source.now c.fresh_lines.new.source in
+    subst (λ (x : Command). AnswersPromptly (Some x) c.fresh_lines.result source g.P.Device.view c.args.port.now c.fresh_lines.new.port) (sym c.in-Fresh.is)
+    (c.fresh_lines.ensures.prompt told)
+
 pub returns-in-Shell-clause-prompt : goal.returns-in-Shell-clause-prompt
 returns-in-Shell-clause-prompt g c told =
-    subst (λ (x : Command). AnswersPromptly (Some x) c.shell_lines.result g.P.Device.view c.args.port.now c.shell_lines.new.port) (sym c.in-Shell.is)
+    let source = taking g.S.Source.told g.S.Source.taken g.S.Source.left_bytes g.S.Source.ended c.args.source.now c.shell_lines.new.source in
+    subst (λ (x : Command). AnswersPromptly (Some x) c.shell_lines.result source g.P.Device.view c.args.port.now c.shell_lines.new.port) (sym c.in-Shell.is)
     (c.shell_lines.ensures.prompt told)
 
 pub returns-in-Files-clause-prompt : goal.returns-in-Files-clause-prompt
 returns-in-Files-clause-prompt g c told =
-    subst (λ (x : Command). AnswersPromptly (Some x) c.file_frames.result g.P.Device.view c.args.port.now c.file_frames.new.port) (sym c.in-Files.is)
+    let source = taking g.S.Source.told g.S.Source.taken g.S.Source.left_bytes g.S.Source.ended c.args.source.now c.file_frames.new.source in
+    subst (λ (x : Command). AnswersPromptly (Some x) c.file_frames.result source g.P.Device.view c.args.port.now c.file_frames.new.port) (sym c.in-Files.is)
     (c.file_frames.ensures.prompt told)
 
 pub returns-in-Group-clause-rounds : goal.returns-in-Group-clause-rounds

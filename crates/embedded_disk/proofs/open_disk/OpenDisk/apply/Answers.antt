@@ -27,7 +27,7 @@ returns-clause-answered g c =
     (answered _ _ _ _ _ c.args.frames.now left
     (λ x given. start ∙ given.left tt) (λ end. end.found) c.serve-status.result
     (λ e. ap (λ n. drop n after.bytes.now)
-    (after.only (some_faults before.faults after.faults made.faults (did.source_fault e)))
+    (after.only (some_faults before.faults after.faults made.faults (did.faults.source_fault e)))
     ∙ drop-length after.bytes.now)
     did.ran)
 

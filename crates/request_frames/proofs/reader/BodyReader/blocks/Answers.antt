@@ -1,6 +1,7 @@
 use Rattle.std.proofs.Common.{◌≡◌, ◌≢◌, ◌++◌, ◌∷◌, [], ◌≤◌, length, sym, ◌∙◌, ap, arith, rules, List, ℕ}
 use Rattle.std.specs.Prelude.{option_map}
 use Rattle.std.proofs.lemmas.Grind.{common_steps}
+use Rattle.tsd_model.specs.Step.{targets_max}
 use Rattle.request_frames.specs.Reading.{numbers_of}
 use Rattle.request_frames.proofs.BlocksLaws.{number_more, number_none, onto_last, all_read, none_read, many_read}
 use Rattle.request_frames.proofs.reader.BodyReader.blocks.Goals as goal
@@ -16,7 +17,7 @@ loop-self-smaller c = (number_more c.loop-self.self c.in_ok-block.block c.number
 pub loop-self-preserved : goal.loop-self-preserved
 loop-self-preserved c =
     let pushed : c.push.new.self ≡ c.loop-self.blocks ++ c.in_ok-block.block ∷ [] = search rules in
-    let room : length c.push.new.self ≤ 64 = grind (arith, common_steps) in (
+    let room : length c.push.new.self ≤ targets_max = grind (arith, common_steps) in (
       c.loop-self.invariant.0
           ∙ ap (option_map (λ ns. c.loop-self.blocks ++ ns)) (number_more c.loop-self.self c.in_ok-block.block c.number.new.self c.in_ok-block.ensures).0
           ∙ onto_last c.loop-self.blocks c.in_ok-block.block (numbers_of c.number.new.self)
@@ -26,7 +27,7 @@ loop-self-preserved c =
 
 pub returns-then-is_err : goal.returns-then-is_err
 returns-then-is_err c =
-    let many : 64 ≤ length c.loop-self.blocks = grind (arith, common_steps) in
+    let many : targets_max ≤ length c.loop-self.blocks = grind (arith, common_steps) in
     sym (many_read c.args.self c.loop-self.blocks c.in_ok-block.block (numbers_of c.number.new.self)
     (c.loop-self.invariant.0 ∙ ap (option_map (λ ns. c.loop-self.blocks ++ ns)) (number_more c.loop-self.self c.in_ok-block.block c.number.new.self c.in_ok-block.ensures).0) many)
 

@@ -90,6 +90,10 @@ pub returns-in-Ok-settle_some-clause-prompt : goal.returns-in-Ok-settle_some-cla
 returns-in-Ok-settle_some-clause-prompt g c told = record {
   replied = mark (g.P.Device.view c.put_reply.new.port);
   of_port = (c.put_reply.new.port, refl);
+  between =
+      let applied = (c.apply.ensures.any_moment told).later in
+      let put = c.put_reply.ensures.puts.clock in
+      (omega (arith, applied, put), (c.settle_some.ensures.any_moment told).later);
   sent = sym (c.settle_some.ensures.sent told);
   before = λ bounded. omega (arith, c.put_reply.ensures.puts.writes, c.in-Ok.ensures.before told bounded);
   behind = c.settle_some.ensures.behind;

@@ -11,7 +11,7 @@ on_ok (Err e) X h = tt
 pub returns-clause-prompt : goal.returns-clause-prompt
 returns-clause-prompt g c told =
     let new = mark (g.P.Device.view c.answer_file.new.port) in
-    on_ok c.answer_file.result _ (record { replied = new; of_port = (c.answer_file.new.port, refl); sent = refl; before = λ bounded. absurd bounded; behind = omega arith })
+    on_ok c.answer_file.result _ (record { replied = new; of_port = (c.answer_file.new.port, refl); between = ((c.answer_file.ensures.served.any_moment told).later, omega arith); sent = refl; before = λ bounded. absurd bounded; behind = omega arith })
 
 pub returns-clause-aside : goal.returns-clause-aside
 returns-clause-aside g c = ap behind c.answer_file.ensures.served.behind.size
