@@ -368,7 +368,8 @@ def look_results(recorder: Recorder, program: Program, image: Path) -> Iterator[
     certificate, no_cap = program.run([image, "audit"]).out, "0" * 32
     rows = (
         (0, ["check"], b""), (0, ["info"], b""), (0, ["audit"], b""), (0, ["verify"], certificate),
-        (DENIED, ["shell", "inode", "0", no_cap, "low"], b"df\n"), (DENIED, ["files", "chain", "0", no_cap, "low"], b""),
+        (DENIED, ["shell", "inode", "0", no_cap, "low"], b"df\n"),
+        (DENIED, ["files", "chain", "0", no_cap, "low"], b""),
         (DENIED, ["copyfs", "inode", "0", no_cap, "chain", "1", no_cap, "low"], b""),
     )
     for status, words, given in rows:
