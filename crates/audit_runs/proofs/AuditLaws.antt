@@ -1,6 +1,6 @@
 -- What `audit` puts is answered yes, and yes means that exactly the listed blocks are reached.
-use Rattle.std.proofs.Common.{◌≡◌, ◌≢◌, ◌⊎◌, inl, inr, ℕ, zero, suc, ◌+◌, ◌^◌, ◌<◌, ◌≤◌, ◌&&◌, nat_le, nat_lt, true, false, List, [], ◌∷◌, ◌++◌, length, refl, sym, ◌∙◌, ap, subst, arith, Option, Some, None}
-use Rattle.std.specs.Prelude.{IfSome, count_by, is_some, replicate, slice_set, unwrap_or, get_or}
+use Rattle.std.proofs.Common.{◌≡◌, inl, inr, ℕ, zero, suc, ◌+◌, ◌^◌, ◌<◌, ◌≤◌, ◌&&◌, nat_le, nat_lt, true, false, List, [], ◌∷◌, ◌++◌, length, refl, sym, ◌∙◌, ap, subst, arith, Option, Some, None}
+use Rattle.std.specs.Prelude.{IfSome, is_some, replicate, slice_set}
 use Rattle.std.proofs.lemmas.Bool.{and_parts, both_ways, ltb-true}
 use Rattle.disk_laws.proofs.GraphLaws.{has_number-range}
 use Rattle.script_text.specs.Pieces.{all_lines}
@@ -16,15 +16,14 @@ use Rattle.image_audit.specs.Certificates.{IsVerdict}
 use Rattle.image_audit.specs.Depths.{AreReached, IsDepth, IsEntryOf, IsParent, IsPath}
 use Rattle.image_audit.specs.Entries.{entry_at, is_listed}
 use Rattle.image_audit.specs.Laws.{AreTaken, IsWholeWorld, listings_from}
-use Rattle.image_audit.specs.Listing.{IsListing, ListsNone, MayFollow}
+use Rattle.image_audit.specs.Listing.{ListsNone, MayFollow}
 use Rattle.image_audit.specs.Texts.{verdict_words}
 use Rattle.image_audit.proofs.PathLaws.{path_of_round, reached_by_path}
 use Rattle.image_audit.proofs.TakingLaws.{one_listing, taken_behind}
 use Rattle.image_audit.proofs.VerdictLaws.{found_closed, found_no_bad, found_primaries, shown_reached}
-use Rattle.audit_runs.specs.Audit.{IsAudit, listings_text}
-use Rattle.audit_runs.specs.Certificate.{AreSpelled, IsCertificate, IsFirstRefused}
+use Rattle.audit_runs.specs.Audit.{listings_text}
+use Rattle.audit_runs.specs.Certificate.{AreSpelled, IsCertificate}
 use Rattle.audit_runs.specs.Laws.{AuditsAreAnsweredYes, YesMeansReached, yes_line}
-use Rattle.audit_runs.specs.Verify.{IsVerdictOver, IsFormAnswer, IsVerdictAnswer}
 use Rattle.audit_runs.proofs.TextLaws.{IsSmall, small_from, small_spelled}
 
 -- ---- lines are one certificate
@@ -146,9 +145,7 @@ first_byte (b ∷ bs) = b
 
 yes_begins : (v : Verdict) (n : ℕ) → yes_line n ≡ line_of (verdict_words v) → (m : ℕ) × (v ≡ verdict.Yes m)
 yes_begins (verdict.Yes m) n e = (m, refl)
-yes_begins (verdict.Primary b) n e = let first : 121 ≡ 110 = ap first_byte e in absurd (omega (arith, first))
-yes_begins (verdict.Entry b) n e = let first : 121 ≡ 110 = ap first_byte e in absurd (omega (arith, first))
-yes_begins (verdict.Open a b) n e = let first : 121 ≡ 110 = ap first_byte e in absurd (omega (arith, first))
+yes_begins v n e = let first : 121 ≡ 110 = ap first_byte e in absurd (omega (arith, first))
 
 pub yes_reached : YesMeansReached
 yes_reached w lines n valid (inl form) = let first : 121 ≡ 110 = ap first_byte form.says in absurd (omega (arith, first))

@@ -1,8 +1,8 @@
 -- What is reached, and what a certificate shows, is by pointers and sizes alone: the same over worlds that differ in bytes.
-use Rattle.std.proofs.Common.{◌≡◌, ℕ, zero, suc, ◌<◌, true, false, ◌==◌, ◌&&◌, ◌||◌, nat_lt, List, refl, sym, ◌∙◌, ap, subst, Option, Some, None, filter}
+use Rattle.std.proofs.Common.{◌≡◌, ℕ, zero, suc, true, false, ◌==◌, ◌&&◌, ◌||◌, nat_lt, List, refl, sym, ◌∙◌, ap, subst, Option, Some, None, filter}
 use Rattle.std.specs.Prelude.{IfSome, IsTrue, MatchBool}
 use Rattle.std.specs.List.{list_any, range_with_len}
-use Rattle.tsd_model.specs.Pairs.{holds, pair_lt}
+use Rattle.tsd_model.specs.Pairs.{holds}
 use Rattle.tsd_model.specs.Reach.{reach_from, reach_round, reach_rounds}
 use Rattle.tsd_model.specs.World.{World, has_number, is_primary, primary_blocks}
 use Rattle.tsd_model.specs.declared.geometry.Geometry.{Geometry}
@@ -10,8 +10,8 @@ use Rattle.disk_laws.specs.Bytes.{AreLike}
 use Rattle.image_audit.specs.declared.entry.Entry.{Entry}
 use Rattle.image_audit.specs.declared.verdict.Verdict.{Verdict}
 use Rattle.image_audit.specs.declared.verdict.Verdict.TheVariants as verdict
-use Rattle.image_audit.specs.Certificates.{HasGoodEntries, HasParent, ListsPrimaries, IsBad, IsBelow, IsClosed, IsPrimaryEntry, IsGoodEntry, IsLeastBadEntry, IsLeastOut, IsLeastPrimaryOut, IsVerdict, LeavesList}
-use Rattle.image_audit.specs.Depths.{AreReached, IsDepth, IsEntryOf, IsParent, IsPath, LeadsTo, LeadsToFirst}
+use Rattle.image_audit.specs.Certificates.{HasGoodEntries, HasParent, ListsPrimaries, IsPrimaryEntry, IsGoodEntry, IsVerdict, LeavesList}
+use Rattle.image_audit.specs.Depths.{AreReached, IsDepth, IsEntryOf, IsParent, IsPath, LeadsTo}
 use Rattle.image_audit.specs.Entries.{entry_at}
 
 pub like_back : (v w : World) → AreLike v w → AreLike w v
@@ -55,14 +55,11 @@ entry_like v w like roots b (Some e) h = record { depth = depth_like v w like ro
 primaries_like : (v w : World) → AreLike v w → primary_blocks v ≡ primary_blocks w
 primaries_like v w like = ap (λ (g : Geometry). range_with_len 0 g.primaries) like.geometry
 
-reached_by : (v w : World) → AreLike v w → (roots : List ℕ) (entries : List (Option Entry)) → AreReached v roots entries → AreReached w roots entries
-reached_by v w like roots entries h = record {
-  listed = λ b. h.listed b ∙ ap (λ (r : List ℕ). has_number r b) (reach_like v w like roots);
-  each = λ b. entry_like v w like roots b (entry_at entries b) (h.each b);
-}
-
 pub reached_like : (v w : World) → AreLike v w → (entries : List (Option Entry)) → AreReached v (primary_blocks v) entries → AreReached w (primary_blocks w) entries
-reached_like v w like entries h = subst (λ (roots : List ℕ). AreReached w roots entries) (primaries_like v w like) (reached_by v w like (primary_blocks v) entries h)
+reached_like v w like entries h = subst (λ (roots : List ℕ). AreReached w roots entries) (primaries_like v w like) (record {
+  listed = λ b. h.listed b ∙ ap (λ (r : List ℕ). has_number r b) (reach_like v w like (primary_blocks v));
+  each = λ b. entry_like v w like (primary_blocks v) b (entry_at entries b) (h.each b);
+})
 
 -- ---- what a certificate shows
 

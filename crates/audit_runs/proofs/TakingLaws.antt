@@ -9,10 +9,10 @@ use Rattle.image_audit.specs.declared.certificate.FormFault.{FormFault}
 use Rattle.image_audit.specs.declared.entry.Entry.{Entry}
 use Rattle.image_audit.specs.declared.listing.Listing.{Listing}
 use Rattle.image_audit.specs.Laws.{AreTaken}
-use Rattle.image_audit.specs.Listing.{IsListing, IsNotTaken, ListsNone, IsListingTaken, Listed, MayFollow}
+use Rattle.image_audit.specs.Listing.{IsNotTaken, IsListingTaken, Listed, MayFollow}
 use Rattle.image_audit.specs.ListingReading.{listing_of}
 use Rattle.image_audit.proofs.ListingLaws.{line_back, line_is}
-use Rattle.audit_runs.specs.Certificate.{AreSpelled, IsCertificate, IsFirstRefused}
+use Rattle.audit_runs.specs.Certificate.{AreSpelled}
 use Rattle.audit_runs.specs.Lines.{listing_ending, listing_spelling}
 use Rattle.audit_runs.specs.Taking.{HasTaken, IsReadAs, RefusedAt, TakenAll}
 
@@ -29,18 +29,23 @@ says_long : (ls : List Listing) → length (says ls) ≡ length ls
 says_long [] = refl
 says_long (l ∷ ls) = ap suc (says_long ls)
 
-pub taken_more : (blocks : ℕ) (said : List (Option Listing)) (one : Option Listing) (c d : Listed) → TakenAll blocks said c → IsListingTaken one c.entries d.entries → d.lines ≡ min (c.lines + 1) (2 ^ 64 - 1) → length said < 2 ^ 64 - 1
+pub taken_none : (blocks : ℕ) (c : Listed) → c.entries ≡ replicate blocks None → c.lines ≡ 0 → TakenAll blocks [] c
+taken_none blocks c none new = record { listings = []; say = refl; taken = none; lines = new }
+
+-- where nothing was refused before
+pub taken_next : (blocks : ℕ) (said : List (Option Listing)) (one : Option Listing) (fault : Option FormFault) (c d : Listed) → is_some fault ≡ false → HasTaken blocks said fault c → IsListingTaken one c.entries d.entries → d.lines ≡ min (c.lines + 1) (2 ^ 64 - 1) → length said < 2 ^ 64 - 1
     → TakenAll blocks (said ++ one ∷ []) d
-taken_more blocks said one c d was taken counts few = record {
+taken_next blocks said one None c d none was taken counts few = record {
   listings = was.listings ++ taken.listing ∷ [];
   say = (λ i. was.say i ++ taken.says i ∷ []) ∙ sym (map-append (λ l. Some l) was.listings (taken.listing ∷ []));
   taken = subst (AreTaken (was.listings ++ taken.listing ∷ []) (replicate blocks None)) (sym taken.entries) (taken_snoc was.listings (replicate blocks None) c.entries taken.listing was.taken taken.follows);
   lines = let long = length-append said (one ∷ []) in let before = was.lines in omega (arith, long, before, counts, few);
 }
+taken_next blocks said one (Some f) c d none was taken counts few = absurd (both_ways true none refl)
 
-pub refused_now : (blocks : ℕ) (said : List (Option Listing)) (one : Option Listing) (c d : Listed) (fault : FormFault) → TakenAll blocks said c → IsNotTaken one c.entries → fault.line ≡ d.lines → d.lines ≡ min (c.lines + 1) (2 ^ 64 - 1) → length said < 2 ^ 64 - 1
+pub refused_next : (blocks : ℕ) (said : List (Option Listing)) (one : Option Listing) (before : Option FormFault) (c d : Listed) (fault : FormFault) → is_some before ≡ false → HasTaken blocks said before c → IsNotTaken one c.entries → fault.line ≡ d.lines → d.lines ≡ min (c.lines + 1) (2 ^ 64 - 1) → length said < 2 ^ 64 - 1
     → RefusedAt blocks (said ++ one ∷ []) fault
-refused_now blocks said one c d fault was not line counts few = record {
+refused_next blocks said one None c d fault none was not line counts few = record {
   listings = was.listings;
   one = one;
   behind = [];
@@ -53,9 +58,11 @@ refused_now blocks said one c d fault was not line counts few = record {
       let many : length said ≡ length was.listings = ap length was.say ∙ says_long was.listings in
       omega (arith, line, counts, few, before, many);
 }
+refused_next blocks said one (Some f) c d fault none was not line counts few = absurd (both_ways true none refl)
 
-pub refused_more : (blocks : ℕ) (said : List (Option Listing)) (one : Option Listing) (fault : FormFault) → RefusedAt blocks said fault → RefusedAt blocks (said ++ one ∷ []) fault
-refused_more blocks said one fault was = record {
+pub refused_before : (blocks : ℕ) (said : List (Option Listing)) (one : Option Listing) (fault : Option FormFault) (c : Listed) → is_some fault ≡ true → HasTaken blocks said fault c → HasTaken blocks (said ++ one ∷ []) fault c
+refused_before blocks said one None c some was = absurd (both_ways false refl some)
+refused_before blocks said one (Some f) c some was = record {
   listings = was.listings;
   one = was.one;
   behind = was.behind ++ one ∷ [];
@@ -65,25 +72,6 @@ refused_more blocks said one fault was = record {
   refused = was.refused;
   line = was.line;
 }
-
-pub taken_none : (blocks : ℕ) (c : Listed) → c.entries ≡ replicate blocks None → c.lines ≡ 0 → TakenAll blocks [] c
-taken_none blocks c none new = record { listings = []; say = refl; taken = none; lines = new }
-
--- where nothing was refused before
-
-pub taken_next : (blocks : ℕ) (said : List (Option Listing)) (one : Option Listing) (fault : Option FormFault) (c d : Listed) → is_some fault ≡ false → HasTaken blocks said fault c → IsListingTaken one c.entries d.entries → d.lines ≡ min (c.lines + 1) (2 ^ 64 - 1) → length said < 2 ^ 64 - 1
-    → TakenAll blocks (said ++ one ∷ []) d
-taken_next blocks said one None c d none was taken counts few = taken_more blocks said one c d was taken counts few
-taken_next blocks said one (Some f) c d none was taken counts few = absurd (both_ways true none refl)
-
-pub refused_next : (blocks : ℕ) (said : List (Option Listing)) (one : Option Listing) (before : Option FormFault) (c d : Listed) (fault : FormFault) → is_some before ≡ false → HasTaken blocks said before c → IsNotTaken one c.entries → fault.line ≡ d.lines → d.lines ≡ min (c.lines + 1) (2 ^ 64 - 1) → length said < 2 ^ 64 - 1
-    → RefusedAt blocks (said ++ one ∷ []) fault
-refused_next blocks said one None c d fault none was not line counts few = refused_now blocks said one c d fault was not line counts few
-refused_next blocks said one (Some f) c d fault none was not line counts few = absurd (both_ways true none refl)
-
-pub refused_before : (blocks : ℕ) (said : List (Option Listing)) (one : Option Listing) (fault : Option FormFault) (c : Listed) → is_some fault ≡ true → HasTaken blocks said fault c → HasTaken blocks (said ++ one ∷ []) fault c
-refused_before blocks said one None c some was = absurd (both_ways false refl some)
-refused_before blocks said one (Some f) c some was = refused_more blocks said one f was
 
 -- ---- from what was said to the lines
 

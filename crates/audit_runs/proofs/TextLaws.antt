@@ -1,6 +1,6 @@
 -- The certificate of a world as lines: they are taken, and spell what they were made of.
-use Rattle.std.proofs.Common.{◌≡◌, ◌≢◌, ℕ, zero, suc, ◌+◌, ◌^◌, ◌<◌, ◌≤◌, true, false, not, ◌==◌, List, [], ◌∷◌, ◌++◌, length, map, refl, sym, ◌∙◌, ap, subst, arith, append_assoc, Option, Some, None}
-use Rattle.std.specs.Prelude.{IfSome, decimal, codes, drop, replicate}
+use Rattle.std.proofs.Common.{◌≡◌, ◌≢◌, ℕ, suc, ◌+◌, ◌^◌, ◌<◌, true, not, ◌==◌, List, [], ◌∷◌, ◌++◌, refl, sym, ◌∙◌, ap, subst, arith, append_assoc, Option, Some, None}
+use Rattle.std.specs.Prelude.{IfSome, decimal, codes}
 use Rattle.std.specs.Char.{is_ascii_digit}
 use Rattle.std.specs.List.{join_with_byte}
 use Rattle.std.proofs.lemmas.Bool.{and_from, and_parts}
@@ -9,9 +9,8 @@ use Rattle.script_text.specs.Grammar.{IsHint}
 use Rattle.script_text.proofs.SpellingLaws.{weaker}
 use Rattle.script_text.proofs.TextsLaws.{number_spelled}
 use Rattle.script_text.proofs.WordLaws.{are_digits}
-use Rattle.script_text.specs.Pieces.{all_lines, front, if_some, last_of, lines, pieces, unended}
+use Rattle.script_text.specs.Pieces.{all_lines, front, if_some, last_of, pieces}
 use Rattle.script_text.proofs.PiecesLaws.{lacks, pieces-append, some_pieces}
-use Rattle.tsd_words.specs.Lines.{line_of}
 use Rattle.image_audit.specs.declared.listing.Listing.{Listing}
 use Rattle.image_audit.specs.declared.entry.Entry.{Entry}
 use Rattle.image_audit.specs.Entries.{entry_at}
@@ -32,7 +31,7 @@ last_cons x [] n = absurd (n refl)
 last_cons x (p ∷ ps) n = refl
 
 -- a line that has no line feed in it, and the lines behind it
-pub one_line : (x rest : List ℕ) → lacks 10 x ≡ true → all_lines (x ++ (10 ∷ rest)) ≡ x ∷ all_lines rest
+one_line : (x rest : List ℕ) → lacks 10 x ≡ true → all_lines (x ++ (10 ∷ rest)) ≡ x ∷ all_lines rest
 one_line x rest none =
     let cut = pieces-append 10 x rest none in
     let some = some_pieces 10 rest in
@@ -41,26 +40,6 @@ one_line x rest none =
 -- what each line is, without its line feed
 abbrev pub line_text : Listing → List ℕ
 line_text l = join_with_byte 32 (listing_words l)
-
-abbrev pub EachLacks : List Listing → Type 0
-EachLacks [] = Unit {0}
-EachLacks (l ∷ ls) = (lacks 10 (line_text l) ≡ true) × EachLacks ls
-
-abbrev pub EachSpelled : List Listing → Type 0
-EachSpelled [] = Unit {0}
-EachSpelled (l ∷ ls) = IsListing (line_text l) l × EachSpelled ls
-
-pub lines_are : (ls : List Listing) → EachLacks ls → all_lines (listings_text ls) ≡ map line_text ls
-lines_are [] h = refl
-lines_are (l ∷ ls) h =
-    ap all_lines (append_assoc (line_text l) (10 ∷ []) (listings_text ls)) ∙ one_line (line_text l) (listings_text ls) h.0 ∙ ap (λ xs. line_text l ∷ xs) (lines_are ls h.1)
-
-are_spelled : (ls : List Listing) → EachSpelled ls → AreSpelled (map line_text ls) ls
-are_spelled [] h = tt
-are_spelled (l ∷ ls) h = (h.0, are_spelled ls h.1)
-
-pub text_spelled : (ls : List Listing) → EachLacks ls → EachSpelled ls → AreSpelled (all_lines (listings_text ls)) ls
-text_spelled ls lack spelled = subst (λ xs. AreSpelled xs ls) (sym (lines_are ls lack)) (are_spelled ls spelled)
 
 -- ---- lines whose numbers are small
 
@@ -109,16 +88,12 @@ line_lacks l h =
     (joined_lack (decimal l.entry.depth) (codes "parent") (parent_text l.entry.parent ∷ []) (number_lacks l.entry.depth h.depth)
     (joined_lack (codes "parent") (parent_text l.entry.parent) [] refl (parent_lacks l.entry.parent h.parent)))))
 
-each_lacks : (ls : List Listing) → EachSmall ls → EachLacks ls
-each_lacks [] h = tt
-each_lacks (l ∷ ls) h = (line_lacks l h.0, each_lacks ls h.1)
-
-each_spelled : (ls : List Listing) → EachSmall ls → EachSpelled ls
-each_spelled [] h = tt
-each_spelled (l ∷ ls) h = (line_spelled l h.0, each_spelled ls h.1)
-
+-- so they are cut into lines that spell what they were made of
 pub small_spelled : (ls : List Listing) → EachSmall ls → AreSpelled (all_lines (listings_text ls)) ls
-small_spelled ls h = text_spelled ls (each_lacks ls h) (each_spelled ls h)
+small_spelled [] h = tt
+small_spelled (l ∷ ls) h =
+    let cut : all_lines (listings_text (l ∷ ls)) ≡ line_text l ∷ all_lines (listings_text ls) = ap all_lines (append_assoc (line_text l) (10 ∷ []) (listings_text ls)) ∙ one_line (line_text l) (listings_text ls) (line_lacks l h.0) in
+    subst (λ xs. AreSpelled xs (l ∷ ls)) (sym cut) (line_spelled l h.0, small_spelled ls h.1)
 
 moved : (b k : ℕ) (o : Option Entry) → IfSome o (λ e. IsSmall (record { block = b + suc k; entry = e })) → IfSome o (λ e. IsSmall (record { block = suc b + k; entry = e }))
 moved b k None h = tt

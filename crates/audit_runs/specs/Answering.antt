@@ -5,13 +5,13 @@ use Rattle.tsd_words.specs.declared.status.Status.{Status}
 use Rattle.tsd_words.specs.declared.status.Status.TheVariants as status
 use Rattle.audit_runs.specs.Verify.{IsTakenBy}
 
--- the input was taken to its end, and this holds of its bytes; or the status says how far it was taken
-abbrev pub IsAnsweredTo : {T : Type 0} → Result T Status → Taking → (List ℕ → Type 0) → List ℕ → Type 0
-IsAnsweredTo (Ok x) source holds bytes = (length bytes ≤ 2 ^ 40) × source.at_end × holds bytes
+-- the input was taken to its end, and this holds of what comes and its bytes; or the status says how far it was taken
+abbrev pub IsAnsweredTo : {T : Type 0} → Result T Status → Taking → (T → List ℕ → Type 0) → List ℕ → Type 0
+IsAnsweredTo (Ok x) source holds bytes = (length bytes ≤ 2 ^ 40) × source.at_end × holds x bytes
 IsAnsweredTo (Err why) source holds bytes = IsTakenBy why source bytes
 
 pub record HasAnswered {T : Type 0} (result : Result T Status) (source : Taking)
-    (holds : List ℕ → Type 0) : Type 0 where
+    (holds : T → List ℕ → Type 0) : Type 0 where
   pub bytes : List ℕ
   pub came_in : source.came bytes
   pub taken : IsAnsweredTo result source holds bytes

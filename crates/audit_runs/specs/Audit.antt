@@ -1,5 +1,5 @@
 -- What `audit` says of an image.
-use Rattle.std.specs.Prelude.{◌≡◌, ◌⊎◌, ℕ, List, [], ◌∷◌, ◌++◌, Option, length}
+use Rattle.std.specs.Prelude.{◌≡◌, ◌⊎◌, ℕ, List, [], ◌∷◌, ◌++◌, Option, drop, length}
 use Rattle.image_device.specs.View.{IsPart}
 use Rattle.image_layout.specs.Image.{Image}
 use Rattle.image_world.specs.Faults.{IsGood, IsFirstFault}
@@ -19,6 +19,10 @@ use Rattle.image_runs.specs.Sending.{ProperFrontWasSent}
 abbrev pub listings_text : List Listing → List ℕ
 listings_text [] = []
 listings_text (l ∷ ls) = line_of (listing_words l) ++ listings_text ls
+
+-- the lines of the blocks from b on
+abbrev pub text_from : List (Option Entry) → ℕ → List ℕ
+text_from entries b = listings_text (listings_from b (drop b entries))
 
 -- The certificate of a world: of each block that the primary blocks lead to, ascending, the depth and the parent.
 pub record IsAudit (w : World) (text : List ℕ) : Type 0 where

@@ -2,9 +2,7 @@ pub mod Lines
 pub mod LineLaws
 pub mod Certificate
 pub mod Audit
-pub mod Found
 pub mod Verify
 pub mod Taking
 pub mod Answering
-pub mod Putting
 pub mod Laws

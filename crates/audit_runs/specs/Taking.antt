@@ -1,16 +1,11 @@
 -- A certificate takes what the lines of an input say, one after another.
-use Rattle.std.specs.Prelude.{◌≡◌, ℕ, suc, ◌+◌, ◌^◌, ◌<◌, ◌≤◌, List, [], ◌∷◌, ◌++◌, Option, Some, None, Result, Ok, Err}
-use Rattle.std.specs.Prelude.{MatchOption, length, map, replicate}
-use Rattle.script_text.specs.Pieces.{all_lines}
-use Rattle.serving.specs.Ran.{Taking}
-use Rattle.tsd_words.specs.declared.status.Status.{Status}
+use Rattle.std.specs.Prelude.{◌≡◌, ℕ, suc, List, ◌∷◌, ◌++◌, Option, Some, None, MatchOption, length, map, replicate}
 use Rattle.image_audit.specs.declared.certificate.FormFault.{FormFault}
 use Rattle.image_audit.specs.declared.entry.Entry.{Entry}
 use Rattle.image_audit.specs.declared.listing.Listing.{Listing}
 use Rattle.image_audit.specs.Laws.{AreTaken}
 use Rattle.image_audit.specs.Listing.{IsNotTaken, Listed}
 use Rattle.audit_runs.specs.Certificate.{IsCertificate, IsFirstRefused}
-use Rattle.audit_runs.specs.Verify.{IsTakenBy}
 
 -- all that was said was taken
 pub record TakenAll (blocks : ℕ) (said : List (Option Listing)) (c : Listed) : Type 0 where
@@ -37,16 +32,3 @@ HasTaken blocks said fault c = MatchOption fault (TakenAll blocks said c) (Refus
 abbrev pub IsReadAs : ℕ → List (List ℕ) → Option FormFault → List (Option Entry) → Type 0
 IsReadAs blocks lines fault entries =
     MatchOption fault (IsCertificate lines blocks entries) (λ f. IsFirstRefused lines blocks f.line)
-
--- these bytes of it came in
-abbrev pub IsReadTo : ℕ → Result (Option FormFault) Status → List (Option Entry) → Taking → List ℕ → Type 0
-IsReadTo blocks (Ok fault) entries source bytes =
-    (length bytes ≤ 2 ^ 40) × source.at_end × IsReadAs blocks (all_lines bytes) fault entries
-IsReadTo blocks (Err why) entries source bytes = IsTakenBy why source bytes
-
--- an input was read to its end, or the status says why it wasn't
-pub record HasRead (blocks : ℕ) (result : Result (Option FormFault) Status) (entries : List (Option Entry))
-    (source : Taking) : Type 0 where
-  pub bytes : List ℕ
-  pub came_in : source.came bytes
-  pub taken : IsReadTo blocks result entries source bytes

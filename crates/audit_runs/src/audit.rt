@@ -1,22 +1,21 @@
 //! `audit`: which blocks the primary blocks lead to, as a certificate.
 
-ghost use Rattle.std.specs.Prelude.{◌≡◌, IfOk, IfErr};
+ghost use Rattle.std.specs.Prelude.{IfOk, IfErr};
 ghost use Rattle.image_device.specs.Counts.{CountsFaultOf};
 ghost use Rattle.image_device.specs.Runs.{IsFirm, LeavesOnly};
 ghost use Rattle.image_world.specs.Behind.{LeavesBehind};
 ghost use Rattle.recovery.specs.Opening.{IsForeign, IsUntouched, LeavesData, SparesDamaged, StandAlike};
-ghost use Rattle.volume_laws.specs.Writes.{Works};
-ghost use Rattle.image_runs.specs.Looking.{OnlyLooks};
+ghost use Rattle.image_runs.specs.Looking.{OnlyLooks, OnlyOpens};
 ghost use Rattle.image_runs.specs.Opened.{IsJudged, IsUnopened};
 ghost use Rattle.image_runs.specs.Sending.{IsEnding};
 ghost use Rattle.serving.specs.Faults.{TellsPortFaults};
-ghost use Rattle.audit_runs.specs.Audit.{HasAudited, IsAuditing};
-ghost use Rattle.audit_runs.specs.Found.{IsFoundIn};
+ghost use Rattle.audit_runs.specs.Audit.{HasAudited, IsAuditing, IsAuditOf, listings_text};
+ghost use Rattle.image_audit.specs.Laws.{listings_from};
 
 use crate::listings::put_listings;
 use image_audit::{Reached, primary_roots};
 use image_device::{Device, Port};
-use image_runs::open_volume;
+use image_runs::{ended, open_volume};
 use std::alloc::Global;
 use tsd_words::Status;
 
@@ -48,33 +47,19 @@ pub fn audit_image<P: Port>(alloc: Global, port: &mut P) -> Status
     ensures faults { TellsPortFaults result (P.view port.old) (P.view port.new) }
 {
     match find(alloc, port) {
-        Ok(reached) => match put_listings(&reached, port) {
-            Ok(()) => Status::Done,
-            Err(_) => Status::PutFault,
-        },
+        Ok(reached) => ended(put_listings(&reached, port), Status::Done),
         Err(why) => why,
     }
 }
 
 /// Opens an image and searches it from its primary blocks.
 fn find<D: Device>(alloc: Global, dev: &mut D) -> Result<Reached, Status>
-    ensures found { D.told → IfOk result (IsFoundIn (D.view dev.old).reads) }
+    ensures found { D.told → IfOk result (λ entries. IsAuditOf (D.view dev.old).reads
+        (listings_text (listings_from 0 entries))) }
     ensures judged { D.told → IfErr result (IsJudged (D.view dev.old).reads) }
     ensures stops { IfErr result IsUnopened }
-    ensures sent { D.told → (D.view dev.new).sent ≡ (D.view dev.old).sent }
-    // Where the image fails one of the tests that need no write, nothing is written, and the disk reads as before;
-    // where it fails another, nothing is lost that a repair could use, whatever is answered.
-    ensures untouched { D.told → IsForeign (D.view dev.old).reads → IsUntouched (D.view dev.old) (D.view dev.new) }
-    ensures spared { D.told → SparesDamaged (D.view dev.old) (D.view dev.new) }
-    // However it ends, a crash at any moment leaves what lies behind the image as it was.
-    ensures behind { D.told → IsFirm (D.view dev.old) → LeavesBehind (D.view dev.old) (D.view dev.new) }
-    ensures any_moment { D.told → IsFirm (D.view dev.old) → LeavesOnly (D.view dev.old) (D.view dev.new)
-        (λ x f. StandAlike (D.view dev.old).reads x × (f ≡ (D.view dev.old).sent)) }
-    // Where nothing is left to be done on the image nothing is written, and else no more than an opening writes; the
-    // data of all blocks stays.
-    ensures only { D.told → OnlyLooks (D.view dev.old) (D.view dev.new) }
-    ensures kept { D.told → IsFirm (D.view dev.old) → LeavesData (D.view dev.old) (D.view dev.new) }
-    ensures works { Works (D.view dev.old) (D.view dev.new) }
+    // It does no more than open the image.
+    ensures opens { OnlyOpens D.told (D.view dev.old) (D.view dev.new) }
     ensures faults { CountsFaultOf Status.DeviceFault result (D.view dev.old).faults (D.view dev.new).faults }
 {
     match open_volume(alloc, dev) {

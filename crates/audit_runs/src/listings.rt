@@ -3,8 +3,7 @@
 ghost use Rattle.std.specs.Prelude.{◌≡◌, ◌<◌, ◌≤◌, ◌+◌, ◌++◌, length};
 ghost use Rattle.image_device.specs.Runs.{PutsAll};
 ghost use Rattle.image_audit.specs.Laws.{listings_from};
-ghost use Rattle.audit_runs.specs.Audit.{listings_text};
-ghost use Rattle.audit_runs.specs.Putting.{text_from};
+ghost use Rattle.audit_runs.specs.Audit.{listings_text, text_from};
 
 use image_audit::{Reached, put_listing};
 use image_device::{Failed, Port, put_all};

@@ -5,7 +5,9 @@ ghost use Rattle.std.specs.Prelude.{replicate, IfErr};
 ghost use Rattle.image_device.specs.Counts.{CountsFaultOf};
 ghost use Rattle.serving.specs.Ran.{EndsOnce, taking};
 ghost use Rattle.image_audit.specs.declared.listing.Listing.{Listing as Said};
-ghost use Rattle.audit_runs.specs.Taking.{HasRead, HasTaken};
+ghost use Rattle.audit_runs.specs.Answering.{HasAnswered};
+ghost use Rattle.audit_runs.specs.Taking.{HasTaken, IsReadAs};
+ghost use Rattle.script_text.specs.Pieces.{all_lines};
 
 use crate::lines::ListingLines;
 use image_audit::{Certificate, FormFault, Listing};
@@ -22,8 +24,8 @@ pub(crate) fn take_lines<S: Source>(
     requires none { certificate.old.entries ≡ replicate (length certificate.old.entries) None }
     requires new { certificate.old.lines ≡ 0 }
     ensures blocks { length certificate.new.entries ≡ length certificate.old.entries }
-    ensures read { HasRead (length certificate.old.entries) result certificate.new.entries
-        (taking S.told S.taken S.left_bytes S.ended source.old source.new) }
+    ensures read { HasAnswered result (taking S.told S.taken S.left_bytes S.ended source.old source.new) (λ fault bytes.
+        IsReadAs (length certificate.old.entries) (all_lines bytes) fault certificate.new.entries) }
     ensures failing { IfErr result (λ why. (why ≡ Status.SourceFault) ⊎ (why ≡ Status.TooLong)) }
     ensures once { EndsOnce (S.ends source.old) (S.ends source.new) }
     ensures faults { CountsFaultOf Status.SourceFault result (S.faults source.old) (S.faults source.new) }

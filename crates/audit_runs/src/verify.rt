@@ -2,15 +2,14 @@
 
 ghost use Rattle.std.specs.Prelude.{◌≡◌, ℕ, List, Option, length, IfErr};
 ghost use Rattle.image_device.specs.Counts.{CountsFaultOf};
-ghost use Rattle.image_device.specs.Runs.{IsFirm, LeavesOnly};
+ghost use Rattle.image_device.specs.Runs.{IsFirm};
 ghost use Rattle.image_world.specs.Behind.{LeavesBehind};
-ghost use Rattle.recovery.specs.Opening.{IsForeign, IsUntouched, LeavesData, SparesDamaged, StandAlike};
+ghost use Rattle.recovery.specs.Opening.{IsForeign, IsUntouched, LeavesData, SparesDamaged};
 ghost use Rattle.script_text.specs.Pieces.{all_lines};
 ghost use Rattle.serving.specs.Faults.{TellsFaults};
 ghost use Rattle.serving.specs.Ran.{EndsOnce, moments, taking};
 ghost use Rattle.volume_laws.specs.Volume.{IsVolumeReady, told_by};
-ghost use Rattle.volume_laws.specs.Writes.{Works};
-ghost use Rattle.image_runs.specs.Looking.{OnlyLooks};
+ghost use Rattle.image_runs.specs.Looking.{OnlyLooks, OnlyOpens};
 ghost use Rattle.image_runs.specs.Opened.{IsJudged};
 ghost use Rattle.audit_runs.specs.Answering.{HasAnswered, IsUnanswered, IsUnread};
 ghost use Rattle.audit_runs.specs.Taking.{IsReadAs};
@@ -18,8 +17,8 @@ ghost use Rattle.audit_runs.specs.Verify.{IsVerdictOver, IsAnswerOf, VerifyRan};
 
 use crate::taking::take_lines;
 use image_audit::{Certificate, FormFault, fault_line, verdict_line, verify};
-use image_device::{Device, Port, Source, put_all};
-use image_runs::open_volume;
+use image_device::{Device, Port, Source};
+use image_runs::{open_volume, put_text};
 use script_text::OutBuf;
 use std::alloc::Global;
 use tsd_words::Status;
@@ -55,10 +54,7 @@ pub fn verify_image<S: Source, P: Port>(alloc: Global, source: &mut S, port: &mu
 {
     let mut line = OutBuf::new();
     match answer(alloc, source, port, &mut line) {
-        Ok(()) => match put_all(port, line.as_slice()) {
-            Ok(()) => Status::Done,
-            Err(_) => Status::PutFault,
-        },
+        Ok(()) => put_text(port, &line, Status::Done),
         Err(why) => why,
     }
 }
@@ -71,23 +67,11 @@ fn answer<S: Source, D: Device>(
     line: &mut OutBuf,
 ) -> Result<(), Status>
     ensures answered { HasAnswered result (taking S.told S.taken S.left_bytes S.ended source.old source.new)
-        (λ bytes. D.told → IsAnswerOf (D.view dev.old).reads bytes line.new) }
+        (λ _ bytes. D.told → IsAnswerOf (D.view dev.old).reads bytes line.new) }
     ensures judged { D.told → IfErr result (IsJudged (D.view dev.old).reads) }
     ensures stops { IfErr result IsUnanswered }
-    ensures sent { D.told → (D.view dev.new).sent ≡ (D.view dev.old).sent }
-    // Where the image fails one of the tests that need no write, nothing is written, and the disk reads as before;
-    // where it fails another, nothing is lost that a repair could use, whatever is answered.
-    ensures untouched { D.told → IsForeign (D.view dev.old).reads → IsUntouched (D.view dev.old) (D.view dev.new) }
-    ensures spared { D.told → SparesDamaged (D.view dev.old) (D.view dev.new) }
-    // However it ends, a crash at any moment leaves what lies behind the image as it was.
-    ensures behind { D.told → IsFirm (D.view dev.old) → LeavesBehind (D.view dev.old) (D.view dev.new) }
-    ensures any_moment { D.told → IsFirm (D.view dev.old) → LeavesOnly (D.view dev.old) (D.view dev.new)
-        (λ x f. StandAlike (D.view dev.old).reads x × (f ≡ (D.view dev.old).sent)) }
-    // Where nothing is left to be done on the image nothing is written, and else no more than an opening writes; the
-    // data of all blocks stays.
-    ensures only { D.told → OnlyLooks (D.view dev.old) (D.view dev.new) }
-    ensures kept { D.told → IsFirm (D.view dev.old) → LeavesData (D.view dev.old) (D.view dev.new) }
-    ensures works { Works (D.view dev.old) (D.view dev.new) }
+    // It does no more than open the image.
+    ensures opens { OnlyOpens D.told (D.view dev.old) (D.view dev.new) }
     ensures once { EndsOnce (S.ends source.old) (S.ends source.new) }
     ensures source_faults { CountsFaultOf Status.SourceFault result (S.faults source.old) (S.faults source.new) }
     ensures faults { CountsFaultOf Status.DeviceFault result (D.view dev.old).faults (D.view dev.new).faults }
@@ -107,7 +91,7 @@ fn read_and_verify<S: Source>(
 ) -> Result<(), Status>
     requires { IsVolumeReady volume.now }
     ensures answered { HasAnswered result (taking S.told S.taken S.left_bytes S.ended source.old source.new)
-        (λ bytes. IsVerdictOver (told_by volume.now) (all_lines bytes) line.new) }
+        (λ _ bytes. IsVerdictOver (told_by volume.now) (all_lines bytes) line.new) }
     ensures stops { IfErr result IsUnread }
     ensures once { EndsOnce (S.ends source.old) (S.ends source.new) }
     ensures faults { CountsFaultOf Status.SourceFault result (S.faults source.old) (S.faults source.new) }

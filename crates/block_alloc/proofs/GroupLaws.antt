@@ -3,6 +3,7 @@ use Rattle.std.proofs.Common.{◌≡◌, ℕ, zero, suc, ◌+◌, ◌-◌, ◌<�
 use Rattle.std.proofs.Common.{Option, Some, None}
 use Rattle.block_alloc.proofs.Common.{filter, map, list_all, range_with_len, cases_lt, cases_Bool, lt-ltb, le-ltb, le-leb, lt-leb, both_ways, in_rank_order, sorted_by_rank, is_free_run, all_blocks, runs, is_live, is_free, is_within, is_run_within, IsKeptFrom, least_of, ranked, Ranked}
 use Rattle.block_alloc.proofs.OrderLaws.{range-from, least-from-no}
+use Rattle.tsd_model.proofs.ValueLaws.{and_false, and_true}
 
 -- ---- those up to a ceiling stand in front
 
@@ -111,10 +112,6 @@ filter_same p q same (b ∷ bs) = λ i. cond (same b i) (b ∷ filter_same p q s
 pub enough_within : (rank : ℕ → ℕ) (live : List Bool) (run wanted : ℕ) (ceiling : Option ℕ) (kept : List Ranked) → length kept ≡ wanted
     → kept ≡ least_of rank wanted (filter (is_run_within rank live run ceiling) (all_blocks live)) → kept ≡ least_of rank wanted (runs live run)
 enough_within rank live run wanted None kept full is = is ∙ ap (least_of rank wanted) (filter_same (is_run_within rank live run None) (is_free_run live run) (λ b. and_true (is_free_run live run b)) (all_blocks live))
-  where
-    and_true : (t : Bool) → (t && true) ≡ t
-    and_true true = refl
-    and_true false = refl
 enough_within rank live run wanted (Some ceiling) kept full is =
     let front = sorted_by_rank rank (filter (is_run_within rank live run (Some ceiling)) (all_blocks live)) in
     let rest = sorted_by_rank rank (filter (λ b. is_free_run live run b && not (nat_le (rank b) ceiling)) (all_blocks live)) in
@@ -125,10 +122,6 @@ pub all_within : (rank : ℕ → ℕ) (live : List Bool) (run wanted : ℕ) (cei
     → kept ≡ least_of rank wanted (filter (is_run_within rank live run ceiling) (all_blocks live)) → kept ≡ least_of rank wanted (runs live run)
 all_within rank live run wanted ceiling kept none is =
     is ∙ ap (least_of rank wanted) (filter_same (is_run_within rank live run ceiling) (is_free_run live run) (λ b. ap (λ c. is_run_within rank live run c b) none ∙ and_true (is_free_run live run b)) (all_blocks live))
-  where
-    and_true : (t : Bool) → (t && true) ≡ t
-    and_true true = refl
-    and_true false = refl
 
 -- ---- a group that is passed by
 past_range : (start n : ℕ) → n ≤ start → range_with_len start (n - start) ≡ []
@@ -160,10 +153,6 @@ above_ceiling rank live run (Some ceiling) best b no_ least = ap (λ t. is_free_
     over : (r : ℕ) → nat_le r ceiling ≡ false → ceiling < r
     over r e = elim (cases_lt ceiling r) [ inl there ↦ there | inr not_ ↦ absurd (both_ways (nat_le r ceiling) e (le-leb r ceiling not_)) ]
 
-    and_false : (t : Bool) → (t && false) ≡ false
-    and_false true = refl
-    and_false false = refl
-
 -- the end of a group that the disk's last block cuts off
 pub kept_at_end : (rank : ℕ → ℕ) (live : List Bool) (run wanted start end : ℕ) (ceiling : Option ℕ) (kept : List Ranked) → (end ≡ start) → IsKeptFrom rank live run ceiling wanted start kept → IsKeptFrom rank live run ceiling wanted end kept
 kept_at_end rank live run wanted start end ceiling kept same is = subst (λ n. IsKeptFrom rank live run ceiling wanted n kept) (sym same) is
@@ -179,10 +168,6 @@ broken_run live b (suc n) k low high no_ = elim (cases_lt b k) [
   | inl before ↦ ap (λ t. is_free live b && t) (broken_run live (b + 1) n k (omega arith) (omega arith) no_) ∙ and_false (is_free live b)
   | inr from ↦ let same : k ≡ b = omega arith in ap (λ t. t && list_all (is_free live) (range_with_len (b + 1) n)) (sym (ap (is_free live) same) ∙ no_)
 ]
-  where
-    and_false : (t : Bool) → (t && false) ≡ false
-    and_false true = refl
-    and_false false = refl
 
 -- no block past the last one is free
 pub past_is_not_free : (live : List Bool) (k : ℕ) → length live ≤ k → is_free live k ≡ false
@@ -193,10 +178,6 @@ free_at live k h no_ = ap (λ t. t && not (is_live live k)) (lt-ltb k (length li
 
 pub live_is_not_free : (live : List Bool) (k : ℕ) → is_live live k ≡ true → is_free live k ≡ false
 live_is_not_free live k holds_ = ap (λ t. nat_lt k (length live) && not t) holds_ ∙ and_false (nat_lt k (length live))
-  where
-    and_false : (t : Bool) → (t && false) ≡ false
-    and_false true = refl
-    and_false false = refl
 
 -- one block more in front
 pub run_more : (live : List Bool) (b next end : ℕ) → next ≡ b + 1 → b < end → is_free live b ≡ true → list_all (is_free live) (range_with_len next (end - next)) ≡ true → list_all (is_free live) (range_with_len b (end - b)) ≡ true

@@ -3,10 +3,7 @@ use Rattle.std.proofs.Common.{inl, inr, ◌≡◌, ◌≢◌, ℕ, zero, suc, �
 use Rattle.block_alloc.proofs.Common.{cases_lt, is_live, is_free, is_free_run, bit_in, bits_of, IsBitPut, IsMostAt, IsMostIn, IsApart}
 use Rattle.block_alloc.proofs.BitLaws.{length-bits_of, get-bits_of, past-bits_of}
 use Rattle.block_alloc.proofs.GroupLaws.{broken_run, live_is_not_free, past_is_not_free}
-
-and_false : (t : Bool) → (t && false) ≡ false
-and_false true = refl
-and_false false = refl
+use Rattle.tsd_model.proofs.ValueLaws.{and_false}
 
 pub most-any : (live : List Bool) (b most : ℕ) → 32 ≤ most → IsMostAt live b most
 most-any live b most all = λ count over few. absurd (omega arith)

@@ -8,9 +8,7 @@ use Rattle.fs_client.specs.Trimming.{IsTrim}
 use Rattle.fs_client.proofs.DropLaws.{other_pair}
 use Rattle.fs_client.proofs.TrimLaws.{freed, trimmed_by_step, trims_by_step}
 use Rattle.fs_client.proofs.TargetLaws.{target_named, chain_targets}
-
-clash : (t : Bool) → t ≡ true → t ≡ false → ⊥
-clash t p q = cc
+use Rattle.tsd_model.proofs.ValueLaws.{clash}
 
 is_false : (t : Bool) → (t ≡ true → ⊥) → t ≡ false
 is_false true h = absurd (h refl)

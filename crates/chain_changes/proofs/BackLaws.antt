@@ -6,9 +6,7 @@ use Rattle.graph_laws.specs.Counts.{stays}
 use Rattle.graph_laws.proofs.DoomedLaws.{doomed_least, doomed_from}
 use Rattle.graph_laws.proofs.SettleLaws.{settle_same, valid_is_settled, none_doomed}
 use Rattle.chain_changes.proofs.LinkLaws.{link_target, link_source}
-
-clash : (t : Bool) → t ≡ true → t ≡ false → ⊥
-clash t p q = cc
+use Rattle.tsd_model.proofs.ValueLaws.{clash, or_false}
 
 both_ways : (s t : Bool) → (s ≡ true → t ≡ true) → (t ≡ true → s ≡ true) → s ≡ t
 both_ways true t f g = sym (f refl)
@@ -160,12 +158,8 @@ module _ (root : ℕ) (first : World) (valid : IsValid first) (source : ℕ) (w 
   all_stay : (v : World) → IsValid v → (b : ℕ) → stays v b ≡ true
   all_stay v valid_v b = ap not (none_doomed v valid_v.led_to b)
 
-  or_none : (t : Bool) → (t || false) ≡ t
-  or_none true = refl
-  or_none false = refl
-
   same_pairs : (a b : ℕ) → (holds w.pairs a b && stays w a) ≡ (holds first.pairs a b && stays first a)
-  same_pairs a b = ap (λ t. t && stays w a) (m.pairs a b ∙ or_none (holds first.pairs a b)) ∙ ap (λ t. holds first.pairs a b && t) (all_stay w m.valid a ∙ sym (all_stay first valid a))
+  same_pairs a b = ap (λ t. t && stays w a) (m.pairs a b ∙ or_false (holds first.pairs a b)) ∙ ap (λ t. holds first.pairs a b && t) (all_stay w m.valid a ∙ sym (all_stay first valid a))
 
   pub nothing_made : w ≡ first
   nothing_made =

@@ -1,17 +1,11 @@
 -- A cluster of the directory, as it stands and as it is written.
-use Rattle.std.proofs.Common.{◌≡◌, ℕ, ◌+◌, ◌*◌, ◌-◌, ◌^◌, ◌<◌, ◌≤◌, true, false, not, ◌&&◌, nat_lt, nat_le, Bool, inl, inr, ◌⊎◌, List, [], ◌∷◌, ◌++◌, length, refl, sym, ◌∙◌, ap, subst, arith, length-append, Option, Some, None}
-use Rattle.chain_changes.proofs.Common.{and_parts, and_from, leb-true, nat_tests, length-replicate, flat_map, replicate, is_some, option_and_then, list_all, block_len, World, contents, is_live, has_number, IsValid, filled, live_below, Name, name_max, is_name_byte, is_reserved, is_name, only_if, Entry, entries, entry_bytes, all_named, Cluster, cluster_in, link_field, entries_room, entries_of, directory_bytes, Link, cluster_at, blocks_of, ChainFile, Chains, chain_blocks, chains_under, length-entries, number_left, number_right, first_in, cluster_of, entries_in, entry_blocks, HaveFourBytes, head_back, entries_back, IsFrom, placed, AreFiles, AreEntries, files_split, entries_split, HasChains, has_chains, blocks-append, Page, IsPage, page_link, own_entries}
+use Rattle.std.proofs.Common.{◌≡◌, ℕ, ◌+◌, ◌*◌, ◌-◌, ◌^◌, ◌<◌, ◌≤◌, true, false, ◌&&◌, nat_lt, nat_le, Bool, inl, inr, ◌⊎◌, List, [], ◌∷◌, ◌++◌, length, refl, sym, ◌∙◌, ap, subst, arith, length-append, Option, Some, None}
+use Rattle.chain_changes.proofs.Common.{and_parts, and_from, leb-true, nat_tests, length-replicate, flat_map, replicate, is_some, option_and_then, block_len, World, contents, is_live, has_number, IsValid, filled, live_below, is_name, only_if, Entry, entries, entry_bytes, all_named, Cluster, cluster_in, link_field, entries_room, entries_of, directory_bytes, Link, cluster_at, blocks_of, ChainFile, Chains, chain_blocks, chains_under, length-entries, number_left, number_right, first_in, cluster_of, entries_in, entry_blocks, HaveFourBytes, head_back, entries_back, IsFrom, placed, AreFiles, AreEntries, files_split, entries_split, HasChains, has_chains, blocks-append, Page, IsPage, page_link, own_entries}
 use Rattle.chain_layout.specs.Held as held
+use Rattle.tsd_model.proofs.ValueLaws.{some_same}
+use Rattle.fs_laws.proofs.AtLaws.{name_fits}
 
 -- ---- how long its bytes are
-
-name_fits : (n : Name) → is_name n ≡ true → length n ≤ 28
-name_fits n h =
-    let a = nat_le 1 (length n) in
-    let b = nat_le (length n) name_max in
-    let front = (and_parts (a && b && list_all is_name_byte n) (not (is_reserved n)) h).0 in
-    let short : b ≡ true = (and_parts a b (and_parts (a && b) (list_all is_name_byte n) front).0).1 in
-    grind (arith, nat_tests)
 
 entry_length : (e : Entry) → length e.name ≤ 28 → length (entry_bytes e) ≡ 32
 entry_length e h =
@@ -169,6 +163,3 @@ module _ (w : World) (root : ℕ) (c : Chains) (under : chains_under w root ≡ 
       let first = files_split w split.0 (placed page.block (entries_in page.cluster) ++ split.4.1) c.files (subst (λ ps. AreFiles w ps c.files) all listing.files) in
       let second = files_split w (placed page.block (entries_in page.cluster)) split.4.1 first.1 first.4 in
       files_small w valid page.block (entries_in page.cluster) second.0 second.3
-    where
-      some_same : {x y : List Entry} → Some x ≡ Some y → x ≡ y
-      some_same e = cc

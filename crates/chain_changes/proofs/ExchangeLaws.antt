@@ -1,9 +1,7 @@
 -- Chains of which one file is exchanged for others, or for none: what isn't named any more, and which pairs still are.
-use Rattle.std.proofs.Common.{◌≡◌, ℕ, zero, suc, ◌+◌, ◌≤◌, Bool, true, false, ◌==◌, List, [], ◌∷◌, ◌++◌, sym, ◌∙◌, ap, arith, inl, inr, ◌⊎◌, refl, append-nil}
+use Rattle.std.proofs.Common.{◌≡◌, ℕ, zero, suc, ◌+◌, ◌≤◌, true, false, ◌==◌, List, [], ◌∷◌, ◌++◌, sym, ◌∙◌, ap, arith, inl, inr, ◌⊎◌, refl, append-nil}
 use Rattle.chain_changes.proofs.Common.{or_cases, or_left, or_right, and_parts, has_number, holds, is_pair, blocks_of, links, ChainFile, Chains, chain_blocks, chain_pairs, held_left, held_right, held_append, times, times-append, times_none, none_times, file_blocks, file_pairs, times_three, held_three, first_held, last_held}
-
-clash : (t : Bool) → t ≡ true → t ≡ false → ⊥
-clash t p q = cc
+use Rattle.tsd_model.proofs.ValueLaws.{clash}
 
 -- what stands in a list stands there at least once
 pub in_times : (b : ℕ) (xs : List ℕ) → has_number xs b ≡ true → 1 ≤ times b xs

@@ -1,5 +1,5 @@
 -- A new cluster of the directory, with the entry of a new file: it is made, and then the last cluster leads to it, which decides.
-use Rattle.std.proofs.Common.{◌≡◌, ℕ, ◌+◌, ◌^◌, ◌<◌, ◌≤◌, Bool, true, false, not, ◌==◌, nat_lt, List, [], ◌∷◌, ◌++◌, length, append-nil, append_assoc, refl, sym, ◌∙◌, ap, subst, arith, inl, inr, ◌⊎◌, Option, Some, None}
+use Rattle.std.proofs.Common.{◌≡◌, ℕ, ◌+◌, ◌^◌, ◌<◌, ◌≤◌, true, false, not, ◌==◌, nat_lt, List, [], ◌∷◌, ◌++◌, length, append-nil, append_assoc, refl, sym, ◌∙◌, ap, subst, arith, inl, inr, ◌⊎◌, Option, Some, None}
 use Rattle.chain_changes.proofs.Common.{and_from, and_parts, or_cases, or_left, or_right, eq-eqb, eqb-true, not-true, drop, slice_index_or, option_and_then, block_len, World, has_number, are_apart, holds, is_pair, filled, written, contents-other, contents-same, live_below, Name, is_name, a_file, with_at, Entry, all_named, Cluster, cluster_in, entries_room, entries_of, directory_bytes, clusters_for, Link, blocks_of, links, ChainFile, chain_bytes, Chains, chain_blocks, names_max, chain_tree, FsRefusal, number_left, number_right, in_append, first_in, held_left, held_right, held_append, DiskView, Client, write_by, Leads, no_room_in, refused_on, cluster_of, entries_in, entry_blocks, HaveFourBytes, IsFrom, AreOthers, file_blocks, file_pairs, file_names, relinked, IsNewCluster, Becomes, from_same, blocks-append, the_directory_grows, Making, AreLinkable, NewFile, Page, mounted_by, page_link}
 use Rattle.fs_trees.specs.declared.ask.ShellAsk.TheVariants as ask
 use Rattle.chain_layout.specs.Held as held
@@ -11,9 +11,7 @@ use Rattle.chain_changes.proofs.AmongLaws.{among_named, among_held, among_parts,
 use Rattle.chain_changes.proofs.PuttingLaws.{Putting, stage, under_now, new_apart, within_now, decided, file_in}
 use Rattle.chain_changes.proofs.PlacedLaws.{second_of_all, first_and_rest, first_there, second_there}
 use Rattle.chain_changes.proofs.AddLaws.{small_block}
-
-clash : (t : Bool) → t ≡ true → t ≡ false → ⊥
-clash t p q = cc
+use Rattle.tsd_model.proofs.ValueLaws.{clash}
 
 module _ (c : Client) (old : DiskView) (n : Name) (page : Page) (x : Putting c old n page) (body blocks : List ℕ) (mid : DiskView) (nf : NewFile c old mid page.block 1 body blocks)
     (room : ◌≡◌ {A = Option FsRefusal} (no_room_in old.world (clusters_for old.world.geometry (length body) + 1) (clusters_for old.world.geometry (length body) + 1)) None) (linkable : AreLinkable blocks) (some : 1 < length blocks) where

@@ -1,6 +1,7 @@
 -- Pairs along a chain.
 use Rattle.std.proofs.Common.{◌≡◌, ℕ, Bool, true, false, not, ◌||◌, ◌==◌, List, [], ◌∷◌, ◌++◌, refl, sym, ◌∙◌, ap, subst, inl, inr, ◌⊎◌}
 use Rattle.chain_changes.proofs.Common.{and_parts, and_from, or_cases, or_left, or_right, eq-eqb, eqb-true, not-true, false_from_ne_true, has_number, are_apart, holds, is_pair, links, in_append}
+use Rattle.tsd_model.proofs.ValueLaws.{clash, neither}
 
 -- the last of a chain's blocks, or what it hangs from
 abbrev pub last_of : ℕ → List ℕ → ℕ
@@ -70,13 +71,6 @@ apart_more (b ∷ bs) d once off =
       | inr same ↦ clash (b == d) (eq-eqb b d (sym same)) (neither (b == d) (has_number bs d) off).0
     ])))
     (apart_more bs d parts.1 (neither (b == d) (has_number bs d) off).1)
-  where
-    clash : (t : Bool) → t ≡ true → t ≡ false → ⊥
-    clash t p q = cc
-
-    neither : (s t : Bool) → (s || t) ≡ false → (s ≡ false) × (t ≡ false)
-    neither true t e = absurd (cc)
-    neither false t e = (refl, e)
 
 pub not_in_more : (bs : List ℕ) (d b : ℕ) → has_number (bs ++ d ∷ []) b ≡ false → (has_number bs b ≡ false) × (has_number (d ∷ []) b ≡ false)
 not_in_more [] d b h = (refl, h)

@@ -6,9 +6,7 @@ use Rattle.fs_laws.specs.Reading.{SameTree}
 use Rattle.fs_laws.proofs.NamedLaws.{each_named}
 use Rattle.fs_laws.proofs.UnderLaws.{each_under, root_under, target_under}
 use Rattle.chain_changes.proofs.LinkLaws.{last_of, links-more, along, along_last, in_more, not_in_more, apart_more}
-
-clash : (t : Bool) → t ≡ true → t ≡ false → ⊥
-clash t p q = cc
+use Rattle.tsd_model.proofs.ValueLaws.{clash}
 
 both_keep : (n : Named) (first w next : World) → Keeps first w n → Keeps w next n → Keeps first next n
 both_keep n first w next one two = record {

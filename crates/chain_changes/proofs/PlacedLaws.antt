@@ -7,6 +7,7 @@ use Rattle.fs_trees.specs.declared.refusal.FsRefusal.TheVariants as no
 use Rattle.fs_laws.proofs.ChainLaws.{found}
 use Rattle.chain_changes.proofs.PutNeedLaws.{put_lost, put_over, put_new, need_over, need_new, names_counted}
 use Rattle.chain_changes.proofs.PuttingLaws.{Putting}
+use Rattle.tsd_model.proofs.ValueLaws.{some_same}
 
 -- ---- the first blocks of a chain
 
@@ -84,9 +85,6 @@ module _ (c : Client) (old : DiskView) (n : Name) (page : Page) (valid : IsValid
       let taken = subst (λ cs. IsLookupTaken c old n cs.directory page position first) (sym same) (the_taken position first at) in
       let seen : Looked old old = record { world = refl; valid = valid; ways = λ s a h. h; led = ([], refl) } in
       (chain_bytes (entry_file c old old known seen n page position first taken).0.chain, ap (λ cs. entry n (tree_of_files cs.files)) (sym same) ∙ taken_name c old old known seen n page position first taken)
-    where
-      some_same : {x y : Chains} → Some x ≡ Some y → x ≡ y
-      some_same e = cc
 
   -- no file has the name
   module _ (count : ℕ) (at : IsLookupOf c old n (Free page count)) where

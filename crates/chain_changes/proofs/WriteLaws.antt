@@ -1,14 +1,8 @@
 -- The clusters of a chain in the making are written, one after the other.
-use Rattle.std.proofs.Common.{◌≡◌, ℕ, zero, suc, ◌+◌, ◌-◌, ◌*◌, ◌^◌, ◌<◌, ◌≤◌, Bool, true, false, not, ◌||◌, ◌==◌, List, [], ◌∷◌, ◌++◌, length, refl, sym, ◌∙◌, ap, subst, arith, inl, inr, ◌⊎◌, Option, Some, Result, Ok}
+use Rattle.std.proofs.Common.{◌≡◌, ℕ, zero, suc, ◌+◌, ◌-◌, ◌*◌, ◌^◌, ◌<◌, ◌≤◌, true, false, not, ◌||◌, ◌==◌, List, [], ◌∷◌, ◌++◌, length, refl, sym, ◌∙◌, ap, subst, arith, inl, inr, ◌⊎◌, Option, Some, Result, Ok}
 use Rattle.chain_changes.proofs.Common.{and_parts, or_left, or_right, eq-eqb, not-true, length-drop, length-take, take-append_seam, take, drop, slice_index_or, replicate, option_and_then, block_len, World, contents, is_live, has_number, are_apart, filled, written, contents-other, contents-same, live-with_contents, live_below, Cluster, cluster_in, bytes_room, link_field, part_bytes, cluster_at, FsRefusal, DiskView, IsDiskSound, IsValidNow, Client, write_by, MayWrite, no_look, Leads, Went, Steps, Runs, runs_look, runs_step, then_runs, may_after, head_back, Making, IsAside, first_block, AreLinkable, AsideWith, MadeWith, ArePartsOf, WroteIn, Wrote}
 use Rattle.chain_changes.proofs.MakingLaws.{aside_now, making_written}
-
-clash : (t : Bool) → t ≡ true → t ≡ false → ⊥
-clash t p q = cc
-
-neither : (s t : Bool) → (s || t) ≡ false → (s ≡ false) × (t ≡ false)
-neither true t e = absurd (cc)
-neither false t e = (refl, e)
+use Rattle.tsd_model.proofs.ValueLaws.{clash, neither}
 
 -- ---- the bytes of one cluster
 

@@ -1,6 +1,7 @@
 //! The entry that a path speaks of.
 
-ghost use Rattle.std.specs.Prelude.{◌≡◌, ◌≢◌, [], ◌∷◌, None, Some, IfOk, IfErr, OnOk};
+ghost use Rattle.std.specs.Prelude.{◌≡◌, ◌≢◌, [], ◌∷◌, None, Some, IsTrue, IfOk, IfErr, OnOk};
+ghost use Rattle.fs_trees.specs.Names.{is_path};
 ghost use Rattle.fs_trees.specs.declared.refusal.FsRefusal.TheVariants as no;
 ghost use Rattle.fs_client.specs.May.{OnlyLooks};
 ghost use Rattle.fs_client.specs.Changing.{lookup_refusal};
@@ -22,6 +23,7 @@ pub fn look_up<'a, K: Blocks>(
 ) -> Result<(Lookup, &'a Name), FsRefusal>
     requires may { MayAsk K.told client.now (K.view disk.old) }
     requires refusal { at_root ≢ no.Device }
+    ensures named { IsTrue (is_path path.now) }
     ensures found { K.told → IfOk result (λ found. IsLookupOf client.now (K.view disk.new) found.1.now found.0) }
     ensures path { IfOk result (λ found. path.now ≡ found.1.now ∷ []) }
     ensures within { IfOk result (λ found. IsLookupWithin found.0) }

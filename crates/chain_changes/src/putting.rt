@@ -1,7 +1,7 @@
 //! New files, also in place of old ones.
 
 ghost use Rattle.std.specs.Prelude.{◌≡◌, ◌≢◌, ◌≤◌, ◌<◌, [], ◌∷◌, length, IsTrue};
-ghost use Rattle.fs_trees.specs.Names.{is_name, is_path};
+ghost use Rattle.fs_trees.specs.Names.{is_name};
 ghost use Rattle.fs_trees.specs.ChainTree.{names_max};
 ghost use Rattle.fs_trees.specs.Cluster.{entries_room};
 ghost use Rattle.fs_trees.specs.Answer.{done};
@@ -151,7 +151,6 @@ pub fn put<K: Blocks>(
     bytes: &Data,
 ) -> Result<(), FsRefusal>
     requires may { MayAsk K.told client.now (K.view disk.old) }
-    requires named { IsTrue (is_path path.now) }
     /// promise (with changes): The answer is the tree's step, and every stop leaves the tree before or after.
     ensures answer { K.told → Answers (mounted_by client.now) (K.view disk.old) (K.view disk.new)
         (ask.Put path.now bytes.now) result (λ _ answer. answer ≡ done) }

@@ -1,9 +1,7 @@
 -- Chains that stand under a root: what of them leads where.
 use Rattle.std.proofs.Common.{◌≡◌, ◌⊎◌, ℕ, ◌≤◌, Bool, true, false, not, ◌==◌, List, [], ◌∷◌, ◌++◌, length, refl, sym, ◌∙◌, ap, subst, inl, inr, Option, Some}
 use Rattle.chain_fs.proofs.Common.{and_parts, and_from, or_cases, or_left, or_right, eq-eqb, eqb-true, flat_map, option_and_then, block_len, World, has_number, are_apart, holds, is_pair, Entry, Cluster, entries_of, Link, ChainFile, Chains, cluster_at, blocks_of, links, chain_pairs, held_append, held_left, held_right, number_left, number_right, number_append, DiskView, Client, Trimmed, under_still, PlacedEntry, IsFrom, IsChainFile, AreFiles, AreEntries, placed, from_same, files_same, entries_at, named_of, IsIn, BeginsAt, AreChainsUnder}
-
-some_same : {X : Type 0} {x y : X} → Some x ≡ Some y → x ≡ y
-some_same e = cc
+use Rattle.tsd_model.proofs.ValueLaws.{some_same}
 
 -- ---- they stand after deletions
 

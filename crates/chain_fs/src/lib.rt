@@ -14,6 +14,9 @@
 //!
 //! What it promises: `ChainFs` keeps the clauses of `Files`. At every moment of a mount the tree is what it was. Only
 //! `new` takes memory, and nothing is recursive, however long a chain is.
+//!
+//! A refusal is handed on by `match` in this crate: each answer is proved case by case, and `?` would put a conversion
+//! between what was called and what is answered.
 #![tactic(auto)]
 
 mod file_system;

@@ -13,6 +13,7 @@ use Rattle.fs_trees.specs.Fields.{unpadded, Entry, entry_in, entries, entry_name
 use Rattle.fs_laws.proofs.DirectoryLaws.{names_meet}
 use Rattle.fs_fields.proofs.PadLaws.{drop-drop, entries_from}
 use Rattle.chain_layout.specs.Listed.{is_among, name_in, lesser, if_above, least_above, entry_blocks}
+use Rattle.tsd_model.proofs.ValueLaws.{clash}
 
 -- by what the entry there is
 module _ (xs : List ℕ) (amount i : ℕ) (h : i < amount) where
@@ -158,9 +159,6 @@ not_less a b c p q = elim (name_lt c a) as (λ t. name_lt c a ≡ t → t ≡ fa
     | false ↦ λ f. absurd (clash (name_lt c b) (ap (name_lt c) (sym (names_meet a b f p)) ∙ e) q)
   ] refl
 ] refl
-  where
-    clash : (t : Bool) → t ≡ true → t ≡ false → ⊥
-    clash t p q = cc
 
 pub lesser-assoc : (a b c : Option Name) → lesser (lesser a b) c ≡ lesser a (lesser b c)
 lesser-assoc None b c = refl

@@ -11,8 +11,8 @@ use crate::cluster::Cluster;
 use crate::distinct::{are_distinct, are_shared};
 use crate::names::lesser;
 use crate::room::entries_room;
-use fs_fields::{ENTRY_BYTES, is_name, next_name, number_at, trimmed};
-use fs_trees::Name;
+use fs_fields::{ENTRY_BYTES, next_name, number_at, trimmed};
+use fs_trees::{Name, is_name};
 
 /// A cluster of the directory: there is room for its entries, and each has a name.
 #[derive(Drop)]

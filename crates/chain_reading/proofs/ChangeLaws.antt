@@ -3,6 +3,7 @@ use Rattle.std.proofs.Common.{◌≡◌, ℕ, ◌+◌, ◌≤◌, Bool, true, fa
 use Rattle.chain_reading.proofs.Common.{and_parts, and_from, or_right, eq-eqb, le-leb, leb-true, flat_map-append, map, option_and_then, list_all, block_len, World, contents, has_number, are_apart, holds, with_contents, contents-other, contents-same, are_distinct, only_if, Entry, Cluster, cluster_in, entries_of, Link, chain_at, blocks_of, links, ChainFile, files_in, Chains, chain_blocks, chain_pairs, names_max, are_right, with_files, with_directory, chains_under, all_held, held_left, held_right, held_append, first_in, times, times-append, none_times, apart_times, times_apart, IsFrom, IsChain, PlacedEntry, AreFiles, placed, AreEntries, file_blocks, file_pairs, file_names, relinked, Rewrites}
 use Rattle.tsd_model.proofs.PairLaws.{all_of_held}
 use Rattle.chain_reading.proofs.ChainedLaws.{IsListing, listing_is, listing_from, chain_is, chain_from, from_same, files_same, files_split, files-append, entries_split, entries-append}
+use Rattle.tsd_model.proofs.ValueLaws.{clash}
 
 -- ---- what is there
 
@@ -103,9 +104,6 @@ pub last_held : (fs gs hs : List ChainFile) (a b : ℕ) → holds (file_pairs hs
 last_held fs gs hs a b h =
     ap (λ es. holds es a b) (file_pairs-append fs (gs ++ hs)) ∙ held_right (file_pairs fs) (file_pairs (gs ++ hs)) a b
     (ap (λ es. holds es a b) (file_pairs-append gs hs) ∙ held_right (file_pairs gs) (file_pairs hs) a b h)
-
-clash : (t : Bool) → t ≡ true → t ≡ false → ⊥
-clash t p q = cc
 
 -- a block of a list in which that one doesn't stand is another
 pub is_other : (d b : ℕ) (xs : List ℕ) → times d xs ≡ 0 → has_number xs b ≡ true → b ≡ d → ⊥

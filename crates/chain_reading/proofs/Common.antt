@@ -14,7 +14,7 @@ pub use Rattle.chain_reading.specs.Standing.{IsAhead, IsPage, IsPartOfRoot, IsRe
 pub use Rattle.chain_reading.specs.declared.finding.Lookup.TheVariants.{Free, Taken}
 pub use Rattle.chain_reading.specs.declared.walking.Page.{Page}
 pub use Rattle.disk_laws.proofs.ChangeLaws.{contents-other, contents-same}
-pub use Rattle.fs_client.proofs.ApartLaws.{all_in, each_in, is_false, yes_no}
+pub use Rattle.fs_client.proofs.ApartLaws.{all_in, each_in, is_false}
 pub use Rattle.fs_client.proofs.LookLaws.{looks_as, looks_but_refuses, looks_refused, may_again, no_look, then_looks}
 pub use Rattle.fs_client.proofs.PlaceLaws.{drop_at, drop_end, place_in}
 pub use Rattle.fs_client.proofs.SetLaws.{agrees_more, agrees_none, is_new, on_disk}
@@ -27,7 +27,7 @@ pub use Rattle.fs_client.specs.declared.client.Client.{Client}
 pub use Rattle.fs_laws.proofs.ChainLaws.{found}
 pub use Rattle.fs_laws.proofs.CountLaws.{apart_times, none_times, times, times-append, times_apart, times_none}
 pub use Rattle.fs_laws.proofs.ListLaws.{all_held, any-append, first_in, held_append, held_left, held_right, in_append, number_left, number_right}
-pub use Rattle.fs_laws.proofs.OrderLaws.{below_only, clash, entry-other, entry-same, lt_trans, with_entry-again, with_entry-commutes, without_absent}
+pub use Rattle.fs_laws.proofs.OrderLaws.{below_only, entry-other, entry-same, lt_trans, with_entry-again, with_entry-commutes, without_absent}
 pub use Rattle.fs_laws.proofs.WayLaws.{ways_lead_on}
 pub use Rattle.fs_laws.specs.Ways.{HoldsWrite}
 pub use Rattle.fs_port.specs.Calls.{IsValidNow, Stays}
@@ -52,3 +52,4 @@ pub use Rattle.tsd_model.specs.Geometry.{block_len}
 pub use Rattle.tsd_model.specs.Pairs.{holds, is_pair}
 pub use Rattle.tsd_model.specs.Step.{with_contents}
 pub use Rattle.tsd_model.specs.World.{World, are_apart, contents, has_number}
+pub use Rattle.tsd_model.proofs.ValueLaws.{clash}

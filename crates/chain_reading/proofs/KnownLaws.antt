@@ -15,6 +15,7 @@ use Rattle.chain_reading.proofs.ChangeLaws.{HasChains, has_chains, right_is, pla
 use Rattle.chain_reading.proofs.FileLaws.{tree_has, tree_lacks, others-append}
 use Rattle.chain_reading.proofs.WalkLaws.{link_of}
 use Rattle.chain_reading.proofs.ListLaws.{names_placed, names-append, own_entries, entries_unique}
+use Rattle.tsd_model.proofs.ValueLaws.{some_same}
 
 -- ---- the root
 
@@ -94,9 +95,6 @@ file_among w ps qs b e n fs are others =
     by_back : (gs hs : List ChainFile) → fs ≡ gs ++ hs → AreFiles w ps gs → AreFiles w ((b, e) ∷ qs) hs → IsAmong w b e n fs
     by_back gs [] all first rest = absurd rest
     by_back gs (h ∷ hs) all first rest = record { front = gs; file = h; back = hs; parts = all; is = rest.0; others = subst (AreOthers n) (sym (names_of_files w ps gs first)) others }
-
-some_same : {X : Type 0} {x y : X} → Some x ≡ Some y → x ≡ y
-some_same e = cc
 
 module _ (c : Client) (old new : DiskView) (known : IsKnown c old) (seen : Looked old new) (n : Name) where
   -- no file has the name

@@ -3,6 +3,7 @@ use Rattle.std.proofs.Common.{◌≡◌, ℕ, ◌+◌, true, List, [], ◌∷◌
 use Rattle.chain_reading.proofs.Common.{map, is_some, option_and_then, block_len, World, Name, Entry, entry_names, Cluster, entries_of, Link, cluster_at, DiskView, state_of, Stays, HoldsWrite, Client, Looked, OnlyLooks, lesser, if_above, least_above, lesser-assoc, IsFrom, PlacedEntry, placed, AreEntries, entries_at, IsDirectoryAhead}
 use Rattle.chain_reading.proofs.ChainedLaws.{entries-append, entries_split}
 use Rattle.chain_reading.proofs.WalkLaws.{link_of, IsWalked, walk_starts, walk_on, walk_ends}
+use Rattle.tsd_model.proofs.ValueLaws.{some_same}
 
 abbrev pub placed_names : List PlacedEntry → List Name
 placed_names ps = map (λ p. p.1.name) ps
@@ -21,9 +22,6 @@ entries_unique len [] ps qs a b = a ∙ sym b
 entries_unique len (l ∷ ls) ps qs a b =
     let same : a.0 ≡ b.0 = some_same (sym a.2 ∙ b.2) in
     a.3 ∙ (ap (λ es. placed l.block es ++ a.1) same ∙ (ap (λ rs. placed l.block b.0 ++ rs) (entries_unique len ls a.1 b.1 a.4 b.4) ∙ sym b.3))
-  where
-    some_same : {x y : List Entry} → Some x ≡ Some y → x ≡ y
-    some_same e = cc
 
 -- the clusters before a block were looked through, with these entries
 pub record IsLooking (c : Client) (now : DiskView) (len : ℕ) (ls : List Link) (ps qs : List PlacedEntry) (i b : ℕ) : Type 0 where

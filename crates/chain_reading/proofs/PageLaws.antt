@@ -3,9 +3,7 @@ use Rattle.std.proofs.Common.{◌≡◌, ℕ, ◌+◌, ◌≤◌, Bool, true, Li
 use Rattle.chain_reading.proofs.Common.{is_some, option_and_then, block_len, holds, Name, Entry, entry_names, Cluster, entries_of, Link, cluster_at, HoldsWrite, DiskView, state_of, IsValidNow, Stays, Client, Looked, OnlyLooks, may_again, IsFrom, PlacedEntry, placed, AreEntries, dir_cluster, entries_at, IsAhead, IsRead, IsPage, Page, placed_names, ArePagesAhead}
 use Rattle.chain_reading.proofs.WalkLaws.{link_of, walk_starts, walk_on, first_link}
 use Rattle.chain_reading.proofs.ListLaws.{names_placed, names-append, own_entries}
-
-some_same : {X : Type 0} {x y : X} → Some x ≡ Some y → x ≡ y
-some_same e = cc
+use Rattle.tsd_model.proofs.ValueLaws.{some_same}
 
 -- what the block's cluster is, and what is behind it
 pub record FirstPage (c : Client) (v : DiskView) (b : ℕ) (ls : List Link) (ps : List PlacedEntry) (cl : Cluster) (es : List Entry) : Type 0 where

@@ -1,11 +1,12 @@
 -- Names that are put among ascending ones.
-use Rattle.std.proofs.Common.{◌≡◌, ℕ, zero, suc, ◌+◌, ◌-◌, ◌<◌, ◌≤◌, true, false, not, cond, ◌&&◌, nat_le, List, [], ◌∷◌, ◌++◌, length, insert, refl, sym, ◌∙◌, ap, subst, arith, append_assoc, Some, take_all, length-append, slice_index_or, ◌==◌}
-use Rattle.chain_reading.proofs.Common.{and_parts, leb-true, drop, list_all, slice_get, take, Name, name_lt}
+use Rattle.std.proofs.Common.{◌≡◌, ℕ, zero, suc, ◌+◌, ◌-◌, ◌<◌, ◌≤◌, true, false, cond, ◌&&◌, List, [], ◌∷◌, ◌++◌, length, insert, refl, sym, ◌∙◌, ap, subst, arith, append_assoc, Some, take_all, length-append, slice_index_or, ◌==◌}
+use Rattle.chain_reading.proofs.Common.{and_parts, drop, list_all, slice_get, take, Name, name_lt}
 use Rattle.std.proofs.lemmas.Bool.Decides.{nat_tests}
 use Rattle.std.proofs.lemmas.List.{take-append-le}
-use Rattle.fs_trees.specs.Names.{is_name, is_name_byte, is_reserved, name_max}
+use Rattle.fs_trees.specs.Names.{is_name}
 use Rattle.chain_reading.specs.Nexts.{least_names, with_name}
 use Rattle.chain_reading.proofs.NamesLaws.{one_more}
+use Rattle.fs_laws.proofs.AtLaws.{name_fits}
 
 -- ---- a place in the list
 
@@ -100,14 +101,6 @@ module _ (m : Name) (xs : List Name) (p : ℕ) (so_far : with_name m xs ≡ take
   comes_last h = so_far ∙ (ap (λ ys. take p xs ++ with_name m ys) (drop_all xs p h) ∙ ap (λ ys. ys ++ m ∷ []) (take_whole xs p h))
 
 -- ---- the names of a cluster
-
-name_fits : (n : Name) → is_name n ≡ true → length n ≤ 28
-name_fits n h =
-    let a = nat_le 1 (length n) in
-    let b = nat_le (length n) name_max in
-    let front = (and_parts (a && b && list_all is_name_byte n) (not (is_reserved n)) h).0 in
-    let short : b ≡ true = (and_parts a b (and_parts (a && b) (list_all is_name_byte n) front).0).1 in
-    leb-true (length n) name_max short
 
 -- each of these names fits
 pub each_fits : (ns : List Name) (p : ℕ) (m : Name) → list_all is_name ns ≡ true → slice_get ns p ≡ Some m → length m ≤ 28

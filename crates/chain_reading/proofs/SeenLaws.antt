@@ -1,6 +1,6 @@
 -- A cluster that is right by itself.
 use Rattle.std.proofs.Common.{◌≡◌, ℕ, ◌≤◌, Bool, true, false, ◌&&◌, nat_le, List, refl, sym, ◌∙◌, ap, subst, Option, Some, None}
-use Rattle.chain_reading.proofs.Common.{and_parts, and_from, le-leb, IfSome, IfNone, option_and_then, option_map_or, block_len, World, only_if, Entry, Cluster, entries_of, bytes_room, cluster_at, are_held, yes_no, is_false, next_blocks, cluster_of, block_len_of, part_cluster, entries_at, has_part, IsPage, IsPartOfRoot, Page, is_part_filled, is_part_right, if_part, part_seen, ListedCluster, blocks_listed, if_page, page_of, page_seen, listed_in}
+use Rattle.chain_reading.proofs.Common.{and_parts, and_from, le-leb, IfSome, IfNone, option_and_then, option_map_or, block_len, World, only_if, Entry, Cluster, entries_of, bytes_room, cluster_at, are_held, clash, is_false, next_blocks, cluster_of, block_len_of, part_cluster, entries_at, has_part, IsPage, IsPartOfRoot, Page, is_part_filled, is_part_right, if_part, part_seen, ListedCluster, blocks_listed, if_page, page_of, page_seen, listed_in}
 use Rattle.chain_reading.specs.declared.walking.Part.{Part}
 use Rattle.chain_reading.proofs.ListLaws.{own_entries}
 
@@ -51,14 +51,14 @@ no_part w first b none = by_cluster (cluster_at w b) none
 module _ (w : World) (first : Bool) (b : ℕ) (c : Cluster) (at : cluster_at w b ≡ Some c) where
   pub unfilled_part : is_part_filled (room_of w) first c ≡ false → ◌≡◌ {A = Option Cluster} (part_seen w first b) None
   unfilled_part e = ap (option_and_then (if_part w first b)) at
-      ∙ ap (λ t. only_if t (λ _. Some c)) (is_false (is_part_right w first b c) (λ h. yes_no (is_part_filled (room_of w) first c) (filled h) e))
+      ∙ ap (λ t. only_if t (λ _. Some c)) (is_false (is_part_right w first b c) (λ h. clash (is_part_filled (room_of w) first c) (filled h) e))
     where
       filled : is_part_right w first b c ≡ true → is_part_filled (room_of w) first c ≡ true
       filled h = (and_parts (nat_le c.used (room_of w)) _ (and_parts (nat_le c.used (room_of w) && is_part_filled (room_of w) first c) (are_held w b (next_blocks c.next)) h).0).1
 
   pub unheld_part : are_held w b (next_blocks c.next) ≡ false → ◌≡◌ {A = Option Cluster} (part_seen w first b) None
   unheld_part e = ap (option_and_then (if_part w first b)) at
-      ∙ ap (λ t. only_if t (λ _. Some c)) (is_false (is_part_right w first b c) (λ h. yes_no (are_held w b (next_blocks c.next)) (held h) e))
+      ∙ ap (λ t. only_if t (λ _. Some c)) (is_false (is_part_right w first b c) (λ h. clash (are_held w b (next_blocks c.next)) (held h) e))
     where
       held : is_part_right w first b c ≡ true → are_held w b (next_blocks c.next) ≡ true
       held h = (and_parts (nat_le c.used (room_of w) && is_part_filled (room_of w) first c) (are_held w b (next_blocks c.next)) h).1

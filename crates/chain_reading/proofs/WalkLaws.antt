@@ -1,6 +1,7 @@
 -- A chain that is read cluster by cluster.
 use Rattle.std.proofs.Common.{◌≡◌, ℕ, ◌≤◌, ◌<◌, true, false, ◌&&◌, ◌==◌, nat_lt, nat_le, List, [], ◌∷◌, ◌++◌, length, refl, sym, ◌∙◌, ap, subst, arith, append_assoc, length-append, Option, Some, None}
 use Rattle.chain_reading.proofs.Common.{and_parts, and_from, or_left, or_right, eq-eqb, eqb-true, le-leb, option_map_or, block_len, World, holds, is_pair, Cluster, bytes_room, Link, cluster_at, blocks_of, links, is_filled, HoldsWrite, ways_lead_on, DiskView, state_of, Stays, Client, shown_at, Looked, IsFrom, has_part, IsAhead}
+use Rattle.tsd_model.proofs.ValueLaws.{some_same}
 
 abbrev pub link_of : ℕ → Cluster → Link
 link_of b cl = record { block = b; cluster = cl }
@@ -23,9 +24,6 @@ first_link w b (l ∷ ls) cl is at =
     let cluster : cl ≡ l.cluster = some_same same in
     (ls, ap (λ x. record { block = x; cluster = l.cluster } ∷ ls) (sym here) ∙ ap (λ x. record { block = b; cluster = x } ∷ ls) (sym cluster), ap_from cluster is.2)
   where
-    some_same : {x y : Cluster} → Some x ≡ Some y → x ≡ y
-    some_same e = cc
-
     ap_from : {x y : Cluster} → x ≡ y → IsFrom w y.next ls → IsFrom w x.next ls
     ap_from e h = subst (λ z. IsFrom w z.next ls) (sym e) h
 

@@ -5,12 +5,10 @@ use Rattle.chain_reading.proofs.ChainedLaws.{chain_from, file_from as file_read,
 use Rattle.chain_reading.proofs.ChangeLaws.{file_blocks-append, file_pairs-append}
 use Rattle.chain_reading.proofs.SeenLaws.{room_of, PartIs, is_part, PageIs, is_page}
 use Rattle.chain_reading.proofs.RightLaws.{begins_filled, file_right, files_right, as_many}
+use Rattle.tsd_model.proofs.ValueLaws.{some_same}
 
 abbrev IsNone : Option (List ℕ) → Type 0
 IsNone o = ◌≡◌ {A = Option (List ℕ)} o None
-
-some_same : {X : Type 0} {x y : X} → Some x ≡ Some y → x ≡ y
-some_same e = cc
 
 some_not_none : (s : List ℕ) (o : Option (List ℕ)) → o ≡ Some s → IsNone o → ⊥
 some_not_none s None e h = cc

@@ -15,6 +15,9 @@
 //! and are refused beyond that by a fault alone. The laws of `deciding` say what the write that decides a change
 //! leaves: the tree with that entry set, added or taken out, or with the bytes added. Nothing is recursive, however
 //! long a chain is, and nothing takes memory.
+//!
+//! A refusal is handed on by `match` in this crate: each answer is proved case by case, and `?` would put a conversion
+//! between what was called and what is answered.
 #![tactic(auto)]
 
 mod comparing;

@@ -1,30 +1,17 @@
 -- What one request of a core leaves, as an ask of a disk of blocks.
 use Rattle.std.proofs.Common.{◌≡◌, ◌⊎◌, inl, inr, ⊎_elim, ℕ, ◌≤◌, true, List, refl, sym, ◌∙◌, ap, subst, arith}
-use Rattle.std.specs.Prelude.{Some, Result, Ok, Err, IfOk, OnOk}
-use Rattle.tsd_model.specs.World.{World}
+use Rattle.core_blocks.proofs.Common.{Core, Counts, Err, Geometry, IfOk, Image, IsEitherSide, IsSound, LeavesPart, LeavesWorldsOnly, Ok, OnOk, PlaceKind, Result, SameSize, SaysWorld, Some, Stays, World, behind, core_view, no_first, part_at_end, says_one, second_moment_of, state_on, told_size, told_state, told_world}
 use Rattle.tsd_model.specs.Sessions.{is_open}
-use Rattle.tsd_model.specs.declared.geometry.Geometry.{Geometry}
-use Rattle.tsd_model.specs.declared.requests.PlaceKind.{PlaceKind}
 use Rattle.tsd_model.specs.declared.requests.Request.{Request}
 use Rattle.tsd_model.specs.declared.replies.Reply.{Reply}
-use Rattle.image_device.specs.View.{IsSound, View as DeviceView}
-use Rattle.image_device.specs.Runs.{LeavesPart}
-use Rattle.image_device.proofs.Parts.{part_at_end}
-use Rattle.image_layout.specs.Image.{Image}
-use Rattle.image_world.specs.Behind.{behind}
+use Rattle.image_device.specs.View.{View as DeviceView}
 use Rattle.volume_laws.specs.Moments.{LeavesEither, StandsForEither}
 use Rattle.volume_laws.specs.Volume.{world_on}
 use Rattle.volume_laws.specs.Writes.{Works}
-use Rattle.volume_laws.proofs.QuestionLaws.{told_size}
 use Rattle.fs_port.specs.View.{Left}
 use Rattle.tsd_model.specs.Needs.{is_steady}
-use Rattle.fs_port.specs.Calls.{Counts, IsEitherSide, LeavesWorldsOnly, Stays}
 use Rattle.fs_port.proofs.PlainLaws.{steady_records, steady_open}
-use Rattle.tsd_core.specs.Core.{Core, state_on, told_state, told_world}
-use Rattle.tsd_core.specs.Work.{SameSize}
 use Rattle.tsd_core.specs.Applying.{IsToldAnswer, next_world}
-use Rattle.core_blocks.specs.CoreView.{SaysWorld, core_view}
-use Rattle.core_blocks.specs.ViewLaws.{no_first, says_one, second_moment_of}
 
 module _ (lenders : ℕ × ℕ) (kind : PlaceKind) (old new : Core) (v w : DeviceView) (q : Request) where
   -- an image of the world before or of the one after says that world

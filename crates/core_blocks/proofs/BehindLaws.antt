@@ -1,25 +1,10 @@
 -- What lies behind an image, from call to call.
 use Rattle.std.proofs.Common.{◌≡◌, ℕ, List, refl, sym, ◌∙◌, ap, subst}
-use Rattle.std.specs.Prelude.{Result}
-use Rattle.tsd_model.specs.World.{World}
-use Rattle.tsd_model.specs.declared.geometry.Geometry.{Geometry}
-use Rattle.tsd_model.specs.declared.requests.PlaceKind.{PlaceKind}
-use Rattle.image_device.specs.View.{IsSound, View}
-use Rattle.image_device.specs.Runs.{IsFirm, LeavesPart, PutsAll}
-use Rattle.image_device.proofs.Moments.{joined}
-use Rattle.image_device.proofs.Parts.{part_at_end, part_put, part_stays, part_then}
-use Rattle.image_layout.specs.Image.{Image}
+use Rattle.core_blocks.proofs.Common.{Core, Counts, Geometry, Image, IsCoreAt, IsFirm, IsSound, LeavesBehind, LeavesPart, LeavesWorldsOnly, PlaceKind, PutsAll, Result, SameSize, View, World, behind, core_view, joined, part_at_end, part_put, part_stays, part_then, size_of_image, told_size, told_world, world_of}
 use Rattle.intent_journal.specs.Home.{home}
-use Rattle.image_world.specs.Behind.{LeavesBehind, behind, size_of_image}
-use Rattle.image_world.specs.Stands.{world_of}
 use Rattle.image_world.specs.Tables.{Tables, tables_of}
 use Rattle.image_world.proofs.WorldLaws.{told_like}
-use Rattle.fs_port.specs.Calls.{Counts, LeavesWorldsOnly}
-use Rattle.tsd_core.specs.Core.{Core, IsCoreAt, told_world}
-use Rattle.tsd_core.specs.Work.{SameSize}
-use Rattle.volume_laws.proofs.QuestionLaws.{told_size}
 use Rattle.core_blocks.specs.Behind.{KeepsBehind}
-use Rattle.core_blocks.specs.CoreView.{core_view}
 use Rattle.core_blocks.proofs.ImageLaws.{behind_left}
 
 -- nothing was called

@@ -1,21 +1,9 @@
 -- What calls of a file system leave, said of the images of the device below.
 use Rattle.std.proofs.Common.{◌≡◌, ◌⊎◌, inl, inr, ⊎_elim, ℕ, ◌+◌, ◌≤◌, List, refl, ap, subst, arith}
-use Rattle.std.specs.Prelude.{Option, Some, None}
-use Rattle.tsd_model.specs.World.{World}
-use Rattle.tsd_model.specs.declared.geometry.Geometry.{Geometry}
-use Rattle.tsd_model.specs.declared.requests.PlaceKind.{PlaceKind}
-use Rattle.image_device.specs.View.{IsSound, View as DeviceView}
-use Rattle.image_device.specs.Runs.{IsFirm, LeavesOnly, LeavesPart}
-use Rattle.image_device.proofs.Moments.{firm_image}
-use Rattle.image_layout.specs.Image.{Image}
-use Rattle.image_world.specs.Behind.{behind}
-use Rattle.image_world.specs.Stands.{Stands}
+use Rattle.core_blocks.proofs.Common.{Core, Geometry, HasLeft, HasLeftOrAlike, Image, IsFirm, IsSound, LeavesOnly, LeavesPart, LeavesWorldsOnly, None, Option, PlaceKind, SaysWorld, Some, Stands, World, behind, core_view, firm_image, first_moment_of, no_first, second_moment_of, told_world}
+use Rattle.image_device.specs.View.{View as DeviceView}
 use Rattle.image_world.proofs.AnswerLaws.{world_or_fault}
 use Rattle.image_world.proofs.FaultLaws.{no_fault}
-use Rattle.fs_port.specs.Calls.{LeavesWorldsOnly}
-use Rattle.tsd_core.specs.Core.{Core, told_world}
-use Rattle.core_blocks.specs.CoreView.{HasLeft, HasLeftOrAlike, SaysWorld, core_view}
-use Rattle.core_blocks.specs.ViewLaws.{first_moment_of, no_first, second_moment_of}
 
 -- each image says something
 says_some : (x : Image) → (o : Option World) × SaysWorld x o

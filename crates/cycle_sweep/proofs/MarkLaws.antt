@@ -1,5 +1,5 @@
 -- Marking marks what is reached.
-use Rattle.std.proofs.Common.{◌≡◌, ℕ, suc, ◌+◌, ◌<◌, ◌≤◌, Bool, true, false, not, ◌&&◌, ◌||◌, ◌==◌, List, [], ◌∷◌, ◌++◌, length, replicate, refl, sym, ◌∙◌, ap, subst, arith, inl, inr}
+use Rattle.std.proofs.Common.{◌≡◌, ℕ, suc, ◌+◌, ◌<◌, ◌≤◌, Bool, true, false, not, ◌&&◌, ◌||◌, ◌==◌, List, [], ◌∷◌, ◌++◌, length, replicate, sym, ◌∙◌, ap, subst, arith, inl, inr}
 use Rattle.std.proofs.lemmas.Bool.{eq-eqb, eqb-true, ne_eqb, and_parts, and_from, or_cases, or_left, or_right, or_parts, both_ways, cases_eq, cases_lt, cases_Bool}
 use Rattle.std.proofs.lemmas.Bool.Decides.{nat_tests}
 use Rattle.std.proofs.lemmas.List.{get_or-set_same, get_or-set_other, get_or-replicate, get_or_past, length-replicate, length-set, length-append}
@@ -17,6 +17,7 @@ use Rattle.graph_laws.proofs.MarkingLaws.{marked_more}
 use Rattle.graph_laws.proofs.SweepLaws.{marks_are_reach, target_reached, primary_reached}
 use Rattle.reclaim.proofs.HeldLaws.{has-push}
 use Rattle.cycle_sweep.specs.Marked.{is_marked, AreMarksAt, AreMarks, count_marked}
+use Rattle.tsd_model.proofs.ValueLaws.{and_false, or_false}
 
 -- ---- one mark more
 
@@ -35,8 +36,8 @@ marked_at w old new before after first open_ from t marks waiting is marking = r
     | inl was ↦ still b (marking.waits b was)
     | inr here ↦ marks b ∙ or_right (is_marked old b) (b == t) (and_parts (b == t) (not (is_marked old t)) here).0
   ];
-  done = λ a b held h none out.
-      let apart = or_parts (has_number before a) ((a == t) && not (is_marked old t)) (sym (waiting a) ∙ none) in
+  done = λ a b held h and_false out.
+      let apart = or_parts (has_number before a) ((a == t) && not (is_marked old t)) (sym (waiting a) ∙ and_false) in
       still b (marking.done a b held (was a h apart.1) apart.0 out);
 }
   where
@@ -76,9 +77,9 @@ marked_target w old new before after first o from t raw is held least marks wait
       sound = more.sound;
       primaries = more.primaries;
       waits = more.waits;
-      done = λ a b holds_ marked none out. elim (cases_eq b t) [
+      done = λ a b holds_ marked and_false out. elim (cases_eq b t) [
         | inl same ↦ marks b ∙ or_right (is_marked old b) (b == t) (eq-eqb b t same)
-        | inr other ↦ more.done a b holds_ marked none (λ at. elim (cases_lt b from) [
+        | inr other ↦ more.done a b holds_ marked and_false (λ at. elim (cases_lt b from) [
           | inl below ↦ below
           | inr above ↦ let le = least b (subst (λ k. holds w.pairs k b ≡ true) at holds_) above in let lt = out at in absurd (other (omega arith))
         ])
@@ -91,9 +92,9 @@ opened w marked old new first o raw last marking = record {
   sound = marking.sound;
   primaries = marking.primaries;
   waits = λ b h. marking.waits b (ap (λ xs. has_number xs b) last ∙ (has-push new o b ∙ or_left (has_number new b) (o == b) h));
-  done = λ a b held is none out. elim (cases_eq a o) [
+  done = λ a b held is and_false out. elim (cases_eq a o) [
     | inl same ↦ absurd (omega (arith, out same))
-    | inr other ↦ marking.done a b held is (ap (λ xs. has_number xs a) last ∙ (has-push new o a ∙ (ap (λ t. t || (o == a)) none ∙ ne_eqb o a (λ e. other (sym e))))) (λ e. absurd (past a b held e))
+    | inr other ↦ marking.done a b held is (ap (λ xs. has_number xs a) last ∙ (has-push new o a ∙ (ap (λ t. t || (o == a)) and_false ∙ ne_eqb o a (λ e. other (sym e))))) (λ e. absurd (past a b held e))
   ];
 }
   where
@@ -106,15 +107,15 @@ closed w marked waiting first o from all marking = record {
   sound = marking.sound;
   primaries = marking.primaries;
   waits = marking.waits;
-  done = λ a b held is none out. marking.done a b held is none (λ at. all b (subst (λ k. holds w.pairs k b ≡ true) at held));
+  done = λ a b held is and_false out. marking.done a b held is and_false (λ at. all b (subst (λ k. holds w.pairs k b ≡ true) at held));
 }
 
 -- no block waits any longer
 pub all_marked : (w : World) (marked : List Bool) (waiting : List ℕ) → IsRawGraph w → waiting ≡ [] → AreMarks w marked waiting w.geometry.primaries → (b : ℕ) → is_marked marked b ≡ has_number (reach w) b
-all_marked w marked waiting raw none marking = marks_are_reach w (is_marked marked) marking.sound (record {
+all_marked w marked waiting raw and_false marking = marks_are_reach w (is_marked marked) marking.sound (record {
   first = marking.primaries;
   on =
-      (λ a b held is. marking.done a b held is (ap (λ xs. has_number xs a) none) (λ e. absurd (past a b held e)));
+      (λ a b held is. marking.done a b held is (ap (λ xs. has_number xs a) and_false) (λ e. absurd (past a b held e)));
 })
   where
     past : (a b : ℕ) → holds w.pairs a b ≡ true → a ≡ w.geometry.blocks → ⊥
@@ -122,17 +123,17 @@ all_marked w marked waiting raw none marking = marks_are_reach w (is_marked mark
 
 -- nothing is marked yet
 pub none_marked : (w : World) (marked : List Bool) (waiting : List ℕ) → ((b : ℕ) → is_marked marked b ≡ false) → waiting ≡ [] → AreMarks w marked waiting 0
-none_marked w marked waiting clear none = record {
+none_marked w marked waiting clear and_false = record {
   sound = λ b is. absurd (both_ways (is_marked marked b) (clear b) is);
   primaries = λ b below. absurd (omega arith);
-  waits = λ b is. absurd (nothing (ap (λ xs. has_number xs b) (sym none) ∙ is));
+  waits = λ b is. absurd (nothing (ap (λ xs. has_number xs b) (sym and_false) ∙ is));
   done = λ a b held is out e. absurd (both_ways (is_marked marked a) (clear a) is);
 }
   where
     nothing : false ≡ true → ⊥
     nothing e = cc
 
--- where no mark is left, none is on a block
+-- where no mark is left, and_false is on a block
 pub unmarked : (n b : ℕ) → ◌≡◌ {A = Bool} (is_marked (replicate n false) b) false
 unmarked n b = elim (cases_lt b n) [
   | inl h ↦ get_or-replicate n b false false h
@@ -144,12 +145,8 @@ unmarked n b = elim (cases_lt b n) [
 pub marked-set : (marked : List Bool) (t : ℕ) → t < length marked → (b : ℕ) → is_marked (slice_set marked t true) b ≡ (is_marked marked b || (b == t))
 marked-set marked t within b = elim (cases_eq b t) [
   | inl same ↦ ap (is_marked (slice_set marked t true)) same ∙ (get_or-set_same marked t true false within ∙ sym (or_right (is_marked marked b) (b == t) (eq-eqb b t same)))
-  | inr other ↦ get_or-set_other marked t b true false other ∙ (sym (or_none (is_marked marked b)) ∙ ap (λ s. is_marked marked b || s) (sym (ne_eqb b t other)))
+  | inr other ↦ get_or-set_other marked t b true false other ∙ (sym (or_false (is_marked marked b)) ∙ ap (λ s. is_marked marked b || s) (sym (ne_eqb b t other)))
 ]
-  where
-    or_none : (s : Bool) → (s || false) ≡ s
-    or_none true = refl
-    or_none false = refl
 
 pub count-set : (marked : List Bool) (t : ℕ) → t < length marked → is_marked marked t ≡ false → count_marked (slice_set marked t true) ≡ suc (count_marked marked)
 count-set marked t within new =
@@ -175,23 +172,11 @@ waiting-push marked t waiting new b = has-push waiting t b ∙ ap (λ s. has_num
 pub marked_already : (marked : List Bool) (t : ℕ) → is_marked marked t ≡ true → (b : ℕ) → is_marked marked b ≡ (is_marked marked b || (b == t))
 marked_already marked t is b = elim (cases_eq b t) [
   | inl same ↦ let here : is_marked marked b ≡ true = ap (is_marked marked) same ∙ is in here ∙ sym (or_left (is_marked marked b) (b == t) here)
-  | inr other ↦ sym (or_none (is_marked marked b)) ∙ ap (λ s. is_marked marked b || s) (sym (ne_eqb b t other))
+  | inr other ↦ sym (or_false (is_marked marked b)) ∙ ap (λ s. is_marked marked b || s) (sym (ne_eqb b t other))
 ]
-  where
-    or_none : (s : Bool) → (s || false) ≡ s
-    or_none true = refl
-    or_none false = refl
 
 pub waiting_already : (marked : List Bool) (t : ℕ) (waiting : List ℕ) → is_marked marked t ≡ true → (b : ℕ) → has_number waiting b ≡ (has_number waiting b || ((b == t) && not (is_marked marked t)))
-waiting_already marked t waiting is b = sym (ap (λ m. has_number waiting b || ((b == t) && not m)) is ∙ (ap (λ s. has_number waiting b || s) (none (b == t)) ∙ or_none (has_number waiting b)))
-  where
-    none : (s : Bool) → (s && false) ≡ false
-    none true = refl
-    none false = refl
-
-    or_none : (s : Bool) → (s || false) ≡ s
-    or_none true = refl
-    or_none false = refl
+waiting_already marked t waiting is b = sym (ap (λ m. has_number waiting b || ((b == t) && not m)) is ∙ (ap (λ s. has_number waiting b || s) (and_false (b == t)) ∙ or_false (has_number waiting b)))
 
 pub count_within : (marked : List Bool) → count_marked marked ≤ length marked
 count_within marked = omega (arith, length-filter_le (is_marked marked) (range_with_len 0 (length marked)), length-range 0 (length marked))

@@ -23,6 +23,7 @@ use Rattle.reclaim.specs.Stepping.{TakesAll}
 use Rattle.reclaim.proofs.StepLaws.{few_of}
 use Rattle.reclaim.proofs.TargetLaws.{first_targets_taken, takes_all, takes_all_only}
 use Rattle.cycle_sweep.specs.Sweep.{MaySweep, AreSweptBy, IsStuck, is_last}
+use Rattle.tsd_model.proofs.ValueLaws.{and_false}
 
 -- but for its own pair no pair leads to the block exactly where the count says so
 module _ (w : World) (b : ℕ) (raw : IsRawGraph w) where
@@ -40,14 +41,10 @@ module _ (w : World) (b : ℕ) (raw : IsRawGraph w) where
   alone_last true held alone = eq-eqb (count_to w.pairs b) 1 (own_count (held refl) ∙ ap (λ n. 1 + n) (none_pass (λ e. (e.1 == b) && not (is_pair b b e)) w.pairs (λ a c is. elim (cases_eq c b) [
     | inr other ↦ ap (λ s. s && not (is_pair b b (a, c))) (ne_eqb c b other)
     | inl same ↦ elim (cases_eq a b) [
-      | inl self ↦ ap (λ s. (c == b) && not s) (and_from (a == b) (c == b) (eq-eqb a b self) (eq-eqb c b same)) ∙ and_none (c == b)
+      | inl self ↦ ap (λ s. (c == b) && not s) (and_from (a == b) (c == b) (eq-eqb a b self) (eq-eqb c b same)) ∙ and_false (c == b)
       | inr apart ↦ absurd (both_ways (holds w.pairs a b) (alone a (λ _. apart)) (subst (λ k. holds w.pairs a k ≡ true) same is))
     ]
   ])))
-    where
-      and_none : (s : Bool) → (s && false) ≡ false
-      and_none true = refl
-      and_none false = refl
   alone_last false held alone = eq-eqb (count_to w.pairs b) 0 (alone_count w.pairs b (λ a. alone a (λ e. absurd (no e))))
     where
       no : false ≡ true → ⊥
@@ -62,17 +59,13 @@ module _ (w : World) (b : ℕ) (raw : IsRawGraph w) (ts : List ℕ) (all : Bool)
   next : (a c : ℕ) → holds (without_pointers w b ts).pairs a c ≡ (holds w.pairs a c && not ((a == b) && has_number ts c))
   next a c = holds-without_pointers b ts w a c
 
-  and_none : (s : Bool) → (s && false) ≡ false
-  and_none true = refl
-  and_none false = refl
-
   pub freed_alone : (all && is_last (count_to w.pairs b) (has_number ts b)) ≡ true → IsAlone (without_pointers w b ts) b
   freed_alone freed =
       let parts = and_parts all (is_last (count_to w.pairs b) (has_number ts b)) freed in
       record {
         out = nothing_out w b ts (takes parts.0);
         into = λ a. next a b ∙ elim (cases_Bool ((a == b) && has_number ts b)) [
-          | inl gone ↦ ap (λ s. holds w.pairs a b && not s) gone ∙ and_none (holds w.pairs a b)
+          | inl gone ↦ ap (λ s. holds w.pairs a b && not s) gone ∙ and_false (holds w.pairs a b)
           | inr left ↦ ap (λ h. h && not ((a == b) && has_number ts b)) (last_alone w b raw (has_number ts b) own_held parts.1 a
               (λ own same. both_ways ((a == b) && has_number ts b) left (and_from (a == b) (has_number ts b) (eq-eqb a b same) own)))
         ];
@@ -82,7 +75,7 @@ module _ (w : World) (b : ℕ) (raw : IsRawGraph w) (ts : List ℕ) (all : Bool)
   alone_freed alone = and_from all (is_last (count_to w.pairs b) (has_number ts b))
       (only (λ c held. elim (cases_Bool (has_number ts c)) [
         | inl in_ ↦ in_
-        | inr out ↦ absurd (both_ways (holds (without_pointers w b ts).pairs b c) (alone.out c) (next b c ∙ and_from (holds w.pairs b c) (not ((b == b) && has_number ts c)) held (ap (λ s. not ((b == b) && s)) out ∙ ap not (and_none (b == b)))))
+        | inr out ↦ absurd (both_ways (holds (without_pointers w b ts).pairs b c) (alone.out c) (next b c ∙ and_from (holds w.pairs b c) (not ((b == b) && has_number ts c)) held (ap (λ s. not ((b == b) && s)) out ∙ ap not (and_false (b == b)))))
       ]))
       (alone_last w b raw (has_number ts b) own_held (λ a other. false_from_ne_true (holds w.pairs a b) (λ held.
       both_ways (holds (without_pointers w b ts).pairs a b) (alone.into a) (next a b ∙ and_from (holds w.pairs a b) (not ((a == b) && has_number ts b)) held

@@ -10,7 +10,7 @@ pub use Rattle.std.proofs.lemmas.List.FromFn.{get_or-enumerate_from, get_or-map-
 pub use Rattle.std.specs.List.{enumerate_from, list_all, list_any, range_with_len}
 pub use Rattle.std.specs.Option.{option_map_or}
 pub use Rattle.std.specs.Prelude.{IfSome, count_by, filter, is_none, is_some, map, option_map, replicate, slice_get, slice_index_or, slice_set, unwrap_or}
-pub use Rattle.tsd_model.proofs.PairLaws.{all_of_held, and_false, holds-filter, holds-with_pair, is_rising-filter, is_rising-with_pair, one_fails}
+pub use Rattle.tsd_model.proofs.PairLaws.{all_of_held, holds-filter, holds-with_pair, is_rising-filter, is_rising-with_pair, one_fails}
 pub use Rattle.tsd_model.proofs.SessionLaws.{held-map, held-with_other, held-with_same, held_keeps, length-with_held, no_held}
 pub use Rattle.tsd_model.proofs.SizeLaws.{contents-restricted, length-filter_le, length-with_pair, sized-restricted, sized-with_pointer, sized-without_pointer}
 pub use Rattle.tsd_model.specs.Attained.{attained, attained_from, led_level, record_level, shown_level}
@@ -38,3 +38,4 @@ pub use Rattle.tsd_model.specs.declared.requests.Hint.{Hint}
 pub use Rattle.tsd_model.specs.declared.requests.Level.{Level}
 pub use Rattle.tsd_model.specs.declared.requests.PlaceKind.{PlaceKind}
 pub use Rattle.tsd_model.specs.declared.requests.Request.{Request}
+pub use Rattle.tsd_model.proofs.ValueLaws.{and_false}

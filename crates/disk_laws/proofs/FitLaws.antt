@@ -109,7 +109,7 @@ fitted_fits w v long h = record {
 
 -- ---- the geometry stays
 
-geometry-new_blocks : (a : ℕ) (bs : List ℕ) (w : World) → (with_new_blocks w a bs).geometry ≡ w.geometry
+pub geometry-new_blocks : (a : ℕ) (bs : List ℕ) (w : World) → (with_new_blocks w a bs).geometry ≡ w.geometry
 geometry-new_blocks a [] w = refl
 geometry-new_blocks a (b ∷ bs) w = geometry-new_blocks a bs (with_pointer (with_contents w b (zeros w)) a b)
 

@@ -9,6 +9,7 @@ use Rattle.disk_laws.proofs.FitLaws.{HasOrigins, origins-raised_by}
 use Rattle.disk_laws.proofs.RunLaws.{answer_valid, answer_fits, fits_have_origins, answer_geometry}
 use Rattle.disk_laws.proofs.FreshLaws.{no_sessions_fit}
 use Rattle.disk_laws.proofs.HeldLaws.{not_bare, level-fitted, level-dropped_from, IsReady, NeedsBelow, level-raised_for}
+use Rattle.tsd_model.proofs.ValueLaws.{and_false}
 
 -- ---- the needs of a request that passes
 
@@ -170,10 +171,6 @@ module _ (w : World) (v : Sessions) (valid : IsValid w) (fits : Fits w v) (s o a
       → StepLevel (record { world = w; sessions = v }) q
   stays_level q p r = unchanged (is_live w a) (is_end_of q s || is_set_cap_of q o) (is_granted w v q) (is_of_session q s) (list_any (attains_at (record { world = w; sessions = v }) s o a l) (needs q)) (level_le l (level_from v s o a)) alive p r
 
-  and_never : (x : Bool) → (x && false) ≡ false
-  and_never true = refl
-  and_never false = refl
-
   pub answer_level : (kind : PlaceKind) (q : Request) (want : Bool) → StepLevel (answer kind (record { world = w; sessions = v }) q want).state q
   answer_level kind q want = elim (verdict w v q) as (λ x. verdict w v q ≡ x → StepLevel (answer kind (record { world = w; sessions = v }) q want).state q) [
     | Some r ↦ λ e. subst (λ out. StepLevel out.state q) (sym (refused_answer kind (record { world = w; sessions = v }) q want r e))
@@ -183,7 +180,7 @@ module _ (w : World) (v : Sessions) (valid : IsValid w) (fits : Fits w v) (s o a
       | inl done ↦ subst (λ out. StepLevel out.state q) (sym done) (granted_level kind q e)
       | inr lacking ↦ subst (λ out. StepLevel out.state q) (sym lacking.0)
           (subst (StepLevel (record { world = w; sessions = v })) (sym lacking.1.1)
-          (stays_level (ask.Begin lacking.1.0) (and_never (is_granted w v (ask.Begin lacking.1.0))) (and_never (is_granted w v (ask.Begin lacking.1.0) && is_of_session (ask.Begin lacking.1.0) s))))
+          (stays_level (ask.Begin lacking.1.0) (and_false (is_granted w v (ask.Begin lacking.1.0))) (and_false (is_granted w v (ask.Begin lacking.1.0) && is_of_session (ask.Begin lacking.1.0) s))))
     ]
   ] refl
 

@@ -6,6 +6,7 @@ use Rattle.tsd_model.specs.declared.requests.Request.TheVariants as ask
 use Rattle.disk_laws.specs.Isolation.{renews}
 use Rattle.disk_laws.proofs.AnswerLaws.{after_answer, refused_answer, granted_answer}
 use Rattle.disk_laws.proofs.HeldLaws.{level-fitted, level-dropped_from, other-raised_at}
+use Rattle.tsd_model.proofs.ValueLaws.{and_false}
 
 another : (n t : ℕ) → (t == n) ≡ false → n ≡ t → ⊥
 another n t h e = clash (sym (eq-eqb t n (sym e)) ∙ h)
@@ -58,10 +59,6 @@ as_was live g c x (inl bare) k = subst (λ y. y ≡ cond (live && not (g && c)) 
     same false = refl
 as_was live g c x (inr there) k = subst (λ t. x ≡ cond (t && not (g && c)) x level.Bare) (sym there) (subst (λ t. x ≡ cond (not t) x level.Bare) (sym k) refl)
 
-and_never : (x : Bool) → (x && false) ≡ false
-and_never true = refl
-and_never false = refl
-
 -- what session n holds after request p, from o at block a
 abbrev LevelAfter : State → ℕ → ℕ → ℕ → State → Request → Type 0
 LevelAfter s n o a t p = level_from t.sessions n o a ≡ cond (is_live t.world a && not (renews s p o)) (level_from s.sessions n o a) level.Bare
@@ -74,7 +71,7 @@ others_keep_levels kind s q want n o a fits h = elim (verdict s.world s.sessions
   | None ↦ λ e. elim (granted_answer kind s q want e) [
     | inl done ↦ subst (λ out. LevelAfter s n o a out.state q) (sym done) (granted e)
     | inr lacking ↦ subst (λ out. LevelAfter s n o a out.state q) (sym lacking.0) (subst (LevelAfter s n o a s) (sym lacking.1.1)
-        (as_was (is_live s.world a) (is_granted s.world s.sessions (ask.Begin lacking.1.0)) false (level_from s.sessions n o a) (fits.live n o a) (and_never (is_granted s.world s.sessions (ask.Begin lacking.1.0)))))
+        (as_was (is_live s.world a) (is_granted s.world s.sessions (ask.Begin lacking.1.0)) false (level_from s.sessions n o a) (fits.live n o a) (and_false (is_granted s.world s.sessions (ask.Begin lacking.1.0)))))
   ]
 ] refl
   where

@@ -5,9 +5,7 @@ use Rattle.tsd_model.specs.declared.requests.Request.TheVariants as ask
 use Rattle.disk_laws.specs.Changes.{has_source, is_create_of}
 use Rattle.disk_laws.proofs.DoomLaws.{holds-restricted, live-restricted}
 use Rattle.disk_laws.proofs.ChangeLaws.{AllOf, either_pair, held_before, chosen_are_free, chosen_run_is_free}
-
-clash : (t : Bool) → t ≡ true → t ≡ false → ⊥
-clash t p q = cc
+use Rattle.tsd_model.proofs.ValueLaws.{and_true, clash}
 
 -- ---- the pointers out of a block
 
@@ -31,10 +29,6 @@ pairs-kept w keep c d live = holds-restricted w keep c d ∙ stays (keep c) (is_
 pairs-without : (w : World) (a b c d : ℕ) → (a == c) ≡ false → holds (without_pointer w a b).pairs c d ≡ holds w.pairs c d
 pairs-without w a b c d h = holds-filter (λ e. not (is_pair a b e)) w.pairs c d ∙ (ap (λ t. holds w.pairs c d && not (t && (d == b))) apart ∙ and_true (holds w.pairs c d))
   where
-    and_true : (t : Bool) → (t && true) ≡ t
-    and_true true = refl
-    and_true false = refl
-
     apart : (c == a) ≡ false
     apart = elim (c == a) as (λ t. (c == a) ≡ t → t ≡ false) [
       | true ↦ λ e. absurd (clash (a == c) (eq-eqb a c (sym (eqb-true c a e))) h)

@@ -9,9 +9,7 @@ use Rattle.disk_laws.proofs.StayLaws.{only_adds, live-change, holds-change, cont
 use Rattle.disk_laws.proofs.OrderLaws.{by_round, has-by_round, rounds_apart, rounds_in_order}
 use Rattle.disk_laws.proofs.AnswerLaws.{after_answer, granted_answer}
 use Rattle.disk_laws.proofs.RunLaws.{granted_is_valid, answer_valid}
-
-clash : (t : Bool) → t ≡ true → t ≡ false → ⊥
-clash t p q = cc
+use Rattle.tsd_model.proofs.ValueLaws.{clash}
 
 -- ---- what is reached
 

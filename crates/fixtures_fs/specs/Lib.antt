@@ -1,3 +1,2 @@
 pub mod Ours
-pub mod Said
 pub mod Untold

@@ -16,5 +16,5 @@ mod words;
 
 pub use disks::{READ, Untold, WRITE, reply_of};
 pub use shell::answer_to;
-pub use site::{NamedPath, Site, Tested, again, begun};
+pub use site::{Site, Tested, again, begun};
 pub use words::{bytes_of, expanded, name_path};

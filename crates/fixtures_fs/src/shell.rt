@@ -1,13 +1,11 @@
 //! A file system as the shell asks it.
 
-ghost use Rattle.fixtures_fs.specs.Said.{ArePaths};
-
-use crate::site::{NamedPath, Site, Tested};
-use crate::words::{ask_in, expanded};
-use fs_trees::{FsRefusal, Name, ShellAsk};
+use crate::site::{Site, Tested};
+use crate::words::expanded;
+use fs_trees::{FsRefusal, Name, Path, ShellAsk};
 use shell_text::{
-    ShellBuf, print_bad, print_data_head, print_data_part, print_done, print_end, print_free,
-    print_name, print_names_head, print_refusal,
+    ShellBuf, parse_shell, print_bad, print_data_head, print_data_part, print_done, print_end,
+    print_free, print_name, print_names_head, print_refusal,
 };
 use std::alloc::Global;
 
@@ -20,11 +18,7 @@ fn add(said: &mut Vec<u8>, text: &ShellBuf) -> Result<(), FsRefusal> {
 }
 
 /// The names in a directory, one by one, and the line's end.
-fn list<F: Tested>(
-    site: &mut Site<F>,
-    path: &NamedPath,
-    said: &mut Vec<u8>,
-) -> Result<(), FsRefusal> {
+fn list<F: Tested>(site: &mut Site<F>, path: &Path, said: &mut Vec<u8>) -> Result<(), FsRefusal> {
     let mut text = ShellBuf::new();
     let mut last = Name::new();
     for at in 0..129 {
@@ -52,7 +46,7 @@ fn list<F: Tested>(
 fn read<F: Tested>(
     alloc: Global,
     site: &mut Site<F>,
-    path: &NamedPath,
+    path: &Path,
     said: &mut Vec<u8>,
 ) -> Result<(), FsRefusal> {
     let bytes = site.cat(alloc, path)?;
@@ -68,16 +62,14 @@ fn read<F: Tested>(
 }
 
 /// Carries out an ask whose answer is one word.
-fn change<F: Tested>(site: &mut Site<F>, ask: ShellAsk) -> Result<(), FsRefusal>
-    requires { ArePaths ask }
-{
+fn change<F: Tested>(site: &mut Site<F>, ask: ShellAsk) -> Result<(), FsRefusal> {
     match ask {
         ShellAsk::Make => site.make(),
-        ShellAsk::Put { path, bytes } => site.put(&NamedPath { path }, &bytes),
-        ShellAsk::Append { path, bytes } => site.append(&NamedPath { path }, &bytes),
-        ShellAsk::MakeDir { path } => site.make_dir(&NamedPath { path }),
-        ShellAsk::Rm { path } => site.remove(&NamedPath { path }),
-        ShellAsk::Copy { path, new } => site.copy(&NamedPath { path }, &NamedPath { path: new }),
+        ShellAsk::Put { path, bytes } => site.put(&path, &bytes),
+        ShellAsk::Append { path, bytes } => site.append(&path, &bytes),
+        ShellAsk::MakeDir { path } => site.make_dir(&path),
+        ShellAsk::Rm { path } => site.remove(&path),
+        ShellAsk::Copy { path, new } => site.copy(&path, &new),
         _ => Err(FsRefusal::Device),
     }
 }
@@ -90,11 +82,11 @@ fn carry_out<F: Tested>(
     said: &mut Vec<u8>,
 ) -> Result<(), FsRefusal> {
     let mut text = ShellBuf::new();
-    match ask_in(site.files.kind(), line) {
+    match parse_shell(site.files.kind(), line) {
         ShellAsk::Bad => print_bad(&mut text),
         ShellAsk::Df => print_free(site.free()?, &mut text),
-        ShellAsk::Cat { path } => return read(alloc, site, &NamedPath { path }, said),
-        ShellAsk::Ls { path } => return list(site, &NamedPath { path }, said),
+        ShellAsk::Cat { path } => return read(alloc, site, &path, said),
+        ShellAsk::Ls { path } => return list(site, &path, said),
         other => {
             change(site, other)?;
             print_done(&mut text)

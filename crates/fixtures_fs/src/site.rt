@@ -1,7 +1,6 @@
 //! A file system over a disk, call by call.
 
 ghost use Rattle.std.specs.Prelude.{◌≡◌, IsTrue, IfOk};
-ghost use Rattle.fs_trees.specs.Names.{is_path};
 ghost use Rattle.fixtures_fs.specs.Ours.{IsOurs};
 
 use crate::disks::{Untold, WRITE, fresh};
@@ -11,13 +10,6 @@ use fs_trees::{FsRefusal, Name, Path, ShellKind};
 use inode_fs::InodeFs;
 use std::alloc::Global;
 use tsd_model::{Data, NoMemory};
-
-/// A path whose names are names.
-#[derive(Drop)]
-pub struct NamedPath {
-    pub path: Path,
-    ghost is_named: { IsTrue (is_path path) },
-}
 
 /// A file system and its disk.
 #[derive(Drop)]
@@ -107,83 +99,73 @@ impl<F: Files + Drop> Site<F> {
     }
 
     /// A file of these bytes.
-    pub fn put(&mut self, path: &NamedPath, bytes: &Data) -> Result<(), FsRefusal> {
+    pub fn put(&mut self, path: &Path, bytes: &Data) -> Result<(), FsRefusal> {
         if !self.is_ready() {
             return Err(FsRefusal::Device);
         }
-        self.files.put(&mut self.disk, &path.path, bytes)
+        self.files.put(&mut self.disk, path, bytes)
     }
 
     /// These bytes at the end of a file.
-    pub fn append(&mut self, path: &NamedPath, bytes: &Data) -> Result<(), FsRefusal> {
+    pub fn append(&mut self, path: &Path, bytes: &Data) -> Result<(), FsRefusal> {
         if !self.is_ready() {
             return Err(FsRefusal::Device);
         }
-        self.files.append(&mut self.disk, &path.path, bytes)
+        self.files.append(&mut self.disk, path, bytes)
     }
 
     /// A new directory; NotThisFs where the layout has none.
-    pub fn make_dir(&mut self, path: &NamedPath) -> Result<(), FsRefusal> {
+    pub fn make_dir(&mut self, path: &Path) -> Result<(), FsRefusal> {
         if !self.is_ready() {
             return Err(FsRefusal::Device);
         }
         if !self.files.has_dirs() {
             return Err(FsRefusal::NotThisFs);
         }
-        self.files.make_dir(&mut self.disk, &path.path)
+        self.files.make_dir(&mut self.disk, path)
     }
 
     /// A new file with the bytes of another; NotThisFs where the layout has no copies.
-    pub fn copy(&mut self, path: &NamedPath, new: &NamedPath) -> Result<(), FsRefusal> {
+    pub fn copy(&mut self, path: &Path, new: &Path) -> Result<(), FsRefusal> {
         if !self.is_ready() {
             return Err(FsRefusal::Device);
         }
         if !self.files.has_dirs() {
             return Err(FsRefusal::NotThisFs);
         }
-        self.files.copy(&mut self.disk, &path.path, &new.path)
+        self.files.copy(&mut self.disk, path, new)
     }
 
     /// The end of a file or of an empty directory.
-    pub fn remove(&mut self, path: &NamedPath) -> Result<(), FsRefusal> {
+    pub fn remove(&mut self, path: &Path) -> Result<(), FsRefusal> {
         if !self.is_ready() {
             return Err(FsRefusal::Device);
         }
-        self.files.remove(&mut self.disk, &path.path)
+        self.files.remove(&mut self.disk, path)
     }
 
     /// How many bytes a file has.
-    pub fn size(&mut self, path: &NamedPath) -> Result<u64, FsRefusal> {
+    pub fn size(&mut self, path: &Path) -> Result<u64, FsRefusal> {
         if !self.is_ready() {
             return Err(FsRefusal::Device);
         }
-        self.files.size(&mut self.disk, &path.path)
+        self.files.size(&mut self.disk, path)
     }
 
     /// The bytes of a file from an offset on.
-    pub fn read_part(
-        &mut self,
-        path: &NamedPath,
-        start: u64,
-        into: &mut Data,
-    ) -> Result<(), FsRefusal> {
+    pub fn read_part(&mut self, path: &Path, start: u64, into: &mut Data) -> Result<(), FsRefusal> {
         if !self.is_ready() {
             return Err(FsRefusal::Device);
         }
-        self.files
-            .read_part(&mut self.disk, &path.path, start, into)
+        self.files.read_part(&mut self.disk, path, start, into)
     }
 
     /// The first name above this one.
-    pub fn name_after(
-        &mut self,
-        path: &NamedPath,
-        after: &Name,
-    ) -> Result<Option<Name>, FsRefusal> {
+    pub fn name_after(&mut self, path: &Path, after: &Name) -> Result<Option<Name>, FsRefusal> {
         if !self.is_ready() {
             return Err(FsRefusal::Device);
         }
-        self.files.name_after(&mut self.disk, &path.path, after)
+        self.files.name_after(&mut self.disk, path, after)
     }
 
     /// How many blocks are free.
@@ -195,7 +177,7 @@ impl<F: Files + Drop> Site<F> {
     }
 
     /// The bytes of a file of at most 63 parts, part by part, the last without bytes.
-    pub fn cat(&mut self, alloc: Global, path: &NamedPath) -> Result<Vec<u8>, FsRefusal> {
+    pub fn cat(&mut self, alloc: Global, path: &Path) -> Result<Vec<u8>, FsRefusal> {
         let size = self.size(path)?;
         let mut all = Vec::new(alloc);
         let mut part = Data::new();

@@ -1,9 +1,6 @@
 //! Texts that stand for long ones, and what lines say.
 
-ghost use Rattle.fixtures_fs.specs.Said.{ArePaths};
-
-use crate::site::NamedPath;
-use fs_trees::{ShellAsk, ShellKind};
+use fs_trees::{Path, ShellAsk, ShellKind};
 use shell_text::parse_shell;
 use std::alloc::{AllocError, Global};
 use tsd_model::Data;
@@ -49,20 +46,13 @@ pub fn expanded(alloc: Global, text: &str) -> Result<Vec<u8>, AllocError> {
     Ok(all)
 }
 
-/// What a line asks of a layout.
-pub fn ask_in(kind: ShellKind, line: &[u8]) -> ShellAsk
-    ensures { ArePaths result }
-{
-    parse_shell(kind, line)
-}
-
 /// The path that a word spells; None where it is none.
-pub fn name_path(word: &[u8]) -> Option<NamedPath> {
+pub fn name_path(word: &[u8]) -> Option<Path> {
     let mut line = Data::new();
     line.extend_from_slice(b"ls ").ok()?;
     line.extend_from_slice(word).ok()?;
-    match ask_in(ShellKind::Inode, line.as_slice()) {
-        ShellAsk::Ls { path } => Some(NamedPath { path }),
+    match parse_shell(ShellKind::Inode, line.as_slice()) {
+        ShellAsk::Ls { path } => Some(path),
         _ => None,
     }
 }
@@ -73,7 +63,7 @@ pub fn bytes_of(alloc: Global, digits: &str) -> Option<Data> {
     line.extend_from_slice(b"put / ").ok()?;
     line.extend_from_slice(expanded(alloc, digits).ok()?.as_slice())
         .ok()?;
-    match ask_in(ShellKind::Inode, line.as_slice()) {
+    match parse_shell(ShellKind::Inode, line.as_slice()) {
         ShellAsk::Put { path: _, bytes } => Some(bytes),
         _ => None,
     }

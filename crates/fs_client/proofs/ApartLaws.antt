@@ -4,17 +4,9 @@ use Rattle.fs_client.proofs.Common.{and_parts, and_from, or_cases, or_left, or_r
 
 -- ---- tests
 
-pub yes_no : (t : Bool) → t ≡ true → t ≡ false → ⊥
-yes_no t p q = cc
-
 pub is_false : (t : Bool) → (t ≡ true → ⊥) → t ≡ false
 is_false true h = absurd (h refl)
 is_false false h = refl
-
-pub or_no : (s t : Bool) → (s || t) ≡ false → (s ≡ false) × (t ≡ false)
-or_no false false h = (refl, refl)
-or_no true t h = absurd (cc)
-or_no false true h = absurd (cc)
 
 pub no_or : (s t : Bool) → s ≡ false → t ≡ false → (s || t) ≡ false
 no_or false false p q = refl

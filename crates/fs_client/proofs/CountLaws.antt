@@ -3,7 +3,8 @@ use Rattle.std.proofs.Common.{◌≡◌, ℕ, suc, ◌+◌, ◌≤◌, Bool, tru
 use Rattle.fs_client.proofs.Common.{and_parts, and_from, eq-eqb, eqb-true, nat_tests, map, filter, list_all, World, has_number, are_apart, holds, IsValid, targets_of, named_targets}
 use Rattle.fs_client.proofs.PageLaws.{climbs, targets_climb, targets_in}
 use Rattle.fs_client.specs.Held.{are_held}
-use Rattle.fs_client.proofs.ApartLaws.{yes_no, is_false, no_or, apart_first, apart_with}
+use Rattle.fs_client.proofs.ApartLaws.{is_false, no_or, apart_first, apart_with}
+use Rattle.tsd_model.proofs.ValueLaws.{clash}
 
 -- ---- a block's targets
 
@@ -46,7 +47,7 @@ none_more : (c : ℕ) (cs xs : List ℕ) → has_number xs c ≡ false → lengt
 none_more c cs [] h = refl
 none_more c cs (x ∷ xs) h =
     let other : (x == c) ≡ false = left_no (x == c) (has_number xs c) h in
-    let turned : (c == x) ≡ false = is_false (c == x) (λ e. yes_no (x == c) (eq-eqb x c (sym (eqb-true c x e))) other) in
+    let turned : (c == x) ≡ false = is_false (c == x) (λ e. clash (x == c) (eq-eqb x c (sym (eqb-true c x e))) other) in
     let rest = none_more c cs xs (right_no (x == c) (has_number xs c) h) in
     ap (λ t. length (cond (t || has_number cs x) (x ∷ filter (has_number (c ∷ cs)) xs) (filter (has_number (c ∷ cs)) xs))) turned
     ∙ (elim (has_number cs x) as (λ t. length (cond t (x ∷ filter (has_number (c ∷ cs)) xs) (filter (has_number (c ∷ cs)) xs)) ≡ length (cond t (x ∷ filter (has_number cs) xs) (filter (has_number cs) xs))) [
@@ -81,7 +82,7 @@ one_more c cs (x ∷ xs) h = by_first (x == c) refl (one_more c cs xs (apart_fir
         ∙ (ap (λ t. one_if (not t) + length (cond (has_number cs x) (x ∷ filter (has_number cs) xs) (filter (has_number cs) xs))) names
         ∙ ap (λ t. one_if ((t || has_number xs c) && not (has_number cs c)) + length (cond (has_number cs x) (x ∷ filter (has_number cs) xs) (filter (has_number cs) xs))) (sym e)))
     by_first false e rest =
-        let turned : (c == x) ≡ false = is_false (c == x) (λ f. yes_no (x == c) (eq-eqb x c (sym (eqb-true c x f))) e) in
+        let turned : (c == x) ≡ false = is_false (c == x) (λ f. clash (x == c) (eq-eqb x c (sym (eqb-true c x f))) e) in
         ap (λ t. length (cond (t || has_number cs x) (x ∷ filter (has_number (c ∷ cs)) xs) (filter (has_number (c ∷ cs)) xs))) turned
         ∙ (other_first c cs x xs rest (has_number cs x)
         ∙ ap (λ t. one_if ((t || has_number xs c) && not (has_number cs c)) + length (cond (has_number cs x) (x ∷ filter (has_number cs) xs) (filter (has_number cs) xs))) (sym e))

@@ -2,9 +2,7 @@
 use Rattle.std.proofs.Common.{◌≡◌, ℕ, true, false, Bool, not, cond, ◌&&◌, ◌==◌, refl, sym, ◌∙◌, ap, None}
 use Rattle.fs_client.proofs.Common.{and_parts, and_from, eq-eqb, eqb-true, World, contents, is_live, has_number, holds, is_pair, without_pointer, holds-filter, contents-restricted, live-restricted, holds-restricted, dropped}
 use Rattle.tsd_model.specs.Doomed.{doomed}
-
-clash : (t : Bool) → t ≡ true → t ≡ false → ⊥
-clash t p q = cc
+use Rattle.tsd_model.proofs.ValueLaws.{clash}
 
 pub is_false : (t : Bool) → (t ≡ true → ⊥) → t ≡ false
 is_false true h = absurd (h refl)

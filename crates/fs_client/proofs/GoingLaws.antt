@@ -4,6 +4,7 @@ use Rattle.fs_client.proofs.Common.{and_parts, and_from, or_cases, or_left, or_r
 use Rattle.std.specs.Prelude.{take}
 use Rattle.fs_client.proofs.Counting.{rest_of, page_is, behind_page}
 use Rattle.fs_client.proofs.PageLaws.{targets_climb, climbs}
+use Rattle.tsd_model.proofs.ValueLaws.{clash}
 
 -- ---- in a page
 
@@ -47,12 +48,9 @@ none_again (x ∷ xs) (suc i) h k =
 
 pub later_is_other : (xs : List ℕ) (i b : ℕ) → are_apart xs ≡ true → i < length xs → has_number (drop (i + 1) xs) b ≡ true → (slice_index xs i == b) ≡ false
 later_is_other xs i b h k m = elim (slice_index xs i == b) as (λ t. (slice_index xs i == b) ≡ t → t ≡ false) [
-  | true ↦ λ e. absurd (both (has_number (drop (i + 1) xs) (slice_index xs i)) (ap (has_number (drop (i + 1) xs)) (eqb-true (slice_index xs i) b e) ∙ m) (none_again xs i h k))
+  | true ↦ λ e. absurd (clash (has_number (drop (i + 1) xs) (slice_index xs i)) (ap (has_number (drop (i + 1) xs)) (eqb-true (slice_index xs i) b e) ∙ m) (none_again xs i h k))
   | false ↦ λ e. refl
 ] refl
-  where
-    both : (t : Bool) → t ≡ true → t ≡ false → ⊥
-    both t p q = cc
 
 pub gone_still : (was is : Bool) → was ≡ false → (is ≡ true → was ≡ true) → is ≡ false
 gone_still was true h on = let e = on refl in cc
@@ -147,12 +145,9 @@ page_apart w a start page valid e = ap are_apart (page_is w a start page e) ∙ 
   where
     gone_take : (n b : ℕ) (xs : List ℕ) → has_number xs b ≡ false → has_number (take n xs) b ≡ false
     gone_take n b xs h = elim (has_number (take n xs) b) as (λ t. has_number (take n xs) b ≡ t → t ≡ false) [
-      | true ↦ λ k. absurd (both (has_number xs b) (from_take n b xs k) h)
+      | true ↦ λ k. absurd (clash (has_number xs b) (from_take n b xs k) h)
       | false ↦ λ k. refl
     ] refl
-      where
-        both : (t : Bool) → t ≡ true → t ≡ false → ⊥
-        both t p q = cc
 
     apart_take : (n : ℕ) (xs : List ℕ) → are_apart xs ≡ true → are_apart (take n xs) ≡ true
     apart_take zero xs h = refl

@@ -4,6 +4,7 @@ use Rattle.fs_client.proofs.Common.{and_parts, and_from, or_cases, or_left, or_r
 use Rattle.std.proofs.lemmas.List.Folds.{list_any-append}
 use Rattle.fs_client.proofs.DropLaws.{fewer_pairs, fewer_live}
 use Rattle.fs_client.proofs.WriteLaws.{written_elsewhere}
+use Rattle.tsd_model.proofs.ValueLaws.{clash}
 
 -- without those that pass, of which there is one
 one_fewer : {X : Type 0} (p : X → Bool) (xs : List X) → list_any p xs ≡ true → suc (length (filter (λ x. not (p x)) xs)) ≤ length xs
@@ -80,9 +81,6 @@ rising_among (e ∷ es) ys r h =
     let fewer = one_fewer (is_pair e.0 e.1) ys (h e.0 e.1 (holds_first e es)) in
     omega (arith, rest, fewer)
   where
-    clash : (t : Bool) → t ≡ true → t ≡ false → ⊥
-    clash t p q = cc
-
     once : is_below_first e es ≡ true → is_rising es ≡ true → (a b : ℕ) → is_pair e.0 e.1 (a, b) ≡ true → holds es a b ≡ true → ⊥
     once low rising a b same k = clash (holds es e.0 e.1) (ap (λ f. holds es f.0 f.1) (sym (is_pair_ext e.0 e.1 (a, b) same)) ∙ k) (first_once e es e.0 e.1 low rising (is_pair_same e))
 

@@ -6,9 +6,7 @@ use Rattle.std.specs.Prelude.{take}
 use Rattle.tsd_model.specs.Rank.{rank_of}
 use Rattle.disk_laws.proofs.StayLaws.{live-new_blocks}
 use Rattle.fs_laws.proofs.CountLaws.{times, times_apart}
-
-clash : (t : Bool) → t ≡ true → t ≡ false → ⊥
-clash t p q = cc
+use Rattle.tsd_model.proofs.ValueLaws.{clash, neither}
 
 -- ---- none is chosen twice
 
@@ -88,10 +86,6 @@ contents_off a [] w c h = refl
 contents_off a (b ∷ bs) w c h =
     let off = neither (b == c) (has_number bs c) h in
     contents_off a bs (with_pointer (with_contents w b (zeros w)) a b) c off.1 ∙ contents-other w b c (zeros w) (λ e. clash (b == c) (eq-eqb b c (sym e)) off.0)
-  where
-    neither : (s t : Bool) → (s || t) ≡ false → (s ≡ false) × (t ≡ false)
-    neither true t e = absurd (cc)
-    neither false t e = (refl, e)
 
 pub lives_new : (a : ℕ) (bs : List ℕ) (w : World) → ((b : ℕ) → has_number bs b ≡ true → b < length w.blocks) → (c : ℕ) → has_number bs c ≡ true → is_live (with_new_blocks w a bs) c ≡ true
 lives_new a [] w inside c h = absurd (cc)

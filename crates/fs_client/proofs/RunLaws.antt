@@ -2,6 +2,7 @@
 use Rattle.std.proofs.Common.{◌≡◌, ◌≢◌, ℕ, Bool, true, false, ◌&&◌, nat_lt, refl, sym, ◌∙◌, ap, subst, arith, inl, inr, ◌⊎◌, ◌<◌, length, List, [], Option, Some, None, Result, Ok, Err}
 use Rattle.fs_client.proofs.Common.{IfErr, OnOk, is_some, is_none, slice_get, Rose, World, contents, is_live, is_free, kept_of, record_level, Fits, IsValid, Request, IsTidy, OthersStay, RoomNeed, ShellAsk, FsRefusal, DiskView, state_of, Counts, IsLedTo, IsValidNow, LeavesWorldsOnly, Stays, FilesView, IsClientReady, IsEitherTree, IsTreeAlone, IsLeft, KeepsRoom, LeavesTidyWorld, OnAnswer, need_on, both_leave, leaves_more, on_answer, if_fault, both_stay, both_count, led_both, Client, Looked, OnlyLooks, Leads, Went, Steps, Changes, Runs}
 use Rattle.fs_trees.specs.declared.refusal.FsRefusal.TheVariants as no
+use Rattle.tsd_model.proofs.ValueLaws.{clash}
 
 -- ---- of any answer
 
@@ -144,9 +145,6 @@ changes_so told f old new a result room world unmounted h = record {
 -- where a tree is mounted
 pub changes_of : {X : Type 0} (told : Type 0) (f : FilesView) → f.mounted ≡ true → (old new : DiskView) (a : ShellAsk) (result : Result X FsRefusal) → (told → OnOk result (KeepsRoom (need_on f old a) old.world new.world)) → (told → OnAnswer result (LeavesTidyWorld f old new)) → Runs told old new (IsEitherTree f old a) result → Changes told f old new a result
 changes_of told f is old new a result room world h = changes_so told f old new a result room world (λ t off. absurd (clash f.mounted is off)) h
-  where
-    clash : (m : Bool) → m ≡ true → m ≡ false → ⊥
-    clash m p q = cc
 
 -- the client stays ready
 pub ready_still : (f : FilesView) (old new : DiskView) → Stays old new → Counts old new → new.spent ≡ false → IsClientReady f old → IsClientReady f new

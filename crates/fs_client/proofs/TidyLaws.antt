@@ -3,6 +3,7 @@ use Rattle.std.proofs.Common.{◌≡◌, ℕ, Bool, true, false, ◌==◌, List,
 use Rattle.fs_client.proofs.Common.{and_parts, or_left, World, has_number, holds, IsValid, is_there, Named, tree_at, named_at, IsTidy, is_under, ShellKind, SameTree, IsUnder, hang_from, each_named, read_from_named, each_under, root_under, target_under, DiskView, LeavesTidyWorld, IsTreeAlone, OnlyDeletes, Client, files_by, Trimmed, IsTrim, IsClean}
 use Rattle.fs_client.proofs.RunLaws.{clash_free_live}
 use Rattle.fs_client.proofs.TrimLaws.{freed}
+use Rattle.tsd_model.proofs.ValueLaws.{clash}
 
 -- ---- when a world is tidy
 
@@ -39,12 +40,9 @@ is_tidy kind w root valid under targets clean =
 pub still_clean : (n : Named) (w next : World) (a : ℕ) → ((x y : ℕ) → holds next.pairs x y ≡ true → holds w.pairs x y ≡ true) → IsClean n w a → IsClean n next a
 still_clean n w next a fewer clean named b held = clean named b (fewer a b held)
 
-clash_of : (t : Bool) → t ≡ true → t ≡ false → ⊥
-clash_of t p q = cc
-
 -- a block that isn't named is clean
 pub clean_unnamed : (n : Named) (w : World) (a : ℕ) → has_number n.blocks a ≡ false → IsClean n w a
-clean_unnamed n w a off named b held = absurd (clash_of (has_number n.blocks a) named off)
+clean_unnamed n w a off named b held = absurd (clash (has_number n.blocks a) named off)
 
 -- ---- what is left
 
@@ -57,11 +55,11 @@ module _ (kind : ShellKind) (c : Client) (old : DiskView) (there : is_there (tre
       let same = read_from_named kind old.world w c.root there h.keeps in (
         same.tree,
         record { valid = h.valid; geometry = h.keeps.geometry; others = h.others },
-        record { pairs = h.fewer; bytes = h.bytes; named = same.named; none = λ off. absurd (clash_of (is_there (tree_at kind old.world c.root)) there off) },
+        record { pairs = h.fewer; bytes = h.bytes; named = same.named; none = λ off. absurd (clash (is_there (tree_at kind old.world c.root)) there off) },
       )
 
   pub only_deletes : (new : DiskView) → Trimmed c (named_at kind old.world c.root) old new → OnlyDeletes (files_by kind c) old.world new.world
-  only_deletes new h = record { pairs = h.fewer; bytes = h.bytes; named = (same_tree new h).named; none = λ off. absurd (clash_of (is_there (tree_at kind old.world c.root)) there off) }
+  only_deletes new h = record { pairs = h.fewer; bytes = h.bytes; named = (same_tree new h).named; none = λ off. absurd (clash (is_there (tree_at kind old.world c.root)) there off) }
 
 pub trimmed_left : (kind : ShellKind) (c : Client) (n : Named) (old new : DiskView) → new.spent ≡ false → IsTidy kind new.world c.root → Trimmed c n old new → LeavesTidyWorld (files_by kind c) old new
 trimmed_left kind c n old new unspent tidy trimmed = record {

@@ -1,7 +1,8 @@
 -- The world after a write.
-use Rattle.std.proofs.Common.{◌≡◌, ◌⊎◌, ℕ, ◌*◌, ◌≤◌, Bool, true, false, ◌==◌, List, sym, ◌∙◌, ap, subst, arith, inl, inr, Some, refl}
+use Rattle.std.proofs.Common.{◌≡◌, ◌⊎◌, ℕ, ◌*◌, ◌≤◌, true, false, ◌==◌, List, sym, ◌∙◌, ap, subst, arith, inl, inr, Some, refl}
 use Rattle.fs_client.proofs.Common.{eq-eqb, eqb-true, is_some, block_len, World, contents, is_live, is_free, IsValid, filled, written, contents-other, contents-same, live_below}
 use Rattle.fs_client.proofs.RunLaws.{clash_free_live}
+use Rattle.tsd_model.proofs.ValueLaws.{clash}
 
 -- a block has room for the head of an inode or a cluster
 pub block_long : (w : World) → IsValid w → 16 ≤ block_len w.geometry
@@ -14,9 +15,6 @@ module _ (w : World) (d : ℕ) (bytes : List ℕ) where
   -- other blocks are as they were
   pub written_elsewhere : (b : ℕ) → (b == d) ≡ false → contents (written w d bytes) b ≡ contents w b
   written_elsewhere b off = contents-other w d b (filled (block_len w.geometry) bytes) (λ e. clash (b == d) (eq-eqb b d e) off)
-    where
-      clash : (t : Bool) → t ≡ true → t ≡ false → ⊥
-      clash t p q = cc
 
   module _ (live : is_live w d ≡ true) where
     pub written_here : contents (written w d bytes) d ≡ Some (filled (block_len w.geometry) bytes)

@@ -2,9 +2,8 @@
 //! layouts.
 //!
 //! What it stands on: `fs_port` for the disk as one call and for what a file system answers, `fs_trees` for trees and
-//! refusals,
-//! `bit_array` for marks, `fs_laws`, `graph_laws` and `disk_laws` for what a request leaves, `tsd_model` for requests
-//! and replies.
+//! refusals, `bit_array` for marks, `fs_laws`, `graph_laws` and `disk_laws` for what a request leaves, `tsd_model` for
+//! requests and replies.
 //!
 //! What it promises, from the single request up:
 //!
@@ -24,6 +23,9 @@
 //!   under the root stays, and what the root doesn't reach.
 //!
 //! Only `BlockSet::new` takes memory.
+//!
+//! A refusal is handed on by `match` in this crate: each answer is proved case by case, and `?` would put a conversion
+//! between what was called and what is answered.
 #![tactic(auto)]
 
 mod block_set;

@@ -1,13 +1,13 @@
 -- The search for the first directory of a tree.
 use Rattle.std.proofs.Common.{◌≡◌, ◌≢◌, ◌+◌, ◌-◌, ◌<◌, ℕ, suc, Bool, true, false, cond, [], ◌∷◌, ◌++◌, length, refl, sym, ◌∙◌, ap, subst, inl, arith, Result, Ok, Err, Option, Some, None}
-use Rattle.fs_copy.proofs.Common.{IfOk, names_max, entry_steps, Name, Path, is_path, nothing, a_file, a_dir, Tree, child, entry, at, is_dir, is_there, names, names_in, before, FsRefusal, IsNameListing, DiskView, IsDiskSound, IsValidNow, FilesView, Answers, TellsNext, above, Looks, on_answer, tree_under, IsSource, first_made, first_dir, inside, entries_behind}
+use Rattle.fs_copy.proofs.Common.{IfOk, names_max, entry_steps, Name, Path, is_name, nothing, a_file, a_dir, Tree, child, entry, at, is_dir, is_there, names, names_in, before, FsRefusal, IsNameListing, DiskView, IsDiskSound, IsValidNow, FilesView, Answers, TellsNext, above, Looks, on_answer, tree_under, IsSource, first_made, first_dir, inside, entries_behind}
 use Rattle.fs_trees.specs.declared.ask.ShellAsk.TheVariants as ask
 use Rattle.fs_trees.specs.declared.refusal.FsRefusal.TheVariants as no
 use Rattle.fs_copy.proofs.CopyLaws.{source_dir, steps_are}
 use Rattle.fs_copy.proofs.GoingLaws.{ready_still, then_runs, runs_more}
 use Rattle.fs_copy.proofs.NameLaws.{none_behind, stands_next, behind_empty, names_inside, found_named}
 use Rattle.fs_copy.proofs.ReadLaws.{never_refused, next_refused, next_tells, other_fault}
-use Rattle.fs_copy.proofs.TodoLaws.{file_none, path_with}
+use Rattle.fs_copy.proofs.TodoLaws.{file_none}
 use Rattle.fs_copy.proofs.TurnLaws.{last_same, listing_of}
 
 -- ---- looks, one after the other
@@ -142,8 +142,8 @@ module _ (t : Tree) (dir : is_dir t ≡ true) (listing : IsNameListing (names_in
       pub search_there : is_there (at t (n ∷ [])) ≡ true
       search_there = ap is_there at_n ∙ stands.1
 
-      pub search_named : is_path (n ∷ []) ≡ true
-      search_named = path_with [] n refl (found_named a n (names_in t) listing.0 next) (omega arith)
+      pub search_named : is_name n ≡ true
+      search_named = found_named a n (names_in t) listing.0 next
 
       -- it is a directory
       pub search_dir : is_dir (at t (n ∷ [])) ≡ true → first_made (entry_steps [] (entries_behind a (inside t))) ≡ Some (n ∷ [])
@@ -167,21 +167,6 @@ module _ (t : Tree) (dir : is_dir t ≡ true) (listing : IsNameListing (names_in
           by (a_dir d es) k j = absurd (cc)
 
 -- ---- one turn of the search
-
-some_of : {X : Type 0} (b : Bool) (x y : X) → cond b (Some x) None ≡ Some y → (b ≡ true) × (x ≡ y)
-some_of true x y e = (refl, cc)
-some_of false x y e = absurd (cc)
-
-none_of : {X : Type 0} (b : Bool) (x : X) → b ≡ true → cond b (Some x) None ≡ None → ⊥
-none_of true x h e = cc
-none_of false x h e = absurd (cc)
-
--- the path of a name, if it is one
-pub path_is : (n : Name) (path : Path) (r : Option Path) → r ≡ cond (is_path (n ∷ [])) (Some (n ∷ [])) None → r ≡ Some path → (is_path path ≡ true) × (n ∷ [] ≡ path)
-path_is n path r e is = let both = some_of (is_path (n ∷ [])) (n ∷ []) path (sym e ∙ is) in (subst (λ p. is_path p ≡ true) both.1 both.0, both.1)
-
-pub path_never : (n : Name) (r : Option Path) → r ≡ cond (is_path (n ∷ [])) (Some (n ∷ [])) None → r ≡ None → is_path (n ∷ []) ≡ true → ⊥
-path_never n r e is named = none_of (is_path (n ∷ [])) (n ∷ []) named (sym e ∙ is)
 
 -- ---- the stages of the search
 
@@ -286,9 +271,9 @@ module _ {told : Type 0} {f h : FilesView} {old now mid : DiskView} {a : Name} {
     name_is : told → above a (names_in u) ≡ Some n
     name_is t = sym (after.is t) ∙ some
 
-    -- it has a path
-    pub next_never : {r : Option Path} → r ≡ cond (is_path (n ∷ [])) (Some (n ∷ [])) None → r ≡ None → told → ⊥
-    next_never {r} is none t = path_never n r is none (search_named u (u_dir t) (u_lists t) a n (name_is t))
+    -- it is one
+    pub next_named : told → is_name n ≡ true
+    next_named t = search_named u (u_dir t) (u_lists t) a n (name_is t)
 
     module _ {path : Path} (path_is : n ∷ [] ≡ path) where
       at_path : told → at (tree_under h mid) path ≡ at u (n ∷ [])

@@ -1,77 +1,11 @@
 -- What the source answers of its tree.
-use Rattle.std.proofs.Common.{◌≡◌, ◌≢◌, ℕ, true, false, cond, not, List, [], ◌∷◌, length, take, drop, refl, sym, ◌∙◌, ap, inl, inr, ◌⊎◌, Result, Ok, Err, Option, None}
-use Rattle.fs_copy.proofs.Common.{IfErr, IfOk, free_count, Answer, bytes, listed, refused, step_in, Name, Path, need_of, RoomNeed, when, first_of, lost_on_the_way, not_mounted, missing, no_file, no_dir, judged, tree_step, nothing, a_file, a_dir, Tree, at, entry, is_dir, is_file, is_there, names_in, bytes_in, ShellAsk, ShellKind, FsRefusal, DiskView, FilesView, Answers, TellsNext, TellsPart, TellsSize, above, step_on, tree_under, IsFileAt, IsSource}
-use Rattle.tsd_model.specs.declared.geometry.Geometry.{Geometry}
+use Rattle.std.proofs.Common.{◌≡◌, ◌≢◌, ℕ, true, cond, List, [], ◌∷◌, length, take, drop, sym, ◌∙◌, ap, inl, inr, ◌⊎◌, Result, Ok, Err, Option}
+use Rattle.fs_copy.proofs.Common.{IfErr, IfOk, free_count, Answer, bytes, listed, refused, step_in, Name, Path, need_of, nothing, a_file, Tree, at, is_dir, is_there, names_in, bytes_in, ShellAsk, FsRefusal, DiskView, FilesView, Answers, TellsNext, TellsPart, TellsSize, above, step_on, tree_under, IsFileAt, IsSource}
 use Rattle.fs_trees.specs.declared.ask.ShellAsk.TheVariants as ask
 use Rattle.fs_trees.specs.declared.refusal.FsRefusal.TheVariants as no
-
--- ---- where something stands at a path
-
-nowhere : (p : Path) → is_there (at {D = Unit {0}} {F = List ℕ} nothing p) ≡ true → ⊥
-nowhere [] h = absurd (cc)
-nowhere (n ∷ ns) h = nowhere ns h
-
-way_there : (t : Tree) (p : Path) → is_there (at t p) ≡ true → lost_on_the_way t p ≡ None
-way_there t [] h = refl
-way_there nothing (n ∷ ns) h = absurd (nowhere ns h)
-way_there (a_file x) (n ∷ ns) h = absurd (nowhere ns h)
-way_there (a_dir d es) (n ∷ ns) h = way_there (entry n es) ns h
-
-root_there : (t : Tree) (p : Path) → is_there (at t p) ≡ true → is_there t ≡ true
-root_there nothing p h = absurd (nowhere p h)
-root_there (a_file x) p h = refl
-root_there (a_dir d es) p h = refl
-
-pub dir_there : (t : Tree) → is_dir t ≡ true → is_there t ≡ true
-dir_there nothing h = absurd (cc)
-dir_there (a_file x) h = absurd (cc)
-dir_there (a_dir d es) h = refl
-
-module _ (t : Tree) (p : Path) (there : is_there (at t p) ≡ true) where
-  none_mounted : not_mounted t ≡ None
-  none_mounted = ap (λ b. when (not b) no.NotThisFs) (root_there t p there)
-
-  none_missing : missing t p ≡ None
-  none_missing = ap (λ b. when (not b) no.NoEntry) there
-
-  cat_first : first_of (not_mounted t ∷ lost_on_the_way t p ∷ missing t p ∷ no_file t p ∷ []) ≡ first_of (no_file t p ∷ [])
-  cat_first =
-      ap (λ o. first_of (o ∷ lost_on_the_way t p ∷ missing t p ∷ no_file t p ∷ [])) none_mounted
-      ∙ (ap (λ o. first_of (o ∷ missing t p ∷ no_file t p ∷ [])) (way_there t p there) ∙ ap (λ o. first_of (o ∷ no_file t p ∷ [])) none_missing)
-
-  ls_first : first_of (not_mounted t ∷ lost_on_the_way t p ∷ missing t p ∷ no_dir t p ∷ []) ≡ first_of (no_dir t p ∷ [])
-  ls_first =
-      ap (λ o. first_of (o ∷ lost_on_the_way t p ∷ missing t p ∷ no_dir t p ∷ [])) none_mounted
-      ∙ (ap (λ o. first_of (o ∷ missing t p ∷ no_dir t p ∷ [])) (way_there t p there) ∙ ap (λ o. first_of (o ∷ no_dir t p ∷ [])) none_missing)
+use Rattle.fs_laws.proofs.AtLaws.{file_or_dir, cat_file, cat_dir, ls_dir}
 
 -- ---- the answers
-
-module _ (kind : ShellKind) (g : Geometry) (free held : ℕ) (need : RoomNeed) (t : Tree) (p : Path) where
-  cat_file : (x : List ℕ) → at t p ≡ a_file x → (tree_step kind g t (ask.Cat p) free held need).answer ≡ bytes x
-  cat_file x is =
-      let first = cat_first t p (ap is_there is) ∙ ap (λ y. first_of (when (is_dir y) no.IsDir ∷ [])) is in
-      ap (λ o. (judged t free (ask.Cat p) o).answer) first ∙ ap (λ y. bytes (bytes_in y)) is
-
-  cat_dir : is_dir (at t p) ≡ true → (tree_step kind g t (ask.Cat p) free held need).answer ≡ refused no.IsDir
-  cat_dir is =
-      let first = cat_first t p (dir_there (at t p) is) ∙ ap (λ b. first_of (when b no.IsDir ∷ [])) is in
-      ap (λ o. (judged t free (ask.Cat p) o).answer) first
-
-  ls_dir : is_dir (at t p) ≡ true → (tree_step kind g t (ask.Ls p) free held need).answer ≡ listed (names_in (at t p))
-  ls_dir is =
-      let first = ls_first t p (dir_there (at t p) is) ∙ ap (λ b. first_of (when b no.NotDir ∷ [])) (no_file_there (at t p) is) in
-      ap (λ o. (judged t free (ask.Ls p) o).answer) first
-    where
-      no_file_there : (y : Tree) → is_dir y ≡ true → is_file y ≡ false
-      no_file_there nothing h = absurd (cc)
-      no_file_there (a_file x) h = absurd (cc)
-      no_file_there (a_dir d es) h = refl
-
--- a file, or a directory
-file_or_dir : (x : Tree) → is_there x ≡ true → ((y : List ℕ) × (x ≡ a_file y)) ⊎ (is_dir x ≡ true)
-file_or_dir nothing h = absurd (cc)
-file_or_dir (a_file y) h = inl (y, refl)
-file_or_dir (a_dir d es) h = inr refl
 
 bytes_same : (x y : List ℕ) → bytes x ≡ bytes y → x ≡ y
 bytes_same x y e = cc

@@ -4,24 +4,15 @@ use Rattle.fs_copy.proofs.Common.{and_parts, div_ceil_times, div_ceil, ⊤, file
 use Rattle.fs_trees.specs.declared.ask.ShellAsk.TheVariants as ask
 use Rattle.fs_laws.proofs.DirectoryLaws.{with_last, names_meet}
 use Rattle.fs_copy.proofs.GoingLaws.{after-append, there_with}
-use Rattle.fs_copy.proofs.TodoLaws.{at_last}
+use Rattle.fs_laws.proofs.AtLaws.{nowhere, root_there, at_last}
 
 -- ---- a node at a path
-
-nowhere : (p : Path) → is_there (at {D = ⊤} {F = List ℕ} nothing p) ≡ true → ⊥
-nowhere [] h = absurd (cc)
-nowhere (n ∷ ns) h = nowhere ns h
-
-root_there : (t : Tree) (p : Path) → is_there (at t p) ≡ true → is_there t ≡ true
-root_there nothing p h = absurd (nowhere p h)
-root_there (a_file x) p h = refl
-root_there (a_dir d es) p h = refl
 
 -- what was put at a path is there
 at_with : (p : Path) (z t : Tree) → is_there (at t p) ≡ true → is_there z ≡ true → at (with_at p z t) p ≡ z
 at_with [] z t h k = refl
-at_with (n ∷ ns) z nothing h k = absurd (nowhere ns h)
-at_with (n ∷ ns) z (a_file x) h k = absurd (nowhere ns h)
+at_with (n ∷ ns) z nothing h k = absurd (nowhere _ _ ns h)
+at_with (n ∷ ns) z (a_file x) h k = absurd (nowhere _ _ ns h)
 at_with (n ∷ ns) z (a_dir d es) h k =
     let u = with_at ns z (entry n es) in
     let there : is_there u ≡ true = there_with ns z (entry n es) k (root_there (entry n es) ns h) in
@@ -59,8 +50,8 @@ entry_again n (dir m d i rest) h = by (λ k. entry_again n rest k) (name_lt n m)
 
 with_same : (p : Path) (t : Tree) → is_there (at t p) ≡ true → with_at p (at t p) t ≡ t
 with_same [] t h = refl
-with_same (n ∷ ns) nothing h = absurd (nowhere ns h)
-with_same (n ∷ ns) (a_file x) h = absurd (nowhere ns h)
+with_same (n ∷ ns) nothing h = absurd (nowhere _ _ ns h)
+with_same (n ∷ ns) (a_file x) h = absurd (nowhere _ _ ns h)
 with_same (n ∷ ns) (a_dir d es) h =
     ap (λ x. a_dir d (with_entry n x es)) (with_same ns (entry n es) h) ∙ ap (a_dir d) (entry_again n es (root_there (entry n es) ns h))
 
@@ -140,7 +131,7 @@ module _ (p : Path) (t : Tree) (xs : Entries ⊤ (List ℕ)) (is : at t p ≡ a_
   at_grown y = at_with p (a_dir tt (joined xs (before n y none))) t there refl
 
   entry_grown : (y : Tree) → is_there y ≡ true → at (grown y) (p ++ n ∷ []) ≡ y
-  entry_grown y h = at_last (grown y) p n ∙ (ap (child n) (at_grown y) ∙ (ap (entry n) (sym (put_last n y xs below)) ∙ entry-same n y xs h))
+  entry_grown y h = at_last p n (grown y) ∙ (ap (child n) (at_grown y) ∙ (ap (entry n) (sym (put_last n y xs below)) ∙ entry-same n y xs h))
 
   put_over : (y z : Tree) → is_there y ≡ true → with_at (p ++ n ∷ []) z (grown y) ≡ grown z
   put_over y z h =

@@ -1,39 +1,9 @@
 -- What is left of a copy, from one place of the walk to the next.
-use Rattle.std.proofs.Common.{◌≡◌, ◌+◌, ◌≤◌, ◌*◌, ℕ, zero, suc, true, List, [], ◌∷◌, ◌++◌, length, map, drop, refl, sym, ◌∙◌, ap, subst, arith, append_assoc, append-nil, length-append, length-take, length-drop, ◌-◌, nat_le, None}
-use Rattle.fs_copy.proofs.Common.{and_parts, and_from, nat_tests, ⊤, div_ceil_times, div_ceil, list_all, file_pieces, further_pieces, file_steps, entry_steps, Name, Path, path_max, is_name, is_path, are_ascending, Entries, none, file, dir, nothing, a_file, a_dir, Tree, child, entry, at, is_dir, is_there, names, names_in, before, ShellAsk, IsNameListing, entry_count, above, file_count, byte_count, own_steps, first_made, inside, entries_behind, outer, todo, files_made, bytes_made, turns, IsNextName}
+use Rattle.std.proofs.Common.{◌≡◌, ◌+◌, ◌≤◌, ◌*◌, ℕ, zero, suc, true, List, [], ◌∷◌, ◌++◌, length, map, drop, refl, sym, ◌∙◌, ap, subst, arith, append_assoc, append-nil, length-take, length-drop, ◌-◌, None}
+use Rattle.fs_copy.proofs.Common.{⊤, div_ceil_times, div_ceil, file_pieces, further_pieces, file_steps, entry_steps, Name, Path, are_ascending, Entries, none, file, dir, nothing, a_file, a_dir, Tree, child, entry, at, is_dir, is_there, names, names_in, before, ShellAsk, IsNameListing, entry_count, above, file_count, byte_count, own_steps, first_made, inside, entries_behind, outer, todo, files_made, bytes_made, turns, IsNextName}
 use Rattle.fs_trees.specs.declared.ask.ShellAsk.TheVariants as ask
 use Rattle.fs_copy.proofs.NameLaws.{none_behind, stands_next, behind_empty, names_inside}
-
--- ---- paths
-
-pub at_last : (t : Tree) (p : Path) (n : Name) → at t (p ++ n ∷ []) ≡ child n (at t p)
-at_last t [] n = refl
-at_last t (m ∷ ms) n = at_last (child m t) ms n
-
-all_front : (p : Path) (n : Name) → list_all is_name (p ++ n ∷ []) ≡ true → list_all is_name p ≡ true
-all_front [] n h = refl
-all_front (m ∷ ms) n h = let parts = and_parts (is_name m) (list_all is_name (ms ++ n ∷ [])) h in and_from (is_name m) (list_all is_name ms) parts.0 (all_front ms n parts.1)
-
-all_with : (p : Path) (n : Name) → list_all is_name p ≡ true → is_name n ≡ true → list_all is_name (p ++ n ∷ []) ≡ true
-all_with [] n h k = and_from (is_name n) true k refl
-all_with (m ∷ ms) n h k = let parts = and_parts (is_name m) (list_all is_name ms) h in and_from (is_name m) (list_all is_name (ms ++ n ∷ [])) parts.0 (all_with ms n parts.1 k)
-
-le_of : (a b : ℕ) → nat_le a b ≡ true → a ≤ b
-le_of a b h = grind (arith, nat_tests)
-
-of_le : (a b : ℕ) → a ≤ b → nat_le a b ≡ true
-of_le a b h = grind (arith, nat_tests)
-
-pub path_front : (p : Path) (n : Name) → is_path (p ++ n ∷ []) ≡ true → is_path p ≡ true
-path_front p n h =
-    let parts = and_parts (nat_le (length (p ++ n ∷ [])) path_max) (list_all is_name (p ++ n ∷ [])) h in
-    let long = le_of (length (p ++ n ∷ [])) path_max parts.0 in
-    and_from (nat_le (length p) path_max) (list_all is_name p) (of_le (length p) path_max (omega (arith, long, length-append p (n ∷ [])))) (all_front p n parts.1)
-
-pub path_with : (p : Path) (n : Name) → is_path p ≡ true → is_name n ≡ true → length (p ++ n ∷ []) ≤ path_max → is_path (p ++ n ∷ []) ≡ true
-path_with p n h k few =
-    let parts = and_parts (nat_le (length p) path_max) (list_all is_name p) h in
-    and_from (nat_le (length (p ++ n ∷ [])) path_max) (list_all is_name (p ++ n ∷ [])) (of_le (length (p ++ n ∷ [])) path_max few) (all_with p n parts.1 k)
+use Rattle.fs_laws.proofs.AtLaws.{at_last}
 
 -- ---- where the walk leaves a directory
 
@@ -79,7 +49,7 @@ module _ (t : Tree) (p : Path) (a n : Name) (next : IsNextName t p a n) where
       by (a_dir d i) h = refl
 
   pub there_is : at t (p ++ n ∷ []) ≡ entry n es
-  there_is = at_last t p n ∙ child_is
+  there_is = at_last p n t ∙ child_is
 
   listed : names_in (at t p) ≡ names es
   listed = names_inside (at t p)

@@ -1,12 +1,13 @@
 -- One turn of the walk.
 use Rattle.std.proofs.Common.{◌≡◌, ◌≢◌, ◌+◌, ◌<◌, ◌≤◌, ℕ, Bool, true, false, cond, List, [], ◌∷◌, ◌++◌, length, refl, sym, ◌∙◌, ap, subst, inl, inr, arith, length-append, Result, Ok, Err, Option, Some, None}
-use Rattle.fs_copy.proofs.Common.{IfOk, IfSome, IsValid, Name, Path, path_max, is_path, nothing, a_file, a_dir, Tree, child, at, is_dir, is_there, names_in, ShellAsk, ShellKind, FsRefusal, IsNameListing, tree_lists, tree_depth, DiskView, IsDiskSound, FilesView, above, has_dirs, Looks, capped, AreSet, MakesSteps, own_steps, file_size, tree_under, CanMake, AreAhead, outer, todo, files_made, bytes_made, turns, turns_left, IsNextName, CountsOn, IsCountedOn, WalksOn, Copied}
+use Rattle.fs_copy.proofs.Common.{IfOk, IfSome, IsValid, Name, Path, path_max, is_name, nothing, a_file, a_dir, Tree, child, at, is_dir, is_there, names_in, ShellAsk, ShellKind, FsRefusal, IsNameListing, tree_lists, tree_depth, DiskView, IsDiskSound, FilesView, above, has_dirs, Looks, capped, AreSet, MakesSteps, own_steps, file_size, tree_under, CanMake, AreAhead, outer, todo, files_made, bytes_made, turns, turns_left, IsNextName, CountsOn, IsCountedOn, WalksOn, Copied}
 use Rattle.fs_trees.specs.declared.ask.ShellAsk.TheVariants as ask
 use Rattle.fs_trees.specs.declared.refusal.FsRefusal.TheVariants as no
 use Rattle.fs_copy.proofs.NameLaws.{found_named}
-use Rattle.fs_copy.proofs.TodoLaws.{at_last, path_front, path_with, outer_last, todo_none, next_path, next_after, there_now, todo_enter, turns-append, file_turns, file_files, file_bytes, made_later}
+use Rattle.fs_copy.proofs.TodoLaws.{outer_last, todo_none, next_path, next_after, there_now, todo_enter, turns-append, file_turns, file_files, file_bytes, made_later}
 use Rattle.fs_copy.proofs.GoingLaws.{AfterLook, after_look, err_same, goes_as, look_lost, lost_goes, none_goes, ok_as, then_goes}
 use Rattle.fs_copy.proofs.ReadLaws.{other_fault}
+use Rattle.fs_laws.proofs.AtLaws.{at_last, dir_there}
 
 -- ---- paths and their last names
 
@@ -28,17 +29,12 @@ never_empty (x ∷ xs) n e = absurd (cc)
 
 -- a directory stands around what is there
 around_dir : (t : Tree) (q : Path) (n : Name) → is_there (at t (q ++ n ∷ [])) ≡ true → is_dir (at t q) ≡ true
-around_dir t q n h = by (at t q) (ap is_there (sym (at_last t q n)) ∙ h)
+around_dir t q n h = by (at t q) (ap is_there (sym (at_last q n t)) ∙ h)
   where
     by : (x : Tree) → is_there (child n x) ≡ true → is_dir x ≡ true
     by nothing k = absurd (cc)
     by (a_file y) k = absurd (cc)
     by (a_dir d es) k = refl
-
-dir_there : (x : Tree) → is_dir x ≡ true → is_there x ≡ true
-dir_there nothing h = absurd (cc)
-dir_there (a_file y) h = absurd (cc)
-dir_there (a_dir d es) h = refl
 
 -- ---- counts
 
@@ -67,10 +63,6 @@ pub record Leaves (p q : Path) (b : Name) (more : Bool) : Type 0 where
   pub over : more ≡ false → p ≡ []
   pub there : more ≡ false → q ≡ []
 
-path_left : (p q : Path) (b : Name) (more : Bool) → Leaves p q b more → is_path p ≡ true → is_path q ≡ true
-path_left p q b true left h = path_front q b (subst (λ z. is_path z ≡ true) (left.on refl) h)
-path_left p q b false left h = ap is_path (left.there refl)
-
 -- ---- the next name of a directory
 
 -- a path of a tree fits
@@ -94,7 +86,7 @@ module _ {told : Type 0} {f g : FilesView} {old mid : DiskView} {p : Path} {a : 
   pub name_lost : {c : Copied} {e : FsRefusal} → (told → e ≢ no.Device → ⊥) → Looks {X = Option Name} told old mid (Err e) → WalksOn told g (tree_under f old) old mid p p a a c c (Err e)
   name_lost {c} {e} only looks =
       let lost = look_lost set only looks in
-      record { made = []; rest = todo (tree_under f old) p a; parts = λ t. refl; goes = err_same lost; count = λ t. tt; named = tt; on = λ t. tt; over = λ t. tt }
+      record { made = []; rest = todo (tree_under f old) p a; parts = λ t. refl; goes = err_same lost; count = λ t. tt; on = λ t. tt; over = λ t. tt }
 
 module _ {told : Type 0} {f h g : FilesView} {old mid : DiskView} {p : Path} {a : Name} {next : Option Name} (name : AfterName told f h g old mid p a next) where
   -- there is one
@@ -122,14 +114,13 @@ module _ {told : Type 0} {f h g : FilesView} {old mid : DiskView} {p : Path} {a 
     parts = λ t. turn.parts t ∙ ap (λ s. todo s p a) (name.look.tree t);
     goes = then_goes name.look.goes turn.goes;
     count = turn.count;
-    named = turn.named;
     on = λ t. subst (λ s. IfOk result (λ more. more ≡ true → (is_dir (at s q) ≡ true) × (turn.rest ≡ todo s q b) × (turns_left s q b < turns_left s p a))) (name.look.tree t) (turn.on t);
     over = turn.over;
   }
 
   -- there is no other
-  pub turn_left : {q : Path} {b : Name} {c : Copied} {more : Bool} → Leaves p q b more → is_path p ≡ true → next ≡ None → WalksOn told g (tree_under f old) old mid p q a b c c (Ok more)
-  turn_left {q} {b} {c} {more} left path none =
+  pub turn_left : {q : Path} {b : Name} {c : Copied} {more : Bool} → Leaves p q b more → next ≡ None → WalksOn told g (tree_under f old) old mid p q a b c c (Ok more)
+  turn_left {q} {b} {c} {more} left none =
       let u = tree_under f old in
       let last : told → above a (names_in (at u p)) ≡ None = λ t. sym (name.tells t) ∙ none in
       record {
@@ -138,7 +129,6 @@ module _ {told : Type 0} {f h g : FilesView} {old mid : DiskView} {p : Path} {a 
         parts = λ h. sym (todo_none u p a (last h));
         goes = ok_as name.look.goes;
         count = λ h. none_counted c [] refl refl;
-        named = path_left p q b more left path;
         on = λ h is.
             let from = left.on is in
             let rest_is : outer [] u p ≡ todo u q b = ap (outer [] u) from ∙ outer_last [] u q b in
@@ -209,15 +199,13 @@ module _ {told : Type 0} {f g : FilesView} {old : DiskView} {p : Path} {a n : Na
   counts_of : told → turns (todo u p a) ≡ cond (is_dir y) 2 1 + turns (behind_entry u p n)
   counts_of t = ap turns (parts_of t) ∙ (turns-append (own_steps (p ++ n ∷ []) y) (behind_entry u p n) ∙ ap (λ k. k + turns (behind_entry u p n)) (own_turns (p ++ n ∷ []) y (there_of t)))
 
-  -- its path fits
-  pub entry_fits : told → length p + 1 ≤ path_max
-  entry_fits t = let deep = depth_of f old (p ++ n ∷ []) (there_of t) in omega (arith, deep, length-append p (n ∷ []))
-
-  pub entry_path : is_path p ≡ true → told → is_path (p ++ n ∷ []) ≡ true
-  entry_path path t = path_with p n path (found_named a n (names_in (at u p)) (here.next t).listing.0 (here.next t).next) (depth_of f old (p ++ n ∷ []) (there_of t))
+  -- its path is one
+  pub entry_fits : told → (length p < path_max) × (is_name n ≡ true)
+  entry_fits t = let deep = depth_of f old (p ++ n ∷ []) (there_of t) in
+      (omega (arith, deep, length-append p (n ∷ [])), found_named a n (names_in (at u p)) (here.next t).listing.0 (here.next t).next)
 
   entry_lost : {new : DiskView} (q : Path) (b : Name) (c d : Copied) (e : FsRefusal) → MakesSteps {X = Bool} told g old new (own_steps (p ++ n ∷ []) y) (Err e) → WalksOn told g u old new p q a b c d (Err e)
-  entry_lost q b c d e goes = record { made = own_steps (p ++ n ∷ []) y; rest = behind_entry u p n; parts = λ t. sym (parts_of t); goes = goes; count = λ t. tt; named = tt; on = λ t. tt; over = λ t. tt }
+  entry_lost q b c d e goes = record { made = own_steps (p ++ n ∷ []) y; rest = behind_entry u p n; parts = λ t. sym (parts_of t); goes = goes; count = λ t. tt; on = λ t. tt; over = λ t. tt }
 
   -- it is refused only where the disk tells nothing
   pub entry_never : {q : Path} {b : Name} {c : Copied} → (told → ⊥) → WalksOn told g u old old p q a b c c (Err no.NotThisFs)
@@ -240,12 +228,9 @@ module _ {told : Type 0} {f g : FilesView} {old : DiskView} {p : Path} {a n : Na
     entry_refused {new} {b} {c} {e} goes = entry_lost q b c c e (err_same (own_goes (Err e) goes))
 
     -- it is copied and counted
-    module _ {new : DiskView} {size : Option ℕ} (path : is_path q ≡ true) (size_is : told → size ≡ file_size (at u q)) (goes : MakesSteps told g old new (own_steps q (at u q)) (Ok size)) where
+    module _ {new : DiskView} {size : Option ℕ} (size_is : told → size ≡ file_size (at u q)) (goes : MakesSteps told g old new (own_steps q (at u q)) (Ok size)) where
       size_so : told → size ≡ file_size y
       size_so t = size_is t ∙ ap (λ (z : Path). file_size (at u z)) is
-
-      path_so : is_path (p ++ n ∷ []) ≡ true
-      path_so = ap is_path (sym is) ∙ path
 
       count_so : {c d : Copied} → IsCountedOn c d size → told → CountsOn c d (own_steps (p ++ n ∷ []) y)
       count_so {c} {d} counted t = entry_counted c d (p ++ n ∷ []) y (there_of t) (subst (λ (o : Option ℕ). IsCountedOn c d o) (size_so t) counted)
@@ -261,7 +246,6 @@ module _ {told : Type 0} {f g : FilesView} {old : DiskView} {p : Path} {a n : Na
         parts = λ t. sym (parts_of t);
         goes = goes_so true;
         count = count_so counted;
-        named = path_so;
         on = λ t _.
             let stands = is_dir_of y (there_of t) (sym (size_so t) ∙ none) in
             let rest_is : behind_entry u p n ≡ todo u (p ++ n ∷ []) b = place y stands ∙ ap (todo u (p ++ n ∷ [])) (sym empty) in
@@ -289,7 +273,6 @@ module _ {told : Type 0} {f g : FilesView} {old : DiskView} {p : Path} {a n : Na
         parts = λ t. sym (parts_of t);
         goes = goes_so more;
         count = count_so counted;
-        named = path_left q r b more left path;
         on = λ t going.
             let same = last_same p r n b (sym is ∙ left.on going) in
             let is_size = sym (size_so t) ∙ some in

@@ -1,6 +1,6 @@
 -- The walk, from one turn to the next.
 use Rattle.std.proofs.Common.{◌≡◌, ◌+◌, ◌-◌, ◌*◌, ◌<◌, ◌≤◌, ℕ, Bool, true, false, List, [], ◌++◌, refl, sym, ◌∙◌, ap, subst, arith, append_assoc, append-nil, Result, Ok, Err}
-use Rattle.fs_copy.proofs.Common.{list_all, names_max, entry_steps, Name, Path, is_name, is_path, nothing, a_file, a_dir, Tree, at, is_dir, names_in, ShellAsk, FsRefusal, IsNameListing, entry_count, total_entries, tree_few, DiskView, IsDiskSound, FilesView, capped, file_count, byte_count, total_files, total_bytes, IsCount, tree_under, AreSet, MakesSteps, IsSource, CanMake, AreAhead, inside, entries_behind, todo, files_made, bytes_made, turns, turns_left, WalksOn, Copied}
+use Rattle.fs_copy.proofs.Common.{list_all, names_max, entry_steps, Name, Path, is_name, nothing, a_file, a_dir, Tree, at, is_dir, names_in, ShellAsk, FsRefusal, IsNameListing, entry_count, total_entries, tree_few, DiskView, IsDiskSound, FilesView, capped, file_count, byte_count, total_files, total_bytes, IsCount, tree_under, AreSet, MakesSteps, IsSource, CanMake, AreAhead, inside, entries_behind, todo, files_made, bytes_made, turns, turns_left, WalksOn, Copied}
 use Rattle.fs_trees.specs.declared.refusal.FsRefusal.TheVariants as no
 use Rattle.fs_copy.proofs.CopyLaws.{source_dir}
 use Rattle.fs_copy.proofs.GoingLaws.{goes_as, then_goes, err_as, ok_as, lost_goes, none_goes, now_set, same_source, source_of}
@@ -13,7 +13,6 @@ use Rattle.fs_copy.proofs.TurnLaws.{can_later, listing_of}
 pub record Walked (told : Type 0) (g : FilesView) (t : Tree) (old now : DiskView) (p : Path) (a : Name) (c : Copied) (left : ℕ) : Type 0 where
   pub made : List ShellAsk
   pub goes : MakesSteps {X = Unit {0}} told g old now made (Ok tt)
-  pub named : is_path p ≡ true
   pub dir : told → is_dir (at t p) ≡ true
   pub rest : told → made ++ todo t p a ≡ entry_steps [] (inside t)
   pub files : told → c.files ≡ capped (files_made made)
@@ -48,7 +47,6 @@ module _ (told : Type 0) (f g : FilesView) (old : DiskView) (source : IsSource t
   walked_first c left no_files no_bytes is goes = record {
     made = [];
     goes = goes;
-    named = refl;
     dir = source_dir told f old source;
     rest = λ h. all_left t (listing h);
     files = λ h. no_files;
@@ -136,7 +134,6 @@ module _ {told : Type 0} {f g h k : FilesView} {old now : DiskView} {p : Path} {
         walked = record {
           made = here.walked.made ++ turn.made;
           goes = ok_as (turn_goes turn);
-          named = turn.named;
           dir = λ t. ap (λ s. is_dir (at s q)) (sym (turn_tree t)) ∙ (turn.on t on).0;
           rest = λ t. ap (λ s. (here.walked.made ++ turn.made) ++ s) (sym ((turn.on t on).1 ∙ ap (λ s. todo s q b) (turn_tree t))) ∙ turn_parts turn t;
           files = now_files;

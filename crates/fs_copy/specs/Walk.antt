@@ -1,8 +1,8 @@
 -- Where a walk over a tree is: in a directory, behind one of its names. What is left of the copy then.
 use Rattle.std.specs.Prelude.{◌≡◌, ◌+◌, ◌<◌, ℕ, suc, cond, List, [], ◌∷◌, ◌++◌, length, Result, IfOk, Bool, true, false}
-use Rattle.std.specs.Prelude.{IsTrue, Some, None, Option, ⊤}
+use Rattle.std.specs.Prelude.{Some, None, Option, ⊤}
 use Rattle.fs_trees.specs.Copying.{entry_steps}
-use Rattle.fs_trees.specs.Names.{Name, Path, name_lt, is_path}
+use Rattle.fs_trees.specs.Names.{Name, Path, name_lt}
 use Rattle.fs_trees.specs.Tree.{Entries, none, file, dir, nothing, a_file, a_dir, Tree, child, at, is_dir, names_in}
 use Rattle.fs_trees.specs.declared.ask.ShellAsk.{ShellAsk}
 use Rattle.fs_trees.specs.declared.ask.ShellAsk.TheVariants as ask
@@ -94,7 +94,6 @@ pub record WalksOn (told : Type 0) (g : FilesView) (t : Tree) (old new : DiskVie
   pub parts : told → made ++ rest ≡ todo t p a
   pub goes : MakesSteps told g old new made result
   pub count : told → IfOk result (λ more. CountsOn c d made)
-  pub named : IfOk result (λ more. IsTrue (is_path q))
   pub on : told → IfOk result (λ more. more ≡ true
       → (is_dir (at t q) ≡ true) × (rest ≡ todo t q b) × (turns_left t q b < turns_left t p a))
   pub over : told → IfOk result (λ more. more ≡ false → rest ≡ [])

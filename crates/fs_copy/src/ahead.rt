@@ -1,7 +1,6 @@
 //! The names of a directory in order, of which some are read ahead.
 
-ghost use Rattle.std.specs.Prelude.{◌≡◌, ◌≢◌, true, IfErr, IfOk, IfSome, IsTrue};
-ghost use Rattle.fs_trees.specs.Names.{is_path};
+ghost use Rattle.std.specs.Prelude.{◌≡◌, ◌≢◌, true, IfErr, IfOk, IfSome};
 ghost use Rattle.fs_trees.specs.Tree.{at, is_dir, names_in};
 ghost use Rattle.fs_trees.specs.declared.refusal.FsRefusal.TheVariants as no;
 ghost use Rattle.fs_port.specs.Files.{above};
@@ -24,7 +23,6 @@ pub fn next_name<K: Blocks, A: Walks>(
     ahead: &mut ArrayVec<Name, NAMES_AT_ONCE>,
 ) -> Result<Option<Name>, FsRefusal>
     requires set { IsSource K.told (A.view from.old) (K.view disk.old) }
-    requires named { IsTrue (is_path path.now) }
     requires dir { K.told → is_dir (at (tree_under (A.view from.old) (K.view disk.old)) path.now) ≡ true }
     requires ahead { K.told → AreAhead (tree_under (A.view from.old) (K.view disk.old)) path.now after.now
         ahead.old.items }

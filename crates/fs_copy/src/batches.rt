@@ -1,8 +1,7 @@
 //! Pieces of a file, several at once: a walk along the file serves all of them.
 
-ghost use Rattle.std.specs.Prelude.{◌≡◌, ◌≢◌, ◌≤◌, ◌^◌, ◌*◌, ◌+◌, drop, map, IfErr, IsTrue, OnOk};
+ghost use Rattle.std.specs.Prelude.{◌≡◌, ◌≢◌, ◌≤◌, ◌^◌, ◌*◌, ◌+◌, drop, map, IfErr, OnOk};
 ghost use Rattle.fs_trees.specs.Copying.{file_pieces, piece_max};
-ghost use Rattle.fs_trees.specs.Names.{is_path};
 ghost use Rattle.fs_trees.specs.Tree.{at, bytes_in};
 ghost use Rattle.fs_trees.specs.declared.ask.ShellAsk.TheVariants as ask;
 ghost use Rattle.fs_trees.specs.declared.refusal.FsRefusal.TheVariants as no;
@@ -72,7 +71,6 @@ pub fn read_pieces<K: Blocks, A: Walks>(
     into: &mut ArrayVec<Piece, PIECES_AT_ONCE>,
 ) -> Result<(), FsRefusal>
     requires set { IsSource K.told (A.view from.old) (K.view disk.old) }
-    requires named { IsTrue (is_path path.now) }
     requires file { K.told → IsFileAt (tree_under (A.view from.old) (K.view disk.old)) path.now }
     requires few { count ≤ 8 }
     requires fits { (first + count) * 4096 ≤ 2 ^ 64 }
@@ -105,7 +103,6 @@ pub fn append_pieces<K: Blocks, B: Files>(
     pieces: &ArrayVec<Piece, PIECES_AT_ONCE>,
 ) -> Result<(), FsRefusal>
     requires set { IsSource K.told (B.view into.old) (K.view disk.old) }
-    requires named { IsTrue (is_path path.now) }
     ensures goes { MakesSteps K.told (B.view into.old) (K.view disk.old) (K.view disk.new)
         (map (ask.Append path.now) pieces.now.items) result }
     ensures same { B.view into.new ≡ B.view into.old }

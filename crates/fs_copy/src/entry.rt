@@ -2,7 +2,6 @@
 
 ghost use Rattle.std.specs.Prelude.{◌≡◌, [], ◌∷◌, take, true, None, IsTrue, IfOk};
 ghost use Rattle.fs_trees.specs.Copying.{piece_max};
-ghost use Rattle.fs_trees.specs.Names.{is_path};
 ghost use Rattle.fs_trees.specs.Tree.{at, bytes_in, is_dir, is_there};
 ghost use Rattle.fs_trees.specs.declared.ask.ShellAsk.TheVariants as ask;
 ghost use Rattle.fs_port.specs.Files.{has_dirs};
@@ -23,7 +22,6 @@ pub fn copy_entry<K: Blocks, A: Walks, B: Files>(
     path: &Path,
 ) -> Result<Option<u64>, FsRefusal>
     requires set { AreSet K.told (A.view from.old) (B.view into.old) (K.view disk.old) }
-    requires named { IsTrue (is_path path.now) }
     requires there { K.told → IsTrue (is_there (at (tree_under (A.view from.old) (K.view disk.old)) path.now)) }
     requires hold { K.told → is_dir (at (tree_under (A.view from.old) (K.view disk.old)) path.now) ≡ true
         → has_dirs (B.view into.old).kind ≡ true }
@@ -51,7 +49,6 @@ fn copy_begun<K: Blocks, A: Walks, B: Files>(
     first: &Data,
 ) -> Result<Option<u64>, FsRefusal>
     requires set { AreSet K.told (A.view from.old) (B.view into.old) (K.view disk.old) }
-    requires named { IsTrue (is_path path.now) }
     requires file { K.told → IsFileAt (tree_under (A.view from.old) (K.view disk.old)) path.now }
     requires first { K.told
         → first.now ≡ take piece_max (bytes_in (at (tree_under (A.view from.old) (K.view disk.old)) path.now)) }
@@ -79,7 +76,6 @@ fn copy_dir<K: Blocks, B: Files>(
     path: &Path,
 ) -> Result<Option<u64>, FsRefusal>
     requires set { IsSource K.told (B.view into.old) (K.view disk.old) }
-    requires named { IsTrue (is_path path.now) }
     requires hold { K.told → has_dirs (B.view into.old).kind ≡ true }
     ensures goes { MakesSteps K.told (B.view into.old) (K.view disk.old) (K.view disk.new)
         (ask.MakeDir path.now ∷ []) result }

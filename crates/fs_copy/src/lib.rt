@@ -13,7 +13,9 @@
 //! - `walk`: the entries, depth first, without memory: where the walk is, is a path and the last name there.
 //! - `ahead`: the names of a directory, of which some are read ahead: they stay while the target changes.
 //! - `entry`, `pieces`, `batches`: one entry, the bytes of a file, and several pieces of it at once.
-//! - `paths`: what is asked is a path, also where the disk tells nothing.
+//!
+//! A refusal is handed on by `match` in this crate: each answer is proved case by case, and `?` would put a conversion
+//! between what was called and what is answered.
 #![tactic(auto)]
 
 mod ahead;
@@ -22,7 +24,6 @@ mod copied;
 mod copy;
 mod entry;
 mod nested;
-mod paths;
 mod pieces;
 mod refusal;
 mod walk;

@@ -1,28 +1,14 @@
 //! The first directory of a tree but `/`.
 
-ghost use Rattle.std.specs.Prelude.{◌≡◌, ◌≢◌, [], ◌∷◌, cond, IsTrue, IfOk, IfErr, Some, None};
-ghost use Rattle.fs_trees.specs.Names.{is_path};
+ghost use Rattle.std.specs.Prelude.{◌≡◌, ◌≢◌, IsTrue, IfOk, IfErr};
 ghost use Rattle.fs_trees.specs.Tree.{at, is_dir, is_there};
 ghost use Rattle.fs_trees.specs.declared.refusal.FsRefusal.TheVariants as no;
 ghost use Rattle.fs_port.specs.Runs.{Looks};
 ghost use Rattle.fs_copy.specs.Going.{IsSource, tree_under};
 ghost use Rattle.fs_copy.specs.Nesting.{first_dir};
 
-use crate::paths::is_path;
 use fs_port::{Blocks, Files};
 use fs_trees::{FsRefusal, NAMES_MAX, Name, Path};
-
-/// The path of a name in `/`, if it is one.
-fn path_of(name: Name) -> Option<Path>
-    ensures { result ≡ cond (is_path (name ∷ [])) (Some (name ∷ [])) None }
-{
-    let mut path = Path::new();
-    match path.push(name) {
-        Ok(()) => {}
-        Err(_) => return None,
-    }
-    if is_path(&path) { Some(path) } else { None }
-}
 
 /// Whether a directory stands at a path of a tree.
 fn is_dir_at<K: Blocks, A: Files>(
@@ -31,7 +17,6 @@ fn is_dir_at<K: Blocks, A: Files>(
     path: &Path,
 ) -> Result<bool, FsRefusal>
     requires set { IsSource K.told (A.view from.old) (K.view disk.old) }
-    requires named { IsTrue (is_path path.now) }
     requires there { K.told → IsTrue (is_there (at (tree_under (A.view from.old) (K.view disk.old)) path.now)) }
     ensures told { K.told → IfOk result (λ it. it ≡ is_dir (at (tree_under (A.view from.old) (K.view disk.old))
         path.now)) }
@@ -68,10 +53,11 @@ pub fn first_dir<K: Blocks, A: Files>(disk: &mut K, from: &mut A) -> Result<Opti
             Some(name) => name,
             None => return Ok(None),
         };
-        let mut path = match path_of(name) {
-            Some(path) => path,
-            None => return Err(FsRefusal::NotThisFs),
-        };
+        let mut path = Path::new();
+        match path.push(name) {
+            Ok(()) => {}
+            Err(_) => return Err(FsRefusal::NotThisFs),
+        }
         let is_dir = match is_dir_at(disk, from, &path) {
             Ok(is_dir) => is_dir,
             Err(why) => return Err(why),

@@ -1,8 +1,7 @@
 //! The bytes of a file, by its pieces.
 
-ghost use Rattle.std.specs.Prelude.{◌≡◌, ◌≢◌, take, length, IfErr, IfOk, IsTrue};
+ghost use Rattle.std.specs.Prelude.{◌≡◌, ◌≢◌, take, length, IfErr, IfOk};
 ghost use Rattle.fs_trees.specs.Copying.{file_steps, piece_max};
-ghost use Rattle.fs_trees.specs.Names.{is_path};
 ghost use Rattle.fs_trees.specs.Tree.{at, bytes_in};
 ghost use Rattle.fs_trees.specs.declared.refusal.FsRefusal.TheVariants as no;
 ghost use Rattle.fs_port.specs.Runs.{Looks};
@@ -24,7 +23,6 @@ pub fn size_of<K: Blocks, A: Files>(
     first: &Data,
 ) -> Result<u64, FsRefusal>
     requires set { IsSource K.told (A.view from.old) (K.view disk.old) }
-    requires named { IsTrue (is_path path.now) }
     requires file { K.told → IsFileAt (tree_under (A.view from.old) (K.view disk.old)) path.now }
     requires first { K.told
         → first.now ≡ take piece_max (bytes_in (at (tree_under (A.view from.old) (K.view disk.old)) path.now)) }
@@ -51,7 +49,6 @@ pub fn copy_file<K: Blocks, A: Walks, B: Files>(
     size: u64,
 ) -> Result<(), FsRefusal>
     requires set { AreSet K.told (A.view from.old) (B.view into.old) (K.view disk.old) }
-    requires named { IsTrue (is_path path.now) }
     requires file { K.told → IsFileAt (tree_under (A.view from.old) (K.view disk.old)) path.now }
     requires first { K.told
         → first.now ≡ take piece_max (bytes_in (at (tree_under (A.view from.old) (K.view disk.old)) path.now)) }

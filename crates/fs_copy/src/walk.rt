@@ -1,6 +1,6 @@
 //! The entries of a tree, copied in their order.
 
-ghost use Rattle.std.specs.Prelude.{◌≡◌, ◌+◌, ◌*◌, ◌↔◌, [], ◌∷◌, ◌++◌, true, false, IsTrue, IfOk};
+ghost use Rattle.std.specs.Prelude.{◌≡◌, ◌+◌, ◌*◌, ◌↔◌, [], ◌∷◌, ◌++◌, true, false, IfOk};
 ghost use Rattle.fs_trees.specs.ChainTree.{names_max};
 ghost use Rattle.fs_trees.specs.Copying.{entry_steps};
 ghost use Rattle.fs_trees.specs.Names.{is_path};
@@ -13,7 +13,6 @@ ghost use Rattle.fs_copy.specs.Walk.{AreAhead, IsCountedOn, IsNextName, WalksOn,
 use crate::ahead::next_name;
 use crate::copied::Copied;
 use crate::entry::copy_entry;
-use crate::paths::is_path;
 use arrayvec::ArrayVec;
 use fs_port::{Blocks, Files};
 use fs_trees::{FsRefusal, NAMES_MAX, Name, Path};
@@ -69,7 +68,6 @@ fn enter<K: Blocks, A: Walks, B: Files>(
     name: Name,
 ) -> Result<bool, FsRefusal>
     requires set { AreSet K.told (A.view from.old) (B.view into.old) (K.view disk.old) }
-    requires named { IsTrue (is_path path.old) }
     requires next { K.told → IsNextName (tree_under (A.view from.old) (K.view disk.old)) path.old after.old name }
     requires ahead { K.told → AreAhead (tree_under (A.view from.old) (K.view disk.old)) path.old name
         ahead.old.items }
@@ -85,9 +83,6 @@ fn enter<K: Blocks, A: Walks, B: Files>(
     match path.push(name) {
         Ok(()) => {}
         Err(_) => return Err(FsRefusal::NotThisFs),
-    }
-    if !is_path(path) {
-        return Err(FsRefusal::NotThisFs);
     }
     let size = match copy_entry(disk, from, into, path) {
         Ok(size) => size,
@@ -115,7 +110,6 @@ fn turn<K: Blocks, A: Walks, B: Files>(
     ahead: &mut ArrayVec<Name, NAMES_AT_ONCE>,
 ) -> Result<bool, FsRefusal>
     requires set { AreSet K.told (A.view from.old) (B.view into.old) (K.view disk.old) }
-    requires named { IsTrue (is_path path.old) }
     requires dir { K.told → is_dir (at (tree_under (A.view from.old) (K.view disk.old)) path.old) ≡ true }
     requires ahead { K.told → AreAhead (tree_under (A.view from.old) (K.view disk.old)) path.old after.old
         ahead.old.items }

@@ -5,6 +5,7 @@ use Rattle.fs_trees.specs.Names.{Name, name_lt, is_name, is_below_first_name, ar
 use Rattle.fs_trees.specs.Fields.{Entry, entry_in, entries, entry_names, all_named}
 use Rattle.fs_fields.specs.Around.{listed_before, place_in}
 use Rattle.fs_fields.proofs.PadLaws.{entries_from}
+use Rattle.tsd_model.proofs.ValueLaws.{and_false}
 
 -- by what the name in the entry is tested to be
 module _ (n : Name) (xs : List ℕ) (amount i : ℕ) (h : i < amount) (m : Name) (is : m ≡ (entry_in (drop (32 * i) xs)).name) where
@@ -70,11 +71,7 @@ module _ (last : Name) (xs : List ℕ) (amount i : ℕ) (h : i < amount) (m : Na
   no_name_stops p = step ∙ ap (λ t. (t && all_named later) && (name_lt last m && (is_below_first_name m (entry_names later) && are_ascending (entry_names later)))) p
 
   pub not_above_stops : name_lt last m ≡ false → follow last (entries (amount - i) (drop (32 * i) xs)) ≡ false
-  not_above_stops p = step ∙ (ap (λ t. (is_name m && all_named later) && (t && (is_below_first_name m (entry_names later) && are_ascending (entry_names later)))) p ∙ and_no (is_name m && all_named later))
-    where
-      and_no : (t : Bool) → (t && false) ≡ false
-      and_no true = refl
-      and_no false = refl
+  not_above_stops p = step ∙ (ap (λ t. (is_name m && all_named later) && (t && (is_below_first_name m (entry_names later) && are_ascending (entry_names later)))) p ∙ and_false (is_name m && all_named later))
 
   pub follow_goes_on : is_name m ≡ true → name_lt last m ≡ true → follow last (entries (amount - i) (drop (32 * i) xs)) ≡ follow m (entries (amount - (i + 1)) (drop (32 * (i + 1)) xs))
   unfolding later

@@ -7,10 +7,10 @@ ghost use Rattle.fs_trees.specs.Fields.{entries, entry_names, all_named, entry_b
 ghost use Rattle.fs_trees.specs.Inode.{block_named};
 ghost use Rattle.fs_fields.specs.Around.{place_in, behind_in, listed_before, listed_behind};
 
-use crate::names::{is_below, is_name, trimmed};
+use crate::names::{is_below, trimmed};
 use crate::numbers::{number_at, write_number};
-use fs_trees::Name;
 use fs_trees::name::NAME_MAX;
+use fs_trees::{Name, is_name};
 use tsd_model::lists::DATA_MAX;
 use tsd_model::{Data, ListFull};
 
@@ -88,18 +88,6 @@ pub fn around<'a>(list: &'a [u8], amount: usize, name: &[u8]) -> (&'a [u8], &'a 
     )
 }
 
-/// A name of these bytes.
-fn name_of(bytes: &[u8]) -> Name
-    requires { length bytes.now ≤ 28 }
-    ensures { result ≡ bytes.now }
-{
-    let mut name = Name::new();
-    for byte in bytes {
-        let _ = name.push(*byte);
-    }
-    name
-}
-
 /// The first name above another among so many entries.
 pub fn next_name(list: &[u8], amount: usize, after: &[u8]) -> Option<Name>
     requires { 32 * amount ≤ length list.now }
@@ -110,7 +98,7 @@ pub fn next_name(list: &[u8], amount: usize, after: &[u8]) -> Option<Name>
         let entry = &list[32 * i..32 * i + 32];
         let name = trimmed(&entry[4..]);
         if is_below(after, name) {
-            return Some(name_of(name));
+            return Some(Name::from_bytes(name));
         }
     }
     None

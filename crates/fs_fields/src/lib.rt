@@ -12,5 +12,5 @@ mod names;
 mod numbers;
 
 pub use entries::{ENTRY_BYTES, are_in_order, around, block_of, next_name, write_entry};
-pub use names::{is_below, is_name, trimmed};
+pub use names::{is_below, trimmed};
 pub use numbers::{NUMBER_BYTES, are_apart, is_among, number_at, write_number};

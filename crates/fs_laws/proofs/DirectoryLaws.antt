@@ -3,9 +3,7 @@ use Rattle.std.proofs.Common.{◌≡◌, ℕ, suc, Bool, true, false, not, cond,
 use Rattle.fs_laws.proofs.Common.{eq-eqb, eqb-true, and_parts, and_from, or_cases, or_right, or_parts, nat_tests, option_and_then, block_len, World, contents, has_number, are_apart, Name, Path, name_lt, none, file, dir, Node, nothing, a_file, a_dir, entry, child, at, is_there, before, with_entry, with_child, with_at, Entry, Inode, directory, regular, inode_in, block_named, with_listed, without_listed, InodeNode, InodeEntries, inode_at, with_first, entries_by, as_dir, node_by, node_at, inode_blocks}
 use Rattle.fs_laws.proofs.ListLaws.{any-append, number_left, number_right, first_in}
 use Rattle.fs_laws.proofs.InodeLaws.{node_blocks, node_same, root_block}
-
-clash : (t : Bool) → t ≡ true → t ≡ false → ⊥
-clash t p q = cc
+use Rattle.tsd_model.proofs.ValueLaws.{clash}
 
 -- ---- names are in a line
 

@@ -1,5 +1,5 @@
 -- After a directory's block was written with one entry set or taken out, the tree is the one with that change.
-use Rattle.std.proofs.Common.{◌≡◌, ℕ, zero, suc, ◌+◌, ◌<◌, ◌≤◌, Bool, true, false, not, cond, ◌&&◌, ◌==◌, List, [], ◌∷◌, ◌++◌, length, refl, sym, ◌∙◌, ap, arith, inl, inr, ◌⊎◌, Some}
+use Rattle.std.proofs.Common.{◌≡◌, ℕ, zero, suc, ◌+◌, ◌<◌, ◌≤◌, true, false, not, cond, ◌&&◌, ◌==◌, List, [], ◌∷◌, ◌++◌, length, refl, sym, ◌∙◌, ap, arith, inl, inr, ◌⊎◌, Some}
 use Rattle.fs_laws.proofs.Common.{and_parts, and_from, or_cases, eq-eqb, eqb-true, not-true, or_left, or_right, list_all, option_and_then, block_len, World, contents, has_number, are_apart, holds, with_contents, all_of_held, contents-other, contents-same, Name, Path, path_max, nothing, a_dir, at, entry, is_there, with_entry, with_child, with_at, Entry, Inode, directory, inode_in, with_listed, without_listed, InodeNode, InodeEntries, inode_at, entries_by, node_at, inode_blocks, data_blocks, named_pairs, are_right, tree_of, inode_tree}
 use Rattle.fs_laws.proofs.ListLaws.{all_held}
 use Rattle.fs_laws.proofs.InodeLaws.{node_blocks, HasRoot, under_is, tree_same}
@@ -7,9 +7,7 @@ use Rattle.fs_laws.proofs.DirectoryLaws.{deeper, block_at, node_away, entry_is_p
 use Rattle.fs_laws.proofs.CountLaws.{times, times_none, none_times, apart_times, times_apart, times-with_entry, times-with_at}
 use Rattle.fs_laws.proofs.SumLaws.{node_data, data-with_entry, data-with_at, node_pairs, namer, pair_times, pair_times_none, none_pair_times, pairs-with_entry, pairs-with_at}
 use Rattle.fs_laws.proofs.MapLaws.{tree-with_at}
-
-clash : (t : Bool) → t ≡ true → t ≡ false → ⊥
-clash t p q = cc
+use Rattle.tsd_model.proofs.ValueLaws.{clash}
 
 -- ---- what is right, by counting
 

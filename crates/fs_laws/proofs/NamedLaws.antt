@@ -1,10 +1,9 @@
 -- What is named under a root stays.
 use Rattle.std.proofs.Common.{◌≡◌, ℕ, ◌<◌, Bool, true, false, not, ◌&&◌, ◌==◌, List, [], ◌∷◌, refl, sym, ◌∙◌, ap, subst, inl, inr, arith}
-use Rattle.fs_laws.proofs.Common.{eq-eqb, eqb-true, and_parts, and_from, or_cases, lt-ltb, not-true, or_left, or_right, nat_tests, list_any, World, contents, is_live, is_primary, has_number, holds, is_pair, reach, restricted, doomed, settle, Sessions, IsValid, IsRaw, State, change, raised_by, without_pointer, with_pointer, with_contents, with_new_blocks, zeros, run_at, chosen, chosen_run, answer, PlaceKind, Request, writes_to, holds-filter, live-restricted, holds-restricted, target_stays, is_doomed, primary_reached, target_reached, raw-without_pointer, only_adds, live-change, holds-change, contents-change, contents-kept, after_answer, Named, is_led_to, are_led_to, hang_from, IsUnder, Keeps, spares}
+use Rattle.fs_laws.proofs.Common.{eq-eqb, eqb-true, and_parts, and_from, or_cases, lt-ltb, not-true, or_left, or_right, nat_tests, list_any, World, contents, is_live, is_primary, has_number, holds, is_pair, reach, restricted, doomed, settle, Sessions, IsValid, IsRaw, State, change, raised_by, without_pointer, run_at, chosen, chosen_run, answer, PlaceKind, Request, writes_to, holds-filter, live-restricted, holds-restricted, target_stays, is_doomed, primary_reached, target_reached, raw-without_pointer, only_adds, live-change, holds-change, contents-change, contents-kept, after_answer, Named, is_led_to, are_led_to, hang_from, IsUnder, Keeps, spares}
 use Rattle.tsd_model.specs.declared.requests.Request.TheVariants as ask
-
-clash : (t : Bool) → t ≡ true → t ≡ false → ⊥
-clash t p q = cc
+use Rattle.tsd_model.proofs.ValueLaws.{clash}
+use Rattle.disk_laws.proofs.FitLaws.{geometry-new_blocks}
 
 -- ---- what holds of the root, and of a pair's target where it holds of its source, holds of each block
 
@@ -44,10 +43,6 @@ primary_stays w raw b h = ap not (is_doomed w raw.sized.each_block b ∙ not_han
   where
     not_hanging : (x y z : Bool) → y ≡ true → ((x && not y) && z) ≡ false
     not_hanging x y z e = grind (arith, nat_tests)
-
-geometry-new_blocks : (a : ℕ) (bs : List ℕ) (w : World) → (with_new_blocks w a bs).geometry ≡ w.geometry
-geometry-new_blocks a [] w = refl
-geometry-new_blocks a (b ∷ bs) w = geometry-new_blocks a bs (with_pointer (with_contents w b (zeros w)) a b)
 
 module _ (w : World) (root : ℕ) (n : Named) (valid : IsValid w) (under : IsUnder w root n) where
   named_live : (b : ℕ) → has_number n.blocks b ≡ true → is_live w b ≡ true

@@ -1,11 +1,9 @@
 -- Entries of a directory under different names, and under one.
-use Rattle.std.proofs.Common.{◌≡◌, Bool, true, false, cond, ◌&&◌, ◌==◌, nat_lt, [], ◌∷◌, refl, sym, ◌∙◌, ap, inl, inr, ◌⊎◌}
+use Rattle.std.proofs.Common.{◌≡◌, true, false, cond, ◌&&◌, ◌==◌, nat_lt, [], ◌∷◌, refl, sym, ◌∙◌, ap, inl, inr, ◌⊎◌}
 use Rattle.fs_laws.proofs.Common.{and_parts, and_from, or_cases, or_left, or_right, eqb-true, eq-eqb, nat_tests, Name, name_lt, Entries, none, file, dir, Node, nothing, a_file, a_dir, entry, is_there, before, with_entry}
 use Rattle.std.proofs.Common.{arith}
 use Rattle.fs_laws.proofs.DirectoryLaws.{names_meet}
-
-pub clash : (t : Bool) → t ≡ true → t ≡ false → ⊥
-clash t p q = cc
+use Rattle.tsd_model.proofs.ValueLaws.{clash}
 
 -- ---- names are in a line
 

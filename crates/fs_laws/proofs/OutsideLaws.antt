@@ -4,9 +4,7 @@ use Rattle.fs_laws.proofs.Common.{and_parts, and_from, eq-eqb, eqb-true, not-tru
 use Rattle.tsd_model.specs.declared.requests.Request.TheVariants as ask
 use Rattle.fs_laws.specs.Outside.{is_local, is_inside}
 use Rattle.fs_laws.proofs.UnderLaws.{each_under, root_under, target_under}
-
-clash : (t : Bool) → t ≡ true → t ≡ false → ⊥
-clash t p q = cc
+use Rattle.tsd_model.proofs.ValueLaws.{and_true, clash}
 
 -- two blocks of which one is inside and the other isn't
 unlike : (p : ℕ → Bool) (a b : ℕ) → p a ≡ true → p b ≡ false → (a == b) ≡ false
@@ -106,10 +104,6 @@ module _ (w : World) (valid : IsValid w) (root : ℕ) (primary : root < w.geomet
         apart = still_apart (settle next) (λ a b h. inl (was_held x y a b (and_parts (holds next.pairs a b) (keep a) (sym (holds-restricted next keep a b) ∙ h)).0));
       }
     where
-      and_true : (t : Bool) → (t && true) ≡ t
-      and_true true = refl
-      and_true false = refl
-
       other_pair : (t s u : Bool) → s ≡ false → (t && not (s && u)) ≡ t
       other_pair t true u e = absurd (cc)
       other_pair true false u e = refl

@@ -1,7 +1,6 @@
 //! What every file system promises.
 
-ghost use Rattle.std.specs.Prelude.{◌≡◌, true, [], IfErr, IsTrue, MatchResult};
-ghost use Rattle.fs_trees.specs.Names.{is_path};
+ghost use Rattle.std.specs.Prelude.{◌≡◌, true, [], IfErr, MatchResult};
 ghost use Rattle.fs_trees.specs.Answer.{done};
 ghost use Rattle.fs_trees.specs.declared.ask.ShellAsk.TheVariants as ask;
 ghost use Rattle.fs_trees.specs.declared.refusal.FsRefusal.TheVariants as no;
@@ -55,7 +54,6 @@ pub trait Files {
     fn put<K: Blocks>(&mut self, disk: &mut K, path: &Path, bytes: &Data) -> Result<(), FsRefusal>
         requires ready { IsClientReady (view self.old) (K.view disk.old) }
         requires valid { K.told → IsValidNow (K.view disk.old) }
-        requires named { IsTrue (is_path path.now) }
         requires tree { K.told → HasTree (view self.old) (K.view disk.old) }
         /// promise: **The answer is that of the ask's step on the tree, and the tree afterwards is the step's; a
         /// refusal leaves the world as it was.** So too of `make_dir`, `append`, `copy` and `remove`.
@@ -80,7 +78,6 @@ pub trait Files {
         requires dirs { has_dirs (view self.old).kind ≡ true }
         requires ready { IsClientReady (view self.old) (K.view disk.old) }
         requires valid { K.told → IsValidNow (K.view disk.old) }
-        requires named { IsTrue (is_path path.now) }
         requires tree { K.told → HasTree (view self.old) (K.view disk.old) }
         ensures answer { K.told → Answers (view self.old) (K.view disk.old) (K.view disk.new) (ask.MakeDir path.now)
             result (λ _ answer. answer ≡ done) }
@@ -97,7 +94,6 @@ pub trait Files {
     ) -> Result<(), FsRefusal>
         requires ready { IsClientReady (view self.old) (K.view disk.old) }
         requires valid { K.told → IsValidNow (K.view disk.old) }
-        requires named { IsTrue (is_path path.now) }
         requires tree { K.told → HasTree (view self.old) (K.view disk.old) }
         ensures answer { K.told → Answers (view self.old) (K.view disk.old) (K.view disk.new)
             (ask.Append path.now bytes.now) result (λ _ answer. answer ≡ done) }
@@ -112,8 +108,6 @@ pub trait Files {
         requires dirs { has_dirs (view self.old).kind ≡ true }
         requires ready { IsClientReady (view self.old) (K.view disk.old) }
         requires valid { K.told → IsValidNow (K.view disk.old) }
-        requires named { IsTrue (is_path path.now) }
-        requires new_named { IsTrue (is_path new.now) }
         requires tree { K.told → HasTree (view self.old) (K.view disk.old) }
         ensures answer { K.told → Answers (view self.old) (K.view disk.old) (K.view disk.new)
             (ask.Copy path.now new.now) result (λ _ answer. answer ≡ done) }
@@ -125,7 +119,6 @@ pub trait Files {
     fn remove<K: Blocks>(&mut self, disk: &mut K, path: &Path) -> Result<(), FsRefusal>
         requires ready { IsClientReady (view self.old) (K.view disk.old) }
         requires valid { K.told → IsValidNow (K.view disk.old) }
-        requires named { IsTrue (is_path path.now) }
         requires tree { K.told → HasTree (view self.old) (K.view disk.old) }
         ensures answer { K.told → Answers (view self.old) (K.view disk.old) (K.view disk.new) (ask.Rm path.now) result
             (λ _ answer. answer ≡ done) }
@@ -136,7 +129,6 @@ pub trait Files {
     fn size<K: Blocks>(&mut self, disk: &mut K, path: &Path) -> Result<u64, FsRefusal>
         requires ready { IsClientReady (view self.old) (K.view disk.old) }
         requires valid { K.told → IsValidNow (K.view disk.old) }
-        requires named { IsTrue (is_path path.now) }
         requires tree { K.told → HasTree (view self.old) (K.view disk.old) }
         /// promise: The size of the file at the path, by the tree.
         ensures answer { K.told → Answers (view self.old) (K.view disk.old) (K.view disk.new) (ask.Cat path.now)
@@ -155,7 +147,6 @@ pub trait Files {
     ) -> Result<(), FsRefusal>
         requires ready { IsClientReady (view self.old) (K.view disk.old) }
         requires valid { K.told → IsValidNow (K.view disk.old) }
-        requires named { IsTrue (is_path path.now) }
         requires tree { K.told → HasTree (view self.old) (K.view disk.old) }
         /// promise (with looks): The part of the file from an offset, by the tree; no world is changed.
         ensures answer { K.told → Answers (view self.old) (K.view disk.old) (K.view disk.new) (ask.Cat path.now)
@@ -174,7 +165,6 @@ pub trait Files {
     ) -> Result<Option<Name>, FsRefusal>
         requires ready { IsClientReady (view self.old) (K.view disk.old) }
         requires valid { K.told → IsValidNow (K.view disk.old) }
-        requires named { IsTrue (is_path path.now) }
         requires tree { K.told → HasTree (view self.old) (K.view disk.old) }
         /// promise (with looks): The next name of the directory, by the tree; no world is changed.
         ensures answer { K.told → Answers (view self.old) (K.view disk.old) (K.view disk.new) (ask.Ls path.now) result

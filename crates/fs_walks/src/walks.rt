@@ -1,8 +1,8 @@
 //! Reading that goes on where it was.
 
-ghost use Rattle.std.specs.Prelude.{◌≡◌, ◌+◌, ℕ, [], IfErr, IfOk, IfSome, IsTrue};
+ghost use Rattle.std.specs.Prelude.{◌≡◌, ◌+◌, ℕ, [], IfErr, IfOk, IfSome};
 ghost use Rattle.tsd_model.specs.Step.{State};
-ghost use Rattle.fs_trees.specs.Names.{Path, is_path};
+ghost use Rattle.fs_trees.specs.Names.{Path};
 ghost use Rattle.fs_trees.specs.declared.ask.ShellAsk.TheVariants as ask;
 ghost use Rattle.fs_port.specs.Calls.{IsValidNow};
 ghost use Rattle.fs_port.specs.Files.{FilesView, Answers, HasTree, IsClientReady, TellsPart};
@@ -38,7 +38,6 @@ pub trait Walks: Files {
     ) -> Result<Option<Place>, FsRefusal>
         requires ready { IsClientReady (Self.view self.old) (K.view disk.old) }
         requires valid { K.told → IsValidNow (K.view disk.old) }
-        requires named { IsTrue (is_path path.now) }
         requires tree { K.told → HasTree (Self.view self.old) (K.view disk.old) }
         requires place { K.told
             → IfSome place (leads (Self.view self.old) (state_of (K.view disk.old)) path.now start) }
@@ -63,7 +62,6 @@ pub trait Walks: Files {
     ) -> Result<(), FsRefusal>
         requires ready { IsClientReady (Self.view self.old) (K.view disk.old) }
         requires valid { K.told → IsValidNow (K.view disk.old) }
-        requires named { IsTrue (is_path path.now) }
         requires tree { K.told → HasTree (Self.view self.old) (K.view disk.old) }
         /// promise (with looks): Next names of the directory, by the tree, each the one behind the one before; none
         /// only where none comes. No world is changed.

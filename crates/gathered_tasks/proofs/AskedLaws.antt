@@ -1,32 +1,18 @@
 -- What one request leaves of the disk of blocks.
 use Rattle.std.proofs.Common.{◌≡◌, ◌⊎◌, inl, inr, ℕ, zero, suc, ◌+◌, ◌≤◌, Bool, true, false, List, ◌∷◌, length, Option, Some, None, refl, sym, ◌∙◌, ap, arith}
-use Rattle.std.specs.Prelude.{Result, Ok, Err, IfOk, OnOk, OnErr}
+use Rattle.gathered_tasks.proofs.Common.{AtFirst, Err, Failed, GoesOn, HasLeft, HasRoomFor, IfOk, IsAmong, Ok, OnErr, OnOk, PlaceKind, Request, Result, State, There, View, WasWorld, WentBelow, World, blocks_view, gathered, held_state, held_world, judged, room_for, told_state, world_below}
 use Rattle.tsd_model.specs.Needs.{is_steady}
 use Rattle.tsd_model.specs.Run.{IsAnswer, answer}
 use Rattle.tsd_model.specs.Sessions.{is_open}
-use Rattle.tsd_model.specs.Step.{State, judged}
-use Rattle.tsd_model.specs.World.{World}
 use Rattle.tsd_model.specs.declared.replies.Reply.{Reply}
-use Rattle.tsd_model.specs.declared.requests.PlaceKind.{PlaceKind}
-use Rattle.tsd_model.specs.declared.requests.Request.{Request}
 use Rattle.disk_laws.proofs.AnswerLaws.{after_answer}
-use Rattle.image_device.specs.View.{View}
-use Rattle.image_device.specs.declared.device.Failed.{Failed}
-use Rattle.image_layout.specs.declared.offset.Patch.{Patch}
-use Rattle.intent_journal.specs.Records.{JournalRecord}
 use Rattle.volume_laws.proofs.QuestionLaws.{told_size}
 use Rattle.fs_port.specs.View.{DiskView, Left}
 use Rattle.fs_port.specs.Calls.{Counts, IsAskCarriedOut, IsEitherSide, LeavesWorldsOnly, Stays}
 use Rattle.fs_port.proofs.PlainLaws.{steady_records, steady_open}
-use Rattle.tsd_core.specs.Core.{Core, told_state}
 use Rattle.tsd_core.specs.Applying.{IsToldAnswer, next_world}
-use Rattle.gathered_tasks.specs.Bounds.{HasRoomFor, room_for}
-use Rattle.gathered_tasks.specs.Carried.{IsAmong}
-use Rattle.gathered_tasks.specs.Held.{GoesOn, held_state}
-use Rattle.gathered_tasks.specs.Rooms.{gathered}
 use Rattle.gathered_tasks.specs.declared.asked.Before.{Before}
 use Rattle.gathered_tasks.specs.BlockLaws.{none_since}
-use Rattle.gathered_tasks.specs.Blocks.{There, AtFirst, HasLeft, WasWorld, WentBelow, blocks_view, held_world, world_below}
 
 -- the world after an answer is that before, or the next one
 next_or_same : (kind : PlaceKind) (s : State) (q : Request) (want : Bool) → ((answer kind s q want).state.world ≡ s.world) ⊎ ((answer kind s q want).state.world ≡ next_world kind s q)
@@ -61,19 +47,19 @@ module _ {P : Type 0} (view : P → View) (lenders : ℕ × ℕ) (kind : PlaceKi
       elim (next_or_same kind s0 q given.want) [ inl same ↦ inl (is ∙ same) | inr next ↦ inr (is ∙ next) ]
   now_is (Err e) given spent unspent = let clash : true ≡ false = sym spent ∙ unspent in absurd (cc)
 
-  module _ (result : Result Reply Failed) (unspent : old.core.volume.is_spent ≡ false) (given : IfOk result (λ r. IsAnswer kind s0 q r s1)) (goes : GoesOn (Unit {0}) old.core new.core new.room.ring (gathered old.room) (gathered new.room) (view old.dev) (view new.dev) (next_world kind s0 q) result)
+  module _ (result : Result Reply Failed) (unspent : old.core.volume.is_spent ≡ false) (given : IfOk result (λ r. IsAnswer kind s0 q r s1)) {told : Type 0} (t : told) (goes : GoesOn told old.core new.core new.room.ring (gathered old.room) (gathered new.room) (view old.dev) (view new.dev) (next_world kind s0 q) result)
       (base : OnOk result (IsAmong (world_below view old.dev) (held_world view old.room old.dev) (held_world view new.room new.dev) (world_below view new.dev)))
       (quiet : HasRoomFor old.core (gathered old.room) q → (view new.dev).writes ≡ (view old.dev).writes) (grows : HasRoomFor old.core (gathered old.room) q → length (gathered new.room) ≤ length (gathered old.room) + room_for old.core.volume.tables.geometry q) where
     sent : (view new.dev).sent ≡ (view old.dev).sent
-    sent = goes.sent tt
+    sent = goes.sent t
 
     went : WentBelow view kind b new
     went = record {
       unspent = unspent;
       size = goes.size;
       sent = sent;
-      leaves = goes.any_moment tt;
-      behind = goes.behind tt;
+      leaves = goes.any_moment t;
+      behind = goes.behind t;
       base = λ fine. among result goes.spent base fine;
       quiet = quiet;
       grows = grows;
@@ -142,17 +128,3 @@ module _ {P : Type 0} (view : P → View) (lenders : ℕ × ℕ) (kind : PlaceKi
     put_faults = goes.works.put_faults;
     lenders = refl;
   }
-
--- the same where it is told
-pub asked_told : {T : Type 0} (told : Type 0) → told → (c0 c1 : Core) (ring : List JournalRecord) (b0 b1 : List Patch) (v w : View) (next : World) (result : Result T Failed) → GoesOn told c0 c1 ring b0 b1 v w next result → GoesOn (Unit {0}) c0 c1 ring b0 b1 v w next result
-asked_told told t c0 c1 ring b0 b1 v w next result goes = record {
-  ready = goes.ready;
-  at = λ u. goes.at t;
-  size = goes.size;
-  spent = goes.spent;
-  sent = λ u. goes.sent t;
-  any_moment = λ u. goes.any_moment t;
-  behind = λ u. goes.behind t;
-  works = goes.works;
-  faults = goes.faults;
-}

@@ -1,28 +1,10 @@
 -- A task on the device itself.
-use Rattle.std.proofs.Common.{◌≡◌, inl, inr, ⊎_elim, true, arith, List, [], sym, ◌∙◌, ap, subst}
-use Rattle.std.specs.Prelude.{Result, Ok, Err, IfOk, OnOk, OnErr}
-use Rattle.tsd_model.specs.World.{World}
-use Rattle.tsd_model.specs.Step.{State}
-use Rattle.image_device.specs.Counts.{CountsFault, Rose}
-use Rattle.image_device.specs.declared.device.Failed.{Failed}
-use Rattle.image_device.specs.View.{IsSound, View}
-use Rattle.image_device.specs.Runs.{LeavesOnly, LeavesPart}
-use Rattle.image_device.proofs.Moments.{joined}
-use Rattle.image_device.proofs.Parts.{part_then}
-use Rattle.image_layout.specs.declared.offset.Patch.{Patch}
-use Rattle.intent_journal.specs.Records.{AreClosed, JournalRecord}
-use Rattle.image_world.specs.Behind.{behind}
-use Rattle.image_world.specs.Stands.{Stands, world_of}
-use Rattle.gathering.specs.Gathered.{gone_on}
-use Rattle.volume_laws.specs.Moments.{LeavesEither, StandsForEither}
-use Rattle.volume_laws.specs.Volume.{world_on}
-use Rattle.volume_laws.specs.Writes.{Works}
-use Rattle.tsd_core.specs.Core.{Core, IsCoreAt, IsCoreReady, state_on}
-use Rattle.tsd_core.specs.Work.{SameSize}
-use Rattle.gathered_tasks.specs.Held.{GoesOn, IsInMemory, StandsForAny, held_state}
+use Rattle.std.proofs.Common.{◌≡◌, inl, inr, ⊎_elim, true, List, [], sym, ◌∙◌, ap, subst}
+use Rattle.gathered_tasks.proofs.Common.{AreClosed, Core, CountsFault, Err, Failed, GoesOn, IfOk, IsCoreAt, IsCoreReady, IsInMemory, IsSound, JournalRecord, LeavesEither, LeavesOnly, LeavesPart, Ok, OnErr, OnOk, Patch, Result, Rose, SameSize, Stands, StandsForAny, StandsForEither, State, View, Works, World, behind, gone_on, held_state, joined, part_then, state_on, world_of, world_on}
+use Rattle.volume_laws.proofs.OperationLaws.{works_joined}
 use Rattle.gathered_tasks.proofs.HoldLaws.{below_at, below_base, below_state}
 
--- the facts of the task
+-- the facts of a task, on the device or over a part
 pub record RanBelow {T : Type 0} (told : Type 0) (c0 c1 : Core) (u w : View) (next : World) (r : Result T Failed) : Type 0 where
   pub ready : OnOk r (IsCoreReady c1)
   pub empty : OnOk r (c1.volume.ring ≡ [])
@@ -36,9 +18,6 @@ pub record RanBelow {T : Type 0} (told : Type 0) (c0 c1 : Core) (u w : View) (ne
   pub works : Works u w
   pub faults : CountsFault r u.faults w.faults
 
-pub works_then : (v u w : View) → Works v u → Works u w → Works v w
-works_then v u w a b = record { clock = omega (arith, a.clock, b.clock); faults = omega (arith, a.faults, b.faults); put_faults = b.put_faults ∙ a.put_faults; writes = omega (arith, a.writes, b.writes) }
-
 module _ (told : Type 0) (c0 c1 : Core) (ring : List JournalRecord) (b0 b1 : List Patch) (v u w : View) (next : World) (ringed : ring ≡ []) (none : b1 ≡ []) (sound : told → IsSound u)
     (first : told → LeavesOnly v u (λ x f. StandsForAny (world_of v.reads) (world_of (gone_on b0 v.reads)) next x × (f ≡ v.sent))) (aside : told → LeavesPart (behind c0.volume.tables.geometry) v u)
     (sent : told → u.sent ≡ v.sent) (works : Works v u) (same : u.faults ≡ v.faults) (now : told → world_on u ≡ world_of (gone_on b0 v.reads)) where
@@ -50,13 +29,13 @@ module _ (told : Type 0) (c0 c1 : Core) (ring : List JournalRecord) (b0 b1 : Lis
   pub below_goes : {T : Type 0} (r : Result T Failed) → RanBelow told c0 c1 u w next r → GoesOn told c0 c1 ring b0 b1 v w next r
   below_goes (Ok x) ran = record {
     ready = record { ready = ran.ready; empty = ran.empty };
-    at = λ t. subst (λ (b : List Patch). IsInMemory c1 ring b w) (sym none) (subst (λ (rs : List JournalRecord). IsInMemory c1 rs [] w) (sym ringed) (below_at c1 w (ran.at t) ran.empty (ran.closed t)));
+    at = λ t. subst (λ (b : List Patch). IsInMemory c1 ring b w) (sym none) (subst (λ (rs : List JournalRecord). IsInMemory c1 rs [] w) (sym ringed) (below_at w (ran.at t) ran.empty (ran.closed t)));
     size = ran.size;
     spent = tt;
     sent = λ t. ran.sent t ∙ sent t;
     any_moment = λ t. moments t (ran.any_moment t);
     behind = λ t. part_then (behind c0.volume.tables.geometry) v u w (sound t) (aside t) (ran.behind t);
-    works = works_then v u w works ran.works;
+    works = works_joined v u w works ran.works;
     faults = ran.faults ∙ same;
   }
   below_goes (Err e) ran = record {
@@ -67,16 +46,16 @@ module _ (told : Type 0) (c0 c1 : Core) (ring : List JournalRecord) (b0 b1 : Lis
     sent = λ t. ran.sent t ∙ sent t;
     any_moment = λ t. moments t (ran.any_moment t);
     behind = λ t. part_then (behind c0.volume.tables.geometry) v u w (sound t) (aside t) (ran.behind t);
-    works = works_then v u w works ran.works;
+    works = works_joined v u w works ran.works;
     faults = subst (λ n. Rose n w.faults) same ran.faults;
   }
 
-pub below_world : {T : Type 0} (told : Type 0) (c0 c1 : Core) (u w : View) (next : World) (r : Result T Failed) → RanBelow told c0 c1 u w next r → told → OnOk r (world_of w.reads ≡ world_of (gone_on [] w.reads))
-below_world told c0 c1 u w next (Ok x) ran t = below_base c1 w (ran.at t) ran.empty (ran.closed t)
-below_world told c0 c1 u w next (Err e) ran t = tt
+pub below_world : {T : Type 0} {told : Type 0} {c0 c1 : Core} {u w : View} {next : World} (r : Result T Failed) → RanBelow told c0 c1 u w next r → told → OnOk r (world_of w.reads ≡ world_of (gone_on [] w.reads))
+below_world {w = w} (Ok x) ran t = below_base w (ran.at t) ran.empty (ran.closed t)
+below_world (Err e) ran t = tt
 
-pub below_given : {T : Type 0} (told : Type 0) (c0 c1 : Core) (b0 b1 : List Patch) (v u w : View) (next : World) (r : Result T Failed) → RanBelow told c0 c1 u w next r → b1 ≡ [] → (P : State → T → State → Type 0) → (t : told)
+pub below_given : {T : Type 0} {told : Type 0} {c0 c1 : Core} (b0 : List Patch) {b1 : List Patch} (v : View) {u w : View} {next : World} (r : Result T Failed) → RanBelow told c0 c1 u w next r → b1 ≡ [] → (P : State → T → State → Type 0) → (t : told)
     → state_on c0 u.reads ≡ held_state c0 b0 v → IfOk r (λ x. P (state_on c0 u.reads) x (state_on c1 w.reads)) → IfOk r (λ x. P (held_state c0 b0 v) x (held_state c1 b1 w))
-below_given told c0 c1 b0 b1 v u w next (Ok x) ran none P t same given =
-    subst (λ (s : State). P s x (held_state c1 b1 w)) same (subst (λ (s : State). P (state_on c0 u.reads) x s) (sym (ap (λ (b : List Patch). held_state c1 b w) none ∙ below_state c1 w (ran.at t) ran.empty (ran.closed t))) given)
-below_given told c0 c1 b0 b1 v u w next (Err e) ran none P t same given = tt
+below_given {c0 = c0} {c1 = c1} b0 {b1 = b1} v {u = u} {w = w} (Ok x) ran none P t same given =
+    subst (λ (s : State). P s x (held_state c1 b1 w)) same (subst (λ (s : State). P (state_on c0 u.reads) x s) (sym (ap (λ (b : List Patch). held_state c1 b w) none ∙ below_state w (ran.at t) ran.empty (ran.closed t))) given)
+below_given b0 v (Err e) ran none P t same given = tt

@@ -1,23 +1,13 @@
 -- How often a request writes at most, with its records in place behind it.
 use Rattle.std.proofs.Common.{◌≡◌, inl, inr, ℕ, ◌+◌, ◌*◌, ◌≤◌, ◌==◌, ◌<◌, true, false, cond, List, [], ◌∷◌, length, refl, ◌∙◌, ap, arith}
-use Rattle.std.specs.Prelude.{Result, IsTrue, ◌↔◌, not, Bool, nat_lt, suc, zero}
-use Rattle.tsd_model.specs.declared.geometry.Geometry.{Geometry}
-use Rattle.image_world.specs.Tables.{pairs_of}
+use Rattle.gathered_tasks.proofs.Common.{Bool, Failed, Geometry, IsBound, IsTrue, IsVolumeReady, Patch, Request, Result, View, Volume, due, nat_lt, not, once_cost, owed, pairs_of, suc, told_by, zero, zeroed_cost, ◌↔◌}
 use Rattle.volume_laws.proofs.Pointed.{settled_pairs}
 use Rattle.std.proofs.lemmas.Bool.{cases_Bool}
 use Rattle.std.proofs.lemmas.Bool.Decides.{nat_tests}
-use Rattle.tsd_model.specs.declared.requests.Request.{Request}
-use Rattle.image_device.specs.View.{View}
-use Rattle.image_device.specs.declared.device.Failed.{Failed}
-use Rattle.image_layout.specs.declared.offset.Patch.{Patch}
 use Rattle.intent_journal.specs.Ring.{checkpoint_writes, committed, is_full_for}
 use Rattle.intent_journal.proofs.Costs.{checkpoint_added}
-use Rattle.image_world.specs.Debt.{owed}
 use Rattle.volume_laws.specs.Rings.{batch_writes, CommitsOnce, HasBatch}
-use Rattle.volume_laws.specs.Volume.{told_by, IsVolumeReady, Volume}
-use Rattle.volume_laws.specs.Writes.{due, zeroed_cost}
 use Rattle.tsd_core.specs.Journal.{count_of, makes_blocks, most_homes, waits}
-use Rattle.gathered_tasks.specs.Bounds.{IsBound, once_cost}
 
 -- what a commit on an empty journal writes, and leaves to be written
 first_writes : (homes : ℕ) → batch_writes [] homes ≤ cond (homes == 0) 0 (homes + 2)

@@ -1,40 +1,16 @@
 -- A core whose records of the journal are elsewhere, and what goes on with a disk in memory, call after call.
-use Rattle.std.proofs.Common.{◌≡◌, ◌+◌, List, [], refl, sym, ◌∙◌, ap, arith, ℕ, inl, inr, ⊎_elim, subst}
-use Rattle.std.specs.Prelude.{◌⊎◌, Result, Ok, Err, IfOk, IsErrAnd}
+use Rattle.std.proofs.Common.{◌≡◌, List, [], refl, sym, ◌∙◌, ap, ℕ, inl, inr, ⊎_elim, subst}
+use Rattle.gathered_tasks.proofs.Common.{CarriesOut, Core, CountsFault, Err, Failed, GoesOn, HoldsOn, IfOk, Image, IsAmong, IsCoreAt, IsErrAnd, IsGood, IsInMemory, IsReadyInMemory, IsSound, JournalRecord, LeavesBaseOrNow, LeavesOnly, Ok, Patch, PlaceKind, Request, Result, Stands, StandsForAny, State, View, World, behind, cleared, ends_in, firm_image, gone_on, held_state, home, joined, part_stays, sessions_of, started, state_on, tables_of, told_state, told_world, weakened, world_of, ◌⊎◌}
 use Rattle.std.proofs.lemmas.Result.{IfOk-weaker, on_ok_weaker}
-use Rattle.tsd_model.specs.World.{World}
-use Rattle.tsd_model.specs.Step.{State}
-use Rattle.tsd_model.specs.declared.geometry.Geometry.{Geometry}
 use Rattle.tsd_model.specs.Run.{IsAnswer, answer}
 use Rattle.tsd_model.specs.declared.replies.Reply.{Reply}
-use Rattle.tsd_model.specs.declared.requests.PlaceKind.{PlaceKind}
-use Rattle.tsd_model.specs.declared.requests.Request.{Request}
-use Rattle.image_device.specs.View.{View, IsSound}
-use Rattle.image_device.specs.Counts.{CountsFault}
-use Rattle.image_device.specs.declared.device.Failed.{Failed}
-use Rattle.image_device.specs.Runs.{LeavesOnly}
-use Rattle.image_device.proofs.Moments.{ends_in, firm_image, joined, started, weakened}
-use Rattle.image_device.proofs.Parts.{part_stays}
-use Rattle.image_layout.specs.Areas.{total}
-use Rattle.image_layout.specs.Image.{Image}
-use Rattle.image_layout.specs.declared.offset.Patch.{Patch}
-use Rattle.intent_journal.specs.Home.{home}
-use Rattle.intent_journal.specs.Records.{JournalRecord}
-use Rattle.image_world.specs.Behind.{behind}
-use Rattle.image_world.specs.Faults.{IsGood}
-use Rattle.image_world.specs.Stands.{Stands, world_of}
-use Rattle.image_world.specs.Tables.{tables_of}
 use Rattle.image_world.proofs.AgreeLaws.{alike_outside, old_stands}
 use Rattle.image_world.proofs.AlikeLaws.{alike_tables}
-use Rattle.image_world.proofs.WrittenLaws.{above_journal}
-use Rattle.gathering.specs.Gathered.{cleared, gone_on}
 use Rattle.gathering.proofs.Closed.{cleared_closed, cleared_home, closed_ring, closed_valid}
 use Rattle.volume_laws.proofs.OperationLaws.{works_joined, works_none}
-use Rattle.tsd_core.specs.Core.{Core, IsCoreAt, IsCoreReady, state_on, told_state, sessions_of, told_world}
 use Rattle.tsd_core.proofs.Common.{AreLike}
 use Rattle.tsd_core.specs.Applying.{IsReplyLike, IsToldAnswer, next_world}
-use Rattle.gathered_tasks.specs.Held.{IsInMemory, IsReadyInMemory, held_state, GoesOn, StandsForAny}
-use Rattle.gathered_tasks.specs.Carried.{HoldsOn, IsAmong, CarriesOut, LeavesBaseOrNow}
+use Rattle.gathered_tasks.proofs.HoldLaws.{cleared_aside}
 use Rattle.gathered_tasks.proofs.TaskLaws.{behind_more}
 
 -- the core with these records in place of its own
@@ -53,13 +29,7 @@ cleared_world x good = sym (cleared_stands x good).world
 cleared_tables : (x : Image) → IsGood x → tables_of (home (cleared x)) ≡ tables_of (home x)
 cleared_tables x good = alike_tables (home x) (home (cleared x)) good.header (alike_outside (home x) (home (cleared x)) (cleared_home x))
 
-begun_aside : (g : Geometry) (x : Image) → behind g (cleared x) ≡ behind g x
-begun_aside g x i n = cleared_home x (total g + n) (above_journal (total g + n) (omega arith)) i
-
 -- ---- the journal is taken from a core
-
-pub begun_ready : (c : Core) → IsCoreReady c → IsReadyInMemory (with_ring c [])
-begun_ready c ready = record { ready = record { volume = ready.volume; unspent = ready.unspent; made = ready.made }; empty = refl }
 
 module _ (c : Core) (v : View) (at : IsCoreAt c v) where
   pub begun_at : IsInMemory (with_ring c []) c.volume.ring [] v
@@ -73,17 +43,11 @@ module _ (c : Core) (v : View) (at : IsCoreAt c v) where
       good = (cleared_stands v.reads at.1.good).good;
       tables = cleared_tables v.reads at.1.good ∙ at.1.tables;
     };
-    aside = begun_aside c.volume.tables.geometry v.reads;
+    aside = cleared_aside c.volume.tables.geometry v.reads;
   }
 
   pub begun_state : held_state (with_ring c []) [] v ≡ state_on c v.reads
-  begun_state = ap (λ (w : World). state_in w) (cleared_world v.reads at.1.good)
-    where
-      state_in : World → State
-      state_in w = record { world = w; sessions = (state_on c v.reads).sessions }
-
-  pub begun_world : world_of (gone_on [] v.reads) ≡ world_of v.reads
-  begun_world = cleared_world v.reads at.1.good
+  begun_state i = record { world = cleared_world v.reads at.1.good i; sessions = (state_on c v.reads).sessions }
 
   -- the same of the core, the records and the batch that the call leaves
   module _ (d : Core) (rs : List JournalRecord) (batch : List Patch) (is : d ≡ with_ring c []) (given : rs ≡ c.volume.ring) (none : batch ≡ []) where
@@ -95,9 +59,6 @@ module _ (c : Core) (v : View) (at : IsCoreAt c v) where
 
 -- ---- and goes back to it
 
-pub ended_ready : (c : Core) (rs : List JournalRecord) → IsCoreReady c → IsCoreReady (with_ring c rs)
-ended_ready c rs ready = record { volume = ready.volume; unspent = ready.unspent; made = ready.made }
-
 pub ended_at : (c : Core) (rs : List JournalRecord) (v : View) → IsInMemory c rs [] v → IsCoreAt (with_ring c rs) v
 ended_at c rs v at = (
   at.firm,
@@ -108,17 +69,6 @@ ended_at c rs v at = (
     tables = sym (cleared_tables v.reads at.good) ∙ at.fits.tables;
   },
 )
-
--- its state is that of the disk in memory
-pub ended_state : (c : Core) (rs : List JournalRecord) (v : View) → IsInMemory c rs [] v → state_on (with_ring c rs) v.reads ≡ held_state c [] v
-ended_state c rs v at = sym (ap (λ (w : World). state_in w) (cleared_world v.reads at.good))
-  where
-    state_in : World → State
-    state_in w = record { world = w; sessions = (state_on c v.reads).sessions }
-
--- the state on the device after the commit, where memory tells the same as before it
-pub ended_held : (c d : Core) (batch : List Patch) (v w : View) → world_of w.reads ≡ world_of (gone_on batch v.reads) → told_state d ≡ told_state c → state_on d w.reads ≡ held_state c batch v
-ended_held c d batch v w world told i = record { world = world i; sessions = (told i).sessions }
 
 -- ---- worlds
 
@@ -159,9 +109,9 @@ base_or_now batch v w leaves =
 -- ---- one call
 
 -- the same, said of an equal world
-pub goes_to : {T : Type 0} (told : Type 0) (c0 c1 : Core) (ring : List JournalRecord) (b0 b1 : List Patch) (v w : View) (next to : World) (r : Result T Failed) → (told → next ≡ to)
+goes_to : {T : Type 0} {told : Type 0} {c0 c1 : Core} {ring : List JournalRecord} {b0 b1 : List Patch} {v w : View} {next to : World} {r : Result T Failed} → (told → next ≡ to)
     → GoesOn told c0 c1 ring b0 b1 v w next r → GoesOn told c0 c1 ring b0 b1 v w to r
-goes_to told c0 c1 ring b0 b1 v w next to r same goes = record {
+goes_to {b0 = b0} {v = v} {w = w} same goes = record {
   ready = goes.ready;
   at = goes.at;
   size = goes.size;
@@ -174,31 +124,24 @@ goes_to told c0 c1 ring b0 b1 v w next to r same goes = record {
 }
 
 -- one that failed, with a failure of another type and another next world
-goes_failed : {S T : Type 0} (told : Type 0) (c0 c1 : Core) (ring : List JournalRecord) (b0 b1 : List Patch) (v w : View) (next : World) (e e1 : Failed)
+goes_failed : {S T : Type 0} {told : Type 0} {c0 c1 : Core} {ring : List JournalRecord} {b0 b1 : List Patch} {v w : View} (next : World) {e e1 : Failed}
     → GoesOn {T = S} told c0 c1 ring b0 b1 v w (world_of (gone_on b0 v.reads)) (Err e) → GoesOn {T = T} told c0 c1 ring b0 b1 v w next (Err e1)
-goes_failed told c0 c1 ring b0 b1 v w next e e1 goes = record {
+goes_failed {b0 = b0} {v = v} {w = w} next goes = record {
   ready = tt;
   at = λ t. tt;
   size = goes.size;
   spent = goes.spent;
   sent = goes.sent;
-  any_moment = λ t. weakened v w (λ x f. StandsForAny base now now x × (f ≡ v.sent)) (λ x f. StandsForAny base now next x × (f ≡ v.sent)) (goes.any_moment t)
-      (λ x f left. (any_of_two base now next x left.0, left.1));
+  any_moment = λ t. weakened v w _ (λ x f. StandsForAny (world_of v.reads) (world_of (gone_on b0 v.reads)) next x × (f ≡ v.sent)) (goes.any_moment t)
+      (λ x f left. (any_of_two (world_of v.reads) (world_of (gone_on b0 v.reads)) next x left.0, left.1));
   behind = goes.behind;
   works = goes.works;
   faults = goes.faults;
 }
-  where
-    base : World
-    base = world_of v.reads
-
-    now : World
-    now = world_of (gone_on b0 v.reads)
 
 -- ---- one call more
 
-module _ {S : Type 0} (told : Type 0) (c0 c1 c2 : Core) (mid ring : List JournalRecord) (b0 b1 b2 : List Patch) (v u w : View) (s : S)
-    (first : HoldsOn {T = S} told c0 c1 mid b0 b1 v u (Ok s)) (sound : told → IsSound u) where
+module _ {S : Type 0} {told : Type 0} {c0 c1 : Core} {mid : List JournalRecord} {b0 b1 : List Patch} {v u : View} {s : S} (first : HoldsOn {T = S} told c0 c1 mid b0 b1 v u (Ok s)) (sound : told → IsSound u) where
   same_now : told → world_of (gone_on b1 u.reads) ≡ world_of (gone_on b0 v.reads)
   same_now t = ap (λ (k : State). k.world) (first.state t)
 
@@ -207,9 +150,9 @@ module _ {S : Type 0} (told : Type 0) (c0 c1 c2 : Core) (mid ring : List Journal
       stands_for (world_of v.reads) (world_of (gone_on b0 v.reads)) u.reads
       (ends_in v u (λ x f. StandsForAny (world_of v.reads) (world_of (gone_on b0 v.reads)) (world_of (gone_on b0 v.reads)) x × (f ≡ v.sent)) (sound t) (first.goes_on.any_moment t)).0
 
-  moments : (next : World) → told → LeavesOnly u w (λ x f. StandsForAny (world_of u.reads) (world_of (gone_on b1 u.reads)) next x × (f ≡ u.sent))
+  moments : {w : View} (next : World) → told → LeavesOnly u w (λ x f. StandsForAny (world_of u.reads) (world_of (gone_on b1 u.reads)) next x × (f ≡ u.sent))
       → LeavesOnly v w (λ x f. StandsForAny (world_of v.reads) (world_of (gone_on b0 v.reads)) next x × (f ≡ v.sent))
-  moments next t more =
+  moments {w = w} next t more =
       joined v u w (λ x f. StandsForAny (world_of v.reads) (world_of (gone_on b0 v.reads)) next x × (f ≡ v.sent)) (λ x f. StandsForAny (world_of u.reads) (world_of (gone_on b1 u.reads)) next x × (f ≡ u.sent))
       (weakened v u (λ x f. StandsForAny (world_of v.reads) (world_of (gone_on b0 v.reads)) (world_of (gone_on b0 v.reads)) x × (f ≡ v.sent)) (λ x f. StandsForAny (world_of v.reads) (world_of (gone_on b0 v.reads)) next x × (f ≡ v.sent)) (first.goes_on.any_moment t)
       (λ x f left. (any_of_two (world_of v.reads) (world_of (gone_on b0 v.reads)) next x left.0, left.1)))
@@ -217,8 +160,8 @@ module _ {S : Type 0} (told : Type 0) (c0 c1 c2 : Core) (mid ring : List Journal
       (λ x f left. (any_later (world_of v.reads) (world_of (gone_on b0 v.reads)) next (world_of u.reads) (world_of (gone_on b1 u.reads)) x (at_mid t) (same_now t) left.0, left.1 ∙ first.goes_on.sent t))
 
   -- Two calls in a row, the first of which leaves the state as it is.
-  pub goes_then : {T : Type 0} (next : World) (r : Result T Failed) → GoesOn told c1 c2 ring b1 b2 u w next r → GoesOn told c0 c2 ring b0 b2 v w next r
-  goes_then next r more = record {
+  pub goes_then : {T : Type 0} {c2 : Core} {ring : List JournalRecord} {b2 : List Patch} {w : View} {next : World} {r : Result T Failed} → GoesOn told c1 c2 ring b1 b2 u w next r → GoesOn told c0 c2 ring b0 b2 v w next r
+  goes_then {w = w} {next = next} {r = r} more = record {
     ready = more.ready;
     at = more.at;
     size = record { geometry = more.size.geometry ∙ first.goes_on.size.geometry; version = more.size.version ∙ first.goes_on.size.version };
@@ -231,15 +174,15 @@ module _ {S : Type 0} (told : Type 0) (c0 c1 c2 : Core) (mid ring : List Journal
   }
 
   -- both leave it
-  pub holds_then : {T : Type 0} (r : Result T Failed) → HoldsOn told c1 c2 ring b1 b2 u w r → HoldsOn told c0 c2 ring b0 b2 v w r
-  holds_then r more = record {
-    goes_on = goes_to told c0 c2 ring b0 b2 v w (world_of (gone_on b1 u.reads)) (world_of (gone_on b0 v.reads)) r same_now (goes_then (world_of (gone_on b1 u.reads)) r more.goes_on);
+  pub holds_then : {T : Type 0} {c2 : Core} {ring : List JournalRecord} {b2 : List Patch} {w : View} {r : Result T Failed} → HoldsOn told c1 c2 ring b1 b2 u w r → HoldsOn told c0 c2 ring b0 b2 v w r
+  holds_then {r = r} more = record {
+    goes_on = goes_to same_now (goes_then more.goes_on);
     state = λ t. on_ok_weaker r (λ is. is ∙ first.state t) (more.state t);
     told_state = on_ok_weaker r (λ is. is ∙ first.told_state) more.told_state;
   }
 
-  told_then : (kind : PlaceKind) (q : Request) (r : Reply) → IsToldAnswer kind c1 q r c2 → IsToldAnswer kind c0 q r c2
-  told_then kind q r is = record {
+  told_then : (kind : PlaceKind) (q : Request) (r : Reply) (c2 : Core) → IsToldAnswer kind c1 q r c2 → IsToldAnswer kind c0 q r c2
+  told_then kind q r c2 is = record {
     want = is.want;
     reply = subst (λ (k : State). IsReplyLike r (answer kind k q is.want).reply) first.told_state is.reply;
     world = subst (λ (k : State). AreLike (told_world c2) (answer kind k q is.want).state.world) first.told_state is.world;
@@ -247,31 +190,30 @@ module _ {S : Type 0} (told : Type 0) (c0 c1 c2 : Core) (mid ring : List Journal
   }
 
   -- the second carries out a request
-  pub carried_then : (kind : PlaceKind) (q : Request) (r : Result Reply Failed) → CarriesOut told kind q c1 c2 ring b1 b2 u w r → CarriesOut told kind q c0 c2 ring b0 b2 v w r
-  carried_then kind q r more = record {
-    goes_on = goes_to told c0 c2 ring b0 b2 v w (next_world kind (held_state c1 b1 u) q) (next_world kind (held_state c0 b0 v) q) r (λ t. ap (λ (k : State). next_world kind k q) (first.state t))
-        (goes_then (next_world kind (held_state c1 b1 u) q) r more.goes_on);
+  pub carried_then : {c2 : Core} {ring : List JournalRecord} {b2 : List Patch} {w : View} {kind : PlaceKind} {q : Request} {r : Result Reply Failed} → CarriesOut told kind q c1 c2 ring b1 b2 u w r → CarriesOut told kind q c0 c2 ring b0 b2 v w r
+  carried_then {c2 = c2} {b2 = b2} {w = w} {kind = kind} {q = q} {r = r} more = record {
+    goes_on = goes_to (λ t. ap (λ (k : State). next_world kind k q) (first.state t)) (goes_then more.goes_on);
     given = λ t. subst (λ (k : State). IfOk r (λ a. IsAnswer kind k q a (held_state c2 b2 w))) (first.state t) (more.given t);
-    told_given = IfOk-weaker r (λ a. IsToldAnswer kind c1 q a c2) (λ a. IsToldAnswer kind c0 q a c2) (λ a is. told_then kind q a is) more.told_given;
+    told_given = IfOk-weaker r (λ a. IsToldAnswer kind c1 q a c2) (λ a. IsToldAnswer kind c0 q a c2) (λ a is. told_then kind q a c2 is) more.told_given;
     base = λ t. on_ok_weaker r (among_later (world_of v.reads) (world_of (gone_on b0 v.reads)) (world_of (gone_on b2 w.reads)) (world_of u.reads) (world_of (gone_on b1 u.reads)) (world_of w.reads) (at_mid t) (same_now t)) (more.base t);
   }
 
 -- ---- a call that failed, in one that fails by it
 
-pub holds_failed : {S T : Type 0} (told : Type 0) (c0 c1 : Core) (ring : List JournalRecord) (b0 b1 : List Patch) (v w : View) (e : Failed) (Q : Failed → Type 0) (r : Result T Failed) → IsErrAnd r Q
+pub holds_failed : {S T : Type 0} {told : Type 0} {c0 c1 : Core} {ring : List JournalRecord} {b0 b1 : List Patch} {v w : View} {e : Failed} (Q : Failed → Type 0) (r : Result T Failed) → IsErrAnd r Q
     → HoldsOn {T = S} told c0 c1 ring b0 b1 v w (Err e) → HoldsOn {T = T} told c0 c1 ring b0 b1 v w r
-holds_failed told c0 c1 ring b0 b1 v w e Q (Ok x) is holds = absurd is
-holds_failed told c0 c1 ring b0 b1 v w e Q (Err f) is holds = record {
-  goes_on = goes_failed told c0 c1 ring b0 b1 v w (world_of (gone_on b0 v.reads)) e f holds.goes_on;
+holds_failed Q (Ok x) is holds = absurd is
+holds_failed {b0 = b0} {v = v} Q (Err f) is holds = record {
+  goes_on = goes_failed (world_of (gone_on b0 v.reads)) holds.goes_on;
   state = λ t. tt;
   told_state = tt;
 }
 
-pub carried_failed : {S : Type 0} (told : Type 0) (kind : PlaceKind) (q : Request) (c0 c1 : Core) (ring : List JournalRecord) (b0 b1 : List Patch) (v w : View) (e : Failed) (Q : Failed → Type 0) (r : Result Reply Failed) → IsErrAnd r Q
+pub carried_failed : {S : Type 0} {told : Type 0} (kind : PlaceKind) (q : Request) {c0 c1 : Core} {ring : List JournalRecord} {b0 b1 : List Patch} {v w : View} {e : Failed} (Q : Failed → Type 0) (r : Result Reply Failed) → IsErrAnd r Q
     → HoldsOn {T = S} told c0 c1 ring b0 b1 v w (Err e) → CarriesOut told kind q c0 c1 ring b0 b1 v w r
-carried_failed told kind q c0 c1 ring b0 b1 v w e Q (Ok x) is holds = absurd is
-carried_failed told kind q c0 c1 ring b0 b1 v w e Q (Err f) is holds = record {
-  goes_on = goes_failed told c0 c1 ring b0 b1 v w (next_world kind (held_state c0 b0 v) q) e f holds.goes_on;
+carried_failed kind q Q (Ok x) is holds = absurd is
+carried_failed kind q {c0 = c0} {b0 = b0} {v = v} Q (Err f) is holds = record {
+  goes_on = goes_failed (next_world kind (held_state c0 b0 v) q) holds.goes_on;
   given = λ t. tt;
   told_given = tt;
   base = λ t. tt;
@@ -279,21 +221,11 @@ carried_failed told kind q c0 c1 ring b0 b1 v w e Q (Err f) is holds = record {
 
 -- ---- a call that answers something, and leaves the state as it is
 
-pub holds_of : {S T : Type 0} (told : Type 0) (c0 c1 : Core) (ring : List JournalRecord) (b0 b1 : List Patch) (v w : View) (s : S) (x : T)
+pub holds_of : {S T : Type 0} {told : Type 0} {c0 c1 : Core} {ring : List JournalRecord} {b0 b1 : List Patch} {v w : View} {s : S} (x : T)
     → GoesOn {T = S} told c0 c1 ring b0 b1 v w (world_of (gone_on b0 v.reads)) (Ok s) → (told → held_state c1 b1 w ≡ held_state c0 b0 v) → told_state c1 ≡ told_state c0
     → HoldsOn {T = T} told c0 c1 ring b0 b1 v w (Ok x)
-holds_of told c0 c1 ring b0 b1 v w s x goes state same = record {
-  goes_on = record {
-    ready = goes.ready;
-    at = goes.at;
-    size = goes.size;
-    spent = tt;
-    sent = goes.sent;
-    any_moment = goes.any_moment;
-    behind = goes.behind;
-    works = goes.works;
-    faults = goes.faults;
-  };
+holds_of x goes state same = record {
+  goes_on = record { ready = goes.ready; at = goes.at; size = goes.size; spent = tt; sent = goes.sent; any_moment = goes.any_moment; behind = goes.behind; works = goes.works; faults = goes.faults };
   state = state;
   told_state = same;
 }

@@ -1,37 +1,15 @@
 -- What a core does on a disk in memory, said of the device below it.
 use Rattle.image_device.specs.Image.{zeros}
 use Rattle.std.proofs.Common.{◌≡◌, inl, inr, ℕ, cond, ◌+◌, ◌≤◌, true, false, Bool, List, [], length, refl, sym, ◌∙◌, ap, subst, arith}
-use Rattle.std.specs.Prelude.{Result, Ok, Err, is_err}
-use Rattle.tsd_model.specs.World.{World}
-use Rattle.tsd_model.specs.Step.{State}
-use Rattle.tsd_model.specs.declared.geometry.Geometry.{Geometry}
-use Rattle.image_device.specs.View.{View}
-use Rattle.image_device.specs.Runs.{IsFirm, LeavesOnly, LeavesPart}
-use Rattle.image_device.proofs.Moments.{weakened}
-use Rattle.image_layout.specs.Areas.{total}
-use Rattle.image_layout.specs.Image.{Image}
-use Rattle.image_layout.specs.declared.offset.Patch.{Patch}
+use Rattle.gathered_tasks.proofs.Common.{AgreeBut, AreClosed, Core, CountsFault, Err, Failed, FitsReads, Geometry, GoesOn, Image, IsCoreReady, IsFirm, IsGood, IsInMemory, JournalRecord, LeavesOnly, LeavesPart, Ok, Patch, Result, Rose, SameSize, Stands, StandsForAny, State, View, Works, World, at_closed, at_valid, behind, cleared, gone_on, held_state, home, is_err, is_journal, open_records, overlaid, state_on, total, weakened, world_of}
 use Rattle.intent_journal.specs.Crash.{IsBefore, IsBeforeOrAfter}
-use Rattle.intent_journal.specs.Home.{home, overlaid, is_journal, AgreeBut}
-use Rattle.intent_journal.specs.Records.{AreClosed, JournalRecord, open_records}
 use Rattle.intent_journal.specs.Ring.{IsRingAt}
 use Rattle.intent_journal.proofs.Overlays.{overlaid_alike}
-use Rattle.intent_journal.proofs.Uses.{at_closed, at_valid}
-use Rattle.image_world.specs.Behind.{behind}
-use Rattle.image_world.specs.Faults.{IsGood}
-use Rattle.image_world.specs.Stands.{Stands, world_of}
 use Rattle.image_world.proofs.AgreeLaws.{before_outside, before_stands}
 use Rattle.image_world.proofs.WrittenLaws.{above_journal}
-use Rattle.gathering.specs.Gathered.{cleared, gone_on}
 use Rattle.gathering.proofs.Closed.{cleared_closed, cleared_home, closed_home, closed_ring}
 use Rattle.gathering_laws.proofs.Alike.{carries_over, closed_alike}
-use Rattle.tsd_core.specs.Core.{Core, FitsReads, IsCoreReady, state_on}
 use Rattle.image_device.specs.Calls.{Uses}
-use Rattle.image_device.specs.Counts.{CountsFault, Rose}
-use Rattle.image_device.specs.declared.device.Failed.{Failed}
-use Rattle.volume_laws.specs.Writes.{Works}
-use Rattle.tsd_core.specs.Work.{SameSize}
-use Rattle.gathered_tasks.specs.Held.{GoesOn, IsInMemory, StandsForAny, held_state}
 
 -- ---- disks with closed journals
 
@@ -62,10 +40,7 @@ cleared_aside g x i n = cleared_home x (total g + n) (above_journal (total g + n
 
 -- ---- a commit
 
-module _ (c : Core) (rs : List JournalRecord) (batch : List Patch) (v : View) (empty : c.volume.ring ≡ []) (at : IsInMemory c rs batch v) where
-  held : Image
-  held = gone_on batch v.reads
-
+module _ {c : Core} {rs : List JournalRecord} {batch : List Patch} {v : View} (empty : c.volume.ring ≡ []) (at : IsInMemory c rs batch v) where
   held_closed : AreClosed (gone_on batch v.reads)
   held_closed = fits_closed c (gone_on batch v.reads) empty at.fits
 
@@ -93,7 +68,7 @@ module _ (c : Core) (rs : List JournalRecord) (batch : List Patch) (v : View) (e
           whole.stands (total c.volume.tables.geometry + n) out ∙ placed (total c.volume.tables.geometry + n) out ∙ (λ j. sym (closed_home (gone_on batch v.reads) held_closed) j (total c.volume.tables.geometry + n))
 
   -- after it
-  module _ (w : View) (ring : List JournalRecord) (firm : IsFirm w) (ringed : IsRingAt ring w) (done : AgreeBut is_journal (overlaid batch (home v.reads)) (home w.reads)) where
+  module _ {w : View} {ring : List JournalRecord} (firm : IsFirm w) (ringed : IsRingAt ring w) (done : AgreeBut is_journal (overlaid batch (home v.reads)) (home w.reads)) where
     agrees : AgreeBut is_journal (gone_on batch v.reads) (cleared w.reads)
     agrees n out = ap (λ b. cond b zeros (home w.reads n)) out ∙ done n out ∙ placed n out
 
@@ -128,34 +103,30 @@ works_of limit v w uses = record { clock = uses.clock; faults = uses.faults; put
 pub spent_size : (c d : Core) → d ≡ record c { volume = record c.volume { is_spent = true } } → SameSize c d
 spent_size c d is = record { geometry = ap (λ (k : Core). k.volume.tables.geometry) is; version = ap (λ (k : Core). k.volume.tables.version) is }
 
-module _ (told : Type 0) (c : Core) (rs : List JournalRecord) (batch : List Patch) (v w : View) (empty : c.volume.ring ≡ []) (at : told → IsInMemory c rs batch v)
+-- a call that failed, and so spent the core
+spent_fails : {T told : Type 0} {c d : Core} {ring : List JournalRecord} {b0 b1 : List Patch} {v w : View} {next : World} → d ≡ record c { volume = record c.volume { is_spent = true } } → (told → w.sent ≡ v.sent) → (told → LeavesOnly v w (λ x f. StandsForAny (world_of v.reads) (world_of (gone_on b0 v.reads)) next x × (f ≡ v.sent)))
+    → (told → LeavesPart (behind c.volume.tables.geometry) v w) → Works v w → Rose v.faults w.faults → GoesOn {T = T} told c d ring b0 b1 v w next (Err record {})
+spent_fails {c = c} {d = d} is sent any aside works rose =
+    record { ready = tt; at = λ t. tt; size = spent_size c d is; spent = ap (λ (k : Core). k.volume.is_spent) is; sent = sent; any_moment = any; behind = aside; works = works; faults = rose }
+
+module _ {told : Type 0} {c : Core} {rs : List JournalRecord} {batch : List Patch} {v w : View} (empty : c.volume.ring ≡ []) (at : told → IsInMemory c rs batch v)
     (leaves : told → LeavesOnly v w (λ x f. IsBeforeOrAfter batch v x × (f ≡ v.sent))) where
   commit_moments : (next : World) → told → LeavesOnly v w (λ x f. StandsForAny (world_of v.reads) (world_of (gone_on batch v.reads)) next x × (f ≡ v.sent))
-  commit_moments next t = weakened v w (λ x f. IsBeforeOrAfter batch v x × (f ≡ v.sent)) (λ x f. StandsForAny (world_of v.reads) (world_of (gone_on batch v.reads)) next x × (f ≡ v.sent)) (leaves t) (λ x f left. (commit_left c rs batch v empty (at t) next x left.0, left.1))
+  commit_moments next t = weakened v w (λ x f. IsBeforeOrAfter batch v x × (f ≡ v.sent)) (λ x f. StandsForAny (world_of v.reads) (world_of (gone_on batch v.reads)) next x × (f ≡ v.sent)) (leaves t) (λ x f left. (commit_left empty (at t) next x left.0, left.1))
 
   commit_aside : told → LeavesPart (behind c.volume.tables.geometry) v w
-  commit_aside t = weakened v w (λ x f. IsBeforeOrAfter batch v x × (f ≡ v.sent)) (λ x f. behind c.volume.tables.geometry x ≡ behind c.volume.tables.geometry v.reads) (leaves t) (λ x f left. commit_behind c rs batch v empty (at t) x left.0)
+  commit_aside t = weakened v w (λ x f. IsBeforeOrAfter batch v x × (f ≡ v.sent)) (λ x f. behind c.volume.tables.geometry x ≡ behind c.volume.tables.geometry v.reads) (leaves t) (λ x f left. commit_behind empty (at t) x left.0)
 
   pub commit_fails : {T : Type 0} (d : Core) (ring : List JournalRecord) (b1 : List Patch) (next : World) → d ≡ record c { volume = record c.volume { is_spent = true } } → (told → w.sent ≡ v.sent) → Works v w → Rose v.faults w.faults
       → GoesOn {T = T} told c d ring batch b1 v w next (Err record {})
-  commit_fails d ring b1 next is sent works rose = record {
-    ready = tt;
-    at = λ t. tt;
-    size = spent_size c d is;
-    spent = ap (λ (k : Core). k.volume.is_spent) is;
-    sent = sent;
-    any_moment = commit_moments next;
-    behind = commit_aside;
-    works = works;
-    faults = rose;
-  }
+  commit_fails d ring b1 next is sent works rose = spent_fails is sent (commit_moments next) commit_aside works rose
 
   pub commit_done : (ring : List JournalRecord) (b1 : List Patch) (next : World) → IsCoreReady c → (told → w.sent ≡ v.sent) → Works v w → w.faults ≡ v.faults → b1 ≡ []
       → (told → IsFirm w) → (told → IsRingAt ring w) → (told → AgreeBut is_journal (overlaid batch (home v.reads)) (home w.reads))
       → GoesOn {T = Unit {0}} told c c ring batch b1 v w next (Ok tt)
   commit_done ring b1 next ready sent works same none firm ringed done = record {
     ready = record { ready = ready; empty = empty };
-    at = λ t. subst (λ (b : List Patch). IsInMemory c ring b w) (sym none) (committed_at c rs batch v empty (at t) w ring (firm t) (ringed t) (done t));
+    at = λ t. subst (λ (b : List Patch). IsInMemory c ring b w) (sym none) (committed_at empty (at t) (firm t) (ringed t) (done t));
     size = record { geometry = refl; version = refl };
     spent = tt;
     sent = sent;
@@ -167,8 +138,8 @@ module _ (told : Type 0) (c : Core) (rs : List JournalRecord) (batch : List Patc
 
 -- ---- on the device itself
 
-module _ (c : Core) (rs : List JournalRecord) (v : View) (empty : c.volume.ring ≡ []) (at : IsInMemory c rs [] v) where
-  module _ (u : View) (firm : IsFirm u) (ringed : IsRingAt [] u) (done : AgreeBut is_journal (home v.reads) u.reads) where
+module _ {c : Core} {rs : List JournalRecord} {v : View} (empty : c.volume.ring ≡ []) (at : IsInMemory c rs [] v) where
+  module _ {u : View} (firm : IsFirm u) (ringed : IsRingAt [] u) (done : AgreeBut is_journal (home v.reads) u.reads) where
     emptied_closed : AreClosed u.reads
     emptied_closed index less = ringed.others_closed index (omega arith) less
 
@@ -185,7 +156,7 @@ module _ (c : Core) (rs : List JournalRecord) (v : View) (empty : c.volume.ring 
     emptied_state = emptied_over.1
 
 -- a core at a device whose journal is closed
-module _ (c : Core) (w : View) (at : IsFirm w × FitsReads c w.reads) (empty : c.volume.ring ≡ []) (closed : AreClosed w.reads) where
+module _ {c : Core} (w : View) (at : IsFirm w × FitsReads c w.reads) (empty : c.volume.ring ≡ []) (closed : AreClosed w.reads) where
   below_over : FitsReads c (cleared w.reads) × (state_on c (cleared w.reads) ≡ state_on c w.reads)
   below_over = fits_over c w.reads (cleared w.reads) at.1 closed (cleared_closed w.reads) (λ n out. ap (λ b. cond b zeros (home w.reads n)) out ∙ (λ i. closed_home w.reads closed i n))
 
@@ -199,7 +170,7 @@ module _ (c : Core) (w : View) (at : IsFirm w × FitsReads c w.reads) (empty : c
   below_base = ap (λ (s : State). s.world) (sym below_over.1)
 
 -- an emptied journal
-module _ (told : Type 0) (c : Core) (rs : List JournalRecord) (v u : View) (firm : told → IsFirm v) (good : told → IsGood v.reads) (leaves : told → LeavesOnly v u (λ x f. IsBefore v x × (f ≡ v.sent))) where
+module _ {told : Type 0} (c : Core) {v u : View} (firm : told → IsFirm v) (good : told → IsGood v.reads) (leaves : told → LeavesOnly v u (λ x f. IsBefore v x × (f ≡ v.sent))) where
   pub emptied_moments : (now next : World) → told → LeavesOnly v u (λ x f. StandsForAny (world_of v.reads) now next x × (f ≡ v.sent))
   emptied_moments now next t = weakened v u (λ x f. IsBefore v x × (f ≡ v.sent)) (λ x f. StandsForAny (world_of v.reads) now next x × (f ≡ v.sent)) (leaves t) (λ x f left. (inl (before_stands v x (firm t) (good t) left.0), left.1))
 
@@ -209,14 +180,4 @@ module _ (told : Type 0) (c : Core) (rs : List JournalRecord) (v u : View) (firm
 
   pub empty_fails : {T : Type 0} (d : Core) (ring : List JournalRecord) (b0 b1 : List Patch) (next : World) → d ≡ record c { volume = record c.volume { is_spent = true } } → (told → u.sent ≡ v.sent) → Works v u → Rose v.faults u.faults
       → GoesOn {T = T} told c d ring b0 b1 v u next (Err record {})
-  empty_fails d ring b0 b1 next is sent works rose = record {
-    ready = tt;
-    at = λ t. tt;
-    size = spent_size c d is;
-    spent = ap (λ (k : Core). k.volume.is_spent) is;
-    sent = sent;
-    any_moment = emptied_moments (world_of (gone_on b0 v.reads)) next;
-    behind = emptied_aside;
-    works = works;
-    faults = rose;
-  }
+  empty_fails d ring b0 b1 next is sent works rose = spent_fails is sent (emptied_moments (world_of (gone_on b0 v.reads)) next) emptied_aside works rose

@@ -1,3 +1,4 @@
+pub mod Common
 pub mod StrayLaws
 pub mod HoldLaws
 pub mod BoundLaws

@@ -1,48 +1,13 @@
 -- A task in memory, said of the device below.
-use Rattle.std.proofs.Common.{◌≡◌, ◌⊎◌, inl, inr, ⊎_elim, ℕ, ◌+◌, ◌≤◌, ◌<◌, true, List, [], length, refl, sym, ◌∙◌, ap, subst, arith}
-use Rattle.std.specs.Prelude.{Result, Ok, Err, IfOk, OnOk, OnErr}
-use Rattle.tsd_model.specs.World.{World}
-use Rattle.tsd_model.specs.Step.{State}
-use Rattle.tsd_model.specs.declared.geometry.Geometry.{Geometry}
+use Rattle.std.proofs.Common.{◌≡◌, ◌⊎◌, inl, inr, ⊎_elim, ℕ, ◌+◌, ◌≤◌, ◌<◌, List, length, refl, sym, ◌∙◌, ap, subst, arith}
+use Rattle.gathered_tasks.proofs.Common.{AgreeBut, AreClosed, Core, Err, Failed, FitsReads, Geometry, GoesOn, IfOk, Image, IsCoreAt, IsGood, IsInMemory, IsLeftNow, IsSound, JournalRecord, LeavesEither, LeavesOnly, LeavesPart, LeavesStray, Ok, Patch, Result, Rose, SameSize, Stands, StandsForAny, State, View, World, at_kept, behind, firm_image, gone_on, held_state, is_journal, part_at_end, state_on, weakened, world_of}
 use Rattle.image_device.specs.Calls.{Uses}
-use Rattle.image_device.specs.Counts.{CountsFault, Rose}
-use Rattle.image_device.specs.declared.device.Failed.{Failed}
-use Rattle.image_device.specs.View.{IsLeftNow, IsSound, View}
-use Rattle.image_device.specs.Runs.{LeavesOnly, LeavesPart}
-use Rattle.image_device.proofs.Moments.{firm_image, weakened}
-use Rattle.image_device.proofs.Parts.{part_at_end}
-use Rattle.image_layout.specs.Image.{Image}
 use Rattle.image_layout.specs.Ring.{bodies}
-use Rattle.image_layout.specs.declared.offset.Patch.{Patch}
 use Rattle.intent_journal.specs.Batch.{IsBatch}
-use Rattle.intent_journal.specs.Home.{is_journal, AgreeBut}
-use Rattle.intent_journal.specs.Records.{AreClosed, JournalRecord}
-use Rattle.intent_journal.proofs.Uses.{at_kept}
-use Rattle.image_world.specs.Behind.{behind}
-use Rattle.image_world.specs.Faults.{IsGood}
-use Rattle.image_world.specs.Stands.{Stands, world_of}
-use Rattle.gathering.specs.Gathered.{gone_on}
-use Rattle.gathering.specs.Parts.{LeavesStray}
 use Rattle.gathering.proofs.PartLaws.{on_closed}
-use Rattle.volume_laws.specs.Moments.{LeavesEither}
-use Rattle.tsd_core.specs.Core.{Core, FitsReads, IsCoreAt, IsCoreReady, state_on}
-use Rattle.tsd_core.specs.Work.{SameSize}
-use Rattle.gathered_tasks.specs.Held.{GoesOn, IsInMemory, StandsForAny, held_state}
+use Rattle.gathered_tasks.proofs.BelowGoes.{RanBelow}
 use Rattle.gathered_tasks.proofs.HoldLaws.{behind_closed, fits_over, works_of}
 use Rattle.gathered_tasks.proofs.StrayLaws.{no_stray}
-
--- the facts of a task over a part
-pub record RanInPart {T : Type 0} (told : Type 0) (c0 c1 : Core) (p0 p1 : View) (next : World) (most : ℕ) (r : Result T Failed) : Type 0 where
-  pub ready : OnOk r (IsCoreReady c1)
-  pub empty : OnOk r (c1.volume.ring ≡ [])
-  pub at : told → OnOk r (IsCoreAt c1 p1)
-  pub closed : told → OnOk r (AreClosed p1.reads)
-  pub size : SameSize c0 c1
-  pub spent : OnErr r (c1.volume.is_spent ≡ true)
-  pub any_moment : told → LeavesEither p0 p1 next
-  pub behind : told → LeavesPart (behind c0.volume.tables.geometry) p0 p1
-  pub wrote : p1.writes ≤ p0.writes + most
-  pub faults : CountsFault r p0.faults p1.faults
 
 -- the facts of a part as it is left
 pub record IsLeftOff (told : Type 0) (b0 b1 : List Patch) (p1 v w : View) : Type 0 where
@@ -56,14 +21,14 @@ pub record IsLeftOff (told : Type 0) (b0 b1 : List Patch) (p1 v w : View) : Type
   pub failed : 0 < p1.faults → Rose v.faults w.faults ⊎ (bodies < length b0 + p1.writes)
   pub unfailed : p1.faults ≡ 0 → w.faults ≡ v.faults
 
-module _ (told : Type 0) (c0 c1 : Core) (rs : List JournalRecord) (b0 b1 : List Patch) (v w p0 p1 : View) (next : World) (most : ℕ)
+module _ {told : Type 0} {c0 : Core} {rs : List JournalRecord} {b0 b1 : List Patch} {v w p1 : View} (p0 : View) (most : ℕ)
     (at0 : told → IsInMemory c0 rs b0 v) (reads0 : p0.reads ≡ gone_on b0 v.reads) (clock0 : p0.clock ≡ 1) (faults0 : p0.faults ≡ 0) (writes0 : p0.writes ≡ 0) (sound1 : told → IsSound p1)
     (fits : length b0 + most ≤ bodies) (left : IsLeftOff told b0 b1 p1 v w) where
   rose_some : (m n : ℕ) → m ≡ 0 → Rose m n → 0 < n
   rose_some m n is rose = let one : Rose 0 n = subst (λ k. Rose k n) is rose in grind arith
 
-  moments : (t : told) → LeavesOnly v w (λ x f. StandsForAny (world_of v.reads) (world_of (gone_on b0 v.reads)) next x × (f ≡ v.sent))
-  moments t =
+  moments : (next : World) → told → LeavesOnly v w (λ x f. StandsForAny (world_of v.reads) (world_of (gone_on b0 v.reads)) next x × (f ≡ v.sent))
+  moments next t =
       weakened v w (IsLeftNow v) (λ x f. StandsForAny (world_of v.reads) (world_of (gone_on b0 v.reads)) next x × (f ≡ v.sent)) (left.any_moment t)
       (λ x f now. (inl (subst (λ (y : Image). Stands y (world_of v.reads)) (sym (firm_image v (at0 t).firm x f now)) (record { good = (at0 t).good; world = refl })), now.1))
 
@@ -75,7 +40,7 @@ module _ (told : Type 0) (c0 c1 : Core) (rs : List JournalRecord) (b0 b1 : List 
   fits_p0 : (t : told) → FitsReads c0 p0.reads
   fits_p0 t = subst (λ (x : Image). FitsReads c0 x) (sym reads0) (at0 t).fits
 
-  module _ (any : told → LeavesEither p0 p1 next) (behind_p : told → LeavesPart (behind c0.volume.tables.geometry) p0 p1) (size : SameSize c0 c1) where
+  module _ {c1 : Core} {next : World} (any : told → LeavesEither p0 p1 next) (behind_p : told → LeavesPart (behind c0.volume.tables.geometry) p0 p1) (size : SameSize c0 c1) where
     agrees : (t : told) → AgreeBut is_journal p1.reads (gone_on b1 v.reads)
     agrees t = ⊎_elim (λ holds. holds) (λ stray. absurd (no_stray c0 p0 p1 next (fits_p0 t) clock0 (any t) (behind_p t) stray)) (left.holds t)
 
@@ -100,35 +65,35 @@ module _ (told : Type 0) (c0 c1 : Core) (rs : List JournalRecord) (b0 b1 : List 
     pub held_now : (t : told) → IsCoreAt c1 p1 → AreClosed p1.reads → held_state c1 b1 w ≡ state_on c1 p1.reads
     held_now t at closed = ap (λ (x : Image). state_on c1 (gone_on b1 x)) (left.reads t) ∙ (over t at closed).1
 
-  pub part_goes : {T : Type 0} (r : Result T Failed) → RanInPart told c0 c1 p0 p1 next most r → GoesOn told c0 c1 rs b0 b1 v w next r
-  part_goes (Ok x) ran = record {
+  pub part_goes : {T : Type 0} {c1 : Core} {next : World} (r : Result T Failed) → RanBelow told c0 c1 p0 p1 next r → p1.writes ≤ p0.writes + most → GoesOn told c0 c1 rs b0 b1 v w next r
+  part_goes (Ok x) ran wrote = record {
     ready = record { ready = ran.ready; empty = ran.empty };
     at = λ t. held ran.any_moment ran.behind ran.size t (ran.at t) (ran.closed t);
     size = ran.size;
     spent = tt;
     sent = left.sent;
-    any_moment = moments;
+    any_moment = moments _;
     behind = aside;
     works = works_of 0 v w left.counts;
     faults = left.unfailed (ran.faults ∙ faults0);
   }
-  part_goes (Err e) ran = record {
+  part_goes (Err e) ran wrote = record {
     ready = tt;
     at = λ t. tt;
     size = ran.size;
     spent = ran.spent;
     sent = left.sent;
-    any_moment = moments;
+    any_moment = moments _;
     behind = aside;
     works = works_of 0 v w left.counts;
     faults = elim (left.failed (rose_some p0.faults p1.faults faults0 ran.faults)) [
       | inl rose ↦ rose
-      | inr full ↦ absurd (omega (arith, full, ran.wrote, writes0, fits))
+      | inr full ↦ absurd (omega (arith, full, wrote, writes0, fits))
     ];
   }
 
-  pub part_given : {T : Type 0} (P : State → T → State → Type 0) (r : Result T Failed) → RanInPart told c0 c1 p0 p1 next most r → (t : told) → IfOk r (λ x. P (state_on c0 p0.reads) x (state_on c1 p1.reads))
+  pub part_given : {T : Type 0} {c1 : Core} {next : World} (P : State → T → State → Type 0) (r : Result T Failed) → RanBelow told c0 c1 p0 p1 next r → (t : told) → IfOk r (λ x. P (state_on c0 p0.reads) x (state_on c1 p1.reads))
       → IfOk r (λ x. P (held_state c0 b0 v) x (held_state c1 b1 w))
-  part_given P (Ok x) ran t given =
+  part_given {c1 = c1} P (Ok x) ran t given =
       subst (λ (s : State). P s x (held_state c1 b1 w)) (ap (λ (y : Image). state_on c0 y) reads0) (subst (λ (s : State). P (state_on c0 p0.reads) x s) (sym (held_now ran.any_moment ran.behind ran.size t (ran.at t) (ran.closed t))) given)
   part_given P (Err e) ran t given = tt

@@ -1,21 +1,9 @@
 -- What all requests of an ask leave of the device below.
 use Rattle.std.proofs.Common.{◌≡◌, inl, inr, ℕ, false, List, [], ◌∷◌, Some, None, refl, sym, ◌∙◌, ap, subst, arith}
-use Rattle.tsd_model.specs.World.{World}
-use Rattle.tsd_model.specs.declared.geometry.Geometry.{Geometry}
-use Rattle.tsd_model.specs.declared.requests.PlaceKind.{PlaceKind}
-use Rattle.image_device.specs.View.{IsLeftNow, IsSound, View}
-use Rattle.image_device.specs.Runs.{IsFirm, LeavesOnly, LeavesPart}
-use Rattle.image_device.proofs.Moments.{firm_image, joined, weakened}
-use Rattle.image_device.proofs.Parts.{part_then}
-use Rattle.image_layout.specs.Image.{Image}
-use Rattle.image_world.specs.Behind.{behind}
-use Rattle.image_world.specs.Faults.{IsGood}
-use Rattle.image_world.specs.Stands.{Stands, world_of}
+use Rattle.gathered_tasks.proofs.Common.{AllHaveRoom, AllWentBelow, Geometry, Image, IsBegun, IsFirm, IsGood, IsLeftNow, IsOfSince, IsSound, LeavesOnly, LeavesPart, PlaceKind, Stands, StandsForAny, There, View, WasWorld, WentBelow, World, behind, blocks_view, firm_image, held_world, joined, part_then, there, weakened, world_after, world_below, world_of}
 use Rattle.fs_port.specs.Calls.{LeavesWorldsOnly}
 use Rattle.core_blocks.proofs.ImageLaws.{IsImageOf}
-use Rattle.gathered_tasks.specs.Held.{StandsForAny}
 use Rattle.gathered_tasks.specs.declared.asked.Before.{Before}
-use Rattle.gathered_tasks.specs.Blocks.{There, AllHaveRoom, AllWentBelow, IsBegun, IsOfSince, WasWorld, WentBelow, blocks_view, held_world, there, world_after, world_below}
 
 module _ {T : Type 0} (view : T → View) (kind : PlaceKind) (start : View) (sound : (d : T) → IsSound (view d)) (firm : IsFirm start) (good : IsGood start.reads) (P : World → Type 0) where
   -- what is known of the device behind some requests
@@ -103,9 +91,6 @@ module _ {T : Type 0} (view : T → View) (l m : ℕ × ℕ) (kind placed : Plac
 
     pub asks_held : now.core.volume.is_spent ≡ false → P (held_world view now.room now.dev)
     asks_held fine = has (held_world view now.room now.dev) (inl (fine, refl))
-
-    pub asks_sent : (view now.dev).sent ≡ start.sent
-    asks_sent = below.sent
 
     -- What lies behind the image stays.
     pub asks_aside : LeavesPart (behind now.core.volume.tables.geometry) start (view now.dev)

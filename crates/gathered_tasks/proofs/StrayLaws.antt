@@ -1,26 +1,14 @@
 -- No request writes a sector that no batch may hold.
 use Rattle.std.proofs.Common.{◌≡◌, ◌⊎◌, inl, inr, ℕ, zero, suc, ◌+◌, ◌-◌, ◌*◌, ◌≤◌, ◌<◌, ◌==◌, true, false, List, replicate, get_or, lit<, sym, ◌∙◌, ap, subst, arith}
+use Rattle.gathered_tasks.proofs.Common.{Core, FitsReads, Geometry, Image, LeavesEither, LeavesPart, LeavesStray, StandsForEither, Tables, View, World, behind, home, home_unlawful, is_journal, says_open, total, world_on}
 use Rattle.std.proofs.lemmas.Bool.{cases_Bool}
 use Rattle.std.proofs.lemmas.Bool.Decides.{nat_tests}
 use Rattle.std.proofs.lemmas.Grind.{div_ceil_times}
 use Rattle.std.proofs.lemmas.List.{length-replicate}
 use Rattle.tsd_model.specs.Geometry.{IsLawful}
-use Rattle.tsd_model.specs.World.{World}
-use Rattle.tsd_model.specs.declared.geometry.Geometry.{Geometry}
 use Rattle.image_device.specs.Image.{IsSector}
-use Rattle.image_device.specs.View.{View}
-use Rattle.image_device.specs.Runs.{LeavesPart}
-use Rattle.image_layout.specs.Areas.{total}
-use Rattle.image_layout.specs.Image.{Image, says_open}
-use Rattle.intent_journal.specs.Home.{home, is_journal}
 use Rattle.intent_journal.specs.Homes.{is_lawful_home}
-use Rattle.intent_journal.proofs.Uses.{home_unlawful}
-use Rattle.image_world.specs.Behind.{behind}
-use Rattle.image_world.specs.Tables.{Tables, tables_of}
-use Rattle.gathering.specs.Parts.{LeavesStray}
-use Rattle.volume_laws.specs.Moments.{LeavesEither, StandsForEither}
-use Rattle.volume_laws.specs.Volume.{world_on}
-use Rattle.tsd_core.specs.Core.{Core, FitsReads}
+use Rattle.image_world.specs.Tables.{tables_of}
 
 -- an image has 8462726 sectors at most
 blocks_most : (s b : ℕ) → (s ≡ 1) ⊎ (s ≡ 2) ⊎ (s ≡ 4) ⊎ (s ≡ 8) → b ≤ 1048576 → s * b ≤ 8388608

@@ -1,17 +1,6 @@
 -- A call on a device, and then one that leaves the world as it is.
 use Rattle.std.proofs.Common.{◌≡◌, inl, inr, ⊎_elim, sym, ◌∙◌, subst}
-use Rattle.tsd_model.specs.World.{World}
-use Rattle.tsd_model.specs.declared.geometry.Geometry.{Geometry}
-use Rattle.image_device.specs.View.{IsSound, View}
-use Rattle.image_device.specs.Runs.{LeavesPart}
-use Rattle.image_device.proofs.Moments.{ends_in, joined}
-use Rattle.image_device.proofs.Parts.{part_then}
-use Rattle.image_world.specs.Behind.{behind}
-use Rattle.image_world.specs.Stands.{Stands}
-use Rattle.volume_laws.specs.Moments.{LeavesEither, LeavesWorld, StandsForEither}
-use Rattle.volume_laws.specs.Volume.{world_on}
-use Rattle.tsd_core.specs.Core.{Core}
-use Rattle.tsd_core.specs.Work.{SameSize}
+use Rattle.gathered_tasks.proofs.Common.{Core, Geometry, IsSound, LeavesEither, LeavesPart, LeavesWorld, SameSize, Stands, StandsForEither, View, World, behind, ends_in, joined, part_then, world_on}
 
 pub either_then : (v w z : View) (next : World) → IsSound w → LeavesEither v w next → LeavesWorld w z → LeavesEither v z next
 either_then v w z next sound first more =

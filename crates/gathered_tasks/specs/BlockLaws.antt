@@ -1,5 +1,6 @@
 -- What holds of the disk of blocks at each moment.
-use Rattle.std.proofs.Common.{◌≡◌, inl, inr, ℕ, zero, suc, ◌≤◌, false, List, [], ◌∷◌, length, Some, refl, sym, ◌∙◌, ap, subst, arith}
+use Rattle.std.proofs.Common.{◌≡◌, inl, inr, ℕ, zero, suc, ◌≤◌, false, List, [], ◌∷◌, length, Some}
+use Rattle.std.proofs.Common.{refl, sym, ◌∙◌, ap, subst, arith}
 use Rattle.std.proofs.Props.{props}
 use Rattle.tsd_model.specs.World.{World}
 use Rattle.tsd_model.specs.declared.requests.PlaceKind.{PlaceKind}
@@ -49,11 +50,14 @@ module _ {P : Type 0} (view : P → View) (kind : PlaceKind) where
       like : AreLike (told_world here.core) now
       like = subst (λ (t : Tables). AreLike (blank_of t) now) at.fits.tables (told_like _)
 
-      stands_at : (t : ℕ) → HasLeft view kind start here bs t (record { image = (view here.dev).reads; world = Some now }) (view here.dev).sent
+      stands_at : (t : ℕ)
+          → HasLeft view kind start here bs t (record { image = (view here.dev).reads; world = Some now })
+          (view here.dev).sent
       stands_at zero = (inl (unspent, refl), refl)
       stands_at (suc t) = (now, refl, inl (unspent, refl), refl)
 
-      only : (x : Left) (f : List ℕ) → HasLeft view kind start here bs (suc (length bs)) x f → (x.world ≡ Some now) × (f ≡ (view here.dev).sent)
+      only : (x : Left) (f : List ℕ) → HasLeft view kind start here bs (suc (length bs)) x f
+          → (x.world ≡ Some now) × (f ≡ (view here.dev).sent)
       only x f left = elim left.2 [
         | inl is ↦ (left.1 ∙ ap (λ (u : World). Some u) is.1, left.3)
         | inr was ↦ absurd (none_since (length bs) bs left.0 (omega arith) was)

@@ -53,8 +53,9 @@ pub struct AskOn<'a, D: Device> {
 }
 
 /// A core on its device, whose requests are carried out in memory as long as there is room, so that all that they
-/// change is one commit. What a crash leaves, it tells of the disk in memory; what it leaves of the device stands in its
-/// view at the first moment, for an ask that is begun (`IsBegun`), and comes from there by the laws of proofs/RunLaws.
+/// change is one commit. What a crash leaves, it tells of the disk in memory; what it leaves of the device stands in
+/// its view at the first moment, for an ask that is begun (`IsBegun`), and comes from there by the laws of
+/// proofs/RunLaws.
 #[derive(Drop)]
 pub struct GatheredBlocks<'a, D: Device, L: Placing, K: Lending> {
     core: &'a mut Core,

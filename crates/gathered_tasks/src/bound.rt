@@ -64,10 +64,11 @@ fn blocks_at_most(core: &Core, count: u32) -> Option<u32>
     ensures room { owed core.now.volume.tables ≡ 0 → zeroed_cost (told_world core.now).geometry count ≤ bodies
         → result ≡ Some (zeroed_cost (told_world core.now).geometry count) }
 {
-    if core.is_owed() {
+    if core.is_owed() || count > MANY {
         return None;
     }
-    of_blocks(&core.geometry(), count)
+    let zeros = core.geometry().sectors.checked_mul(count)?;
+    zeros.checked_add(2 * (3 * count) + 3)
 }
 
 /// How often one batch of so many homes writes at most, its records in place behind it.
@@ -80,17 +81,4 @@ fn of_homes(homes: u32) -> Option<u32>
         return None;
     }
     Some(2 * homes + 3)
-}
-
-/// How often so many new blocks write at most.
-fn of_blocks(geometry: &Geometry, count: u32) -> Option<u32>
-    ensures most { IfSome result (λ most. zeroed_cost geometry.now count ≤ most) }
-    ensures some { IfSome result (λ most. most ≡ zeroed_cost geometry.now count) }
-    ensures room { zeroed_cost geometry.now count ≤ bodies → result ≡ Some (zeroed_cost geometry.now count) }
-{
-    if count > MANY {
-        return None;
-    }
-    let zeros = geometry.sectors.checked_mul(count)?;
-    zeros.checked_add(2 * (3 * count) + 3)
 }

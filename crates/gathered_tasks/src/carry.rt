@@ -216,7 +216,7 @@ fn settle_step<D: Device>(core: &mut Core, dev: &mut D, room: &mut AskRoom) -> R
     Ok(())
 }
 
-/// Carries out a request: in memory where an empty batch has room for it, else on the device itself.
+/// Carries out a request: in memory where an empty batch has room for it, else after a commit on the device itself.
 fn ask<D: Device, L: Placing>(
     core: &mut Core,
     dev: &mut D,
@@ -236,53 +236,13 @@ fn ask<D: Device, L: Placing>(
         ≤ length (gathered room.old) + room_for core.old.volume.tables.geometry request.now }
 {
     match fitting(core, request) {
-        Some(most) => ask_in_memory(core, dev, room, placement, request, most),
-        None => ask_on_device(core, dev, room, placement, request),
+        Some(most) => {
+            make_room(core, dev, room, most)?;
+            in_memory(core, dev, room, &Asking { placement, request })
+        }
+        None => {
+            commit(core, dev, room)?;
+            on_device(core, dev, room, &Asking { placement, request })
+        }
     }
-}
-
-/// Carries out a request that writes at most so often in memory, after a commit where what was gathered has no room
-/// for it.
-fn ask_in_memory<D: Device, L: Placing>(
-    core: &mut Core,
-    dev: &mut D,
-    room: &mut AskRoom,
-    placement: &L,
-    request: &Request,
-    most: u32,
-) -> Result<Reply, Failed>
-    requires here { is_some room.old.room ≡ true }
-    requires ready { IsReadyInMemory core.old }
-    requires at { D.told → IsInMemory core.old room.old.ring (gathered room.old) (D.view dev.old) }
-    requires bound { IsBound core.old.volume request.now most }
-    requires few { most ≤ bodies }
-    ensures here { is_some room.new.room ≡ true }
-    ensures carried { CarriesOut D.told (L.kind placement.now) request.now core.old core.new room.new.ring
-        (gathered room.old) (gathered room.new) (D.view dev.old) (D.view dev.new) result }
-    ensures quiet { length (gathered room.old) + most ≤ bodies
-        → (D.view dev.new).writes ≡ (D.view dev.old).writes }
-    ensures grows { length (gathered room.old) + most ≤ bodies
-        → length (gathered room.new) ≤ length (gathered room.old) + most }
-{
-    make_room(core, dev, room, most)?;
-    in_memory(core, dev, room, &Asking { placement, request })
-}
-
-/// Commits what was gathered, and carries out a request on the device itself.
-fn ask_on_device<D: Device, L: Placing>(
-    core: &mut Core,
-    dev: &mut D,
-    room: &mut AskRoom,
-    placement: &L,
-    request: &Request,
-) -> Result<Reply, Failed>
-    requires here { is_some room.old.room ≡ true }
-    requires ready { IsReadyInMemory core.old }
-    requires at { D.told → IsInMemory core.old room.old.ring (gathered room.old) (D.view dev.old) }
-    ensures here { is_some room.new.room ≡ true }
-    ensures carried { CarriesOut D.told (L.kind placement.now) request.now core.old core.new room.new.ring
-        (gathered room.old) (gathered room.new) (D.view dev.old) (D.view dev.new) result }
-{
-    commit(core, dev, room)?;
-    on_device(core, dev, room, &Asking { placement, request })
 }

@@ -10,9 +10,8 @@ ghost use Rattle.gathered_tasks.specs.Rooms.{gathered};
 
 use crate::room::AskRoom;
 use crate::task::Task;
-use gathering::{Base, Going, Part, Room};
+use gathering::{Base, Going, Part};
 use image_device::{Device, Failed};
-use intent_journal::Ring;
 use std::marker::Brand;
 use tsd_core::Core;
 use tsd_model::Reply;
@@ -93,48 +92,15 @@ fn in_slots<'a, P: Device, T: Task, K: Going>(
     ensures few { (most : ℕ) → T.is_bound task.now core.old.volume most
         → length (gathered room.new) ≤ length K.batch + most }
 {
-    let kept = room.room.take().unwrap();
-    let (below, kept, done) = in_part::<P, T, K>(core, below, kept, &room.ring, task);
-    room.room = Some(kept);
-    *outcome = done;
-    below
-}
-
-/// The same with the batch in a room of its own, which is given back too.
-fn in_part<'a, P: Device, T: Task, K: Going>(
-    core: &mut Core,
-    below: Below<'a, P>,
-    kept: Room,
-    ring: &Ring,
-    task: &T,
-) -> (Below<'a, P>, Room, Result<Reply, Failed>)
-    requires device { below.dev.ghost_name ≡ K.device }
-    requires batch { kept.batch ≡ K.batch }
-    requires rests { P.told → HasRested K.start (P.view below.dev.now) }
-    requires counts { Uses 0 K.start (P.view below.dev.now) }
-    requires faults { (P.view below.dev.now).faults ≡ K.start.faults }
-    requires ready { IsReadyInMemory core.old }
-    requires at { P.told → IsInMemory core.old ring.now K.batch K.start }
-    requires fits { (most : ℕ) × T.is_bound task.now core.old.volume most × (length K.batch + most ≤ bodies) }
-    ensures device { result.0.dev.ghost_name ≡ K.device }
-    ensures goes_on { GoesOn P.told core.old core.new ring.now K.batch result.1.batch K.start
-        (P.view result.0.dev.now) (T.next task.now (held_state core.old K.batch K.start)) result.2 }
-    ensures given { P.told → IfOk result.2 (λ r. T.given task.now (held_state core.old K.batch K.start) r
-        (held_state core.new result.1.batch (P.view result.0.dev.now))) }
-    ensures told { IfOk result.2 (λ r. T.told_given task.now core.old r core.new) }
-    ensures reads { P.told → (P.view result.0.dev.now).reads ≡ K.start.reads }
-    ensures writes { (P.view result.0.dev.now).writes ≡ K.start.writes }
-    ensures few { (most : ℕ) → T.is_bound task.now core.old.volume most
-        → length result.1.batch ≤ length K.batch + most }
-{
     let base = Base {
         dev: below.dev,
-        room: kept,
+        room: room.room.take().unwrap(),
     };
-    let mut part = Part::<P, K>::new(base, ring);
-    let outcome = task.run(core, &mut part);
-    let Base { dev, room } = part.leave();
-    (Below { dev }, room, outcome)
+    let mut part = Part::<P, K>::new(base, &room.ring);
+    *outcome = task.run(core, &mut part);
+    let Base { dev, room: kept } = part.leave();
+    room.room = Some(kept);
+    Below { dev }
 }
 
 /// Does a task on the device itself, with nothing gathered: the records of the journal are put in place before it and

@@ -17,7 +17,12 @@ use Rattle.std.proofs.Math.Seq.{drop-length}
 
 -- the disk in memory as a part begins over this device with this batch: nothing is loose
 abbrev pub went_on : View → List Patch → HistoryState
-went_on v batch = record { reads = gone_on batch v.reads; synced = gone_on batch v.reads; loose = λ n. false; sent = v.sent }
+went_on v batch = record {
+  reads = gone_on batch v.reads;
+  synced = gone_on batch v.reads;
+  loose = λ n. false;
+  sent = v.sent;
+}
 
 -- What a crash may have left since before a part began, by what was sent behind what was sent then. Where that is
 -- nothing, the crash was of the disk in memory. Where it is a number and some bytes, which no part ever sends, it was
@@ -77,9 +82,11 @@ pub after_whole : (es : List Event) (s : HistoryState) → ((n : ℕ) → IsSect
     → (n : ℕ) → IsSector ((after es s).reads n)
 after_whole [] s base whole n = base n
 after_whole (Write sector bytes ∷ es) s base whole n =
-    after_whole es (step s (Write sector bytes)) (λ m. chosen_whole (m == sector) bytes.value (s.reads m) whole.0 (base m)) whole.1 n
+    after_whole es (step s (Write sector bytes))
+    (λ m. chosen_whole (m == sector) bytes.value (s.reads m) whole.0 (base m)) whole.1 n
 after_whole (Poke sector bytes ∷ es) s base whole n =
-    after_whole es (step s (Poke sector bytes)) (λ m. chosen_whole (m == sector) bytes.value (s.reads m) whole.0 (base m)) whole.1 n
+    after_whole es (step s (Poke sector bytes))
+    (λ m. chosen_whole (m == sector) bytes.value (s.reads m) whole.0 (base m)) whole.1 n
 after_whole (Sync ∷ es) s base whole n = after_whole es (step s Sync) base whole n
 after_whole (Put piece ∷ es) s base whole n = absurd whole
 

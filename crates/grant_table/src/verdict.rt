@@ -20,10 +20,7 @@ use tsd_model::needs::{
     Need, has_bad_count, has_bad_session, is_bad, is_begin, named_blocks, needs, session_of,
     wanted_blocks, wanted_pairs,
 };
-use tsd_model::{Request, Rule};
-
-/// How many bytes a sector has.
-const SECTOR_BYTES: usize = 512;
+use tsd_model::{Request, Rule, SECTOR_BYTES};
 
 /// The levels that a granted request attains where it needs one.
 #[derive(Clone, Copy, Debug, PartialEq, Eq)]

@@ -6,14 +6,11 @@ use Rattle.graph_laws.proofs.CountLaws.{filter_twice}
 use Rattle.graph_laws.proofs.CommuteLaws.{doomed-with_pointer}
 use Rattle.graph_laws.proofs.MarkingLaws.{count_deleted}
 use Rattle.graph_laws.proofs.WeightLaws.{doomed_same}
+use Rattle.tsd_model.proofs.ValueLaws.{and_true}
 
 -- where nothing is doomed it is the count of all pairs
 pub kept_of_none : (w : World) → ((b : ℕ) → has_number (doomed w) b ≡ false) → (b : ℕ) → kept_count w b ≡ count_to w.pairs b
 kept_of_none w none b = ap length (filter_agree (λ e. (e.1 == b) && not (has_number (doomed w) e.0)) (λ e. e.1 == b) (λ e. ap (λ t. (e.1 == b) && not t) (none e.0) ∙ and_true (e.1 == b)) w.pairs)
-  where
-    and_true : (t : Bool) → (t && true) ≡ t
-    and_true true = refl
-    and_true false = refl
 
 -- it is the count of all pairs of the settled world
 pub kept_is_settled_count : (w : World) (b : ℕ) → kept_count w b ≡ count_to (settle w).pairs b
@@ -26,10 +23,6 @@ kept-with_pointer r a t b out new from to =
     ap length (filter_agree (λ e. (e.1 == b) && not (has_number (doomed (with_pointer r a t)) e.0)) (λ e. (e.1 == b) && not (has_number (doomed r) e.0)) (λ e. ap (λ d. (e.1 == b) && not d) (doomed-with_pointer r out a t to e.0)) (with_pair (a, t) r.pairs))
     ∙ (count-with_pair (λ e. (e.1 == b) && not (has_number (doomed r) e.0)) (a, t) r.pairs new
     ∙ ap (λ d. cond ((t == b) && not d) 1 0 + kept_count r b) from ∙ ap (λ s. cond s 1 0 + kept_count r b) (and_true (t == b)))
-  where
-    and_true : (s : Bool) → (s && true) ≡ s
-    and_true true = refl
-    and_true false = refl
 
 -- such a pointer changes neither the doomed blocks nor the pairs from them
 pub doomed_list-with_pointer : (r : World) (a t : ℕ) → IsLaidOut r → has_number (doomed r) t ≡ false → doomed (with_pointer r a t) ≡ doomed r

@@ -1,6 +1,7 @@
 -- Counts of the pairs, and of the numbers, that pass a test.
 use Rattle.std.proofs.Common.{◌≡◌, ℕ, zero, suc, ◌+◌, ◌<◌, ◌≤◌, Bool, true, false, not, cond, ◌&&◌, ◌||◌, ◌==◌, nat_lt, nat_le, List, [], ◌∷◌, length, refl, sym, ◌∙◌, ap, subst, arith, ◌⊎◌, inl, inr}
 use Rattle.graph_laws.proofs.Common.{eq-eqb, eqb-true, ne_eqb, and_parts, and_right, not-true, not-false, both_ways, cases_Bool, cases_eq, false_from_ne_true, or_left, or_right, nat_tests, filter_agree, filter, list_all, range_with_len, is_pair, holds, is_rising, has_number, are_apart, count-without_pair, all_of_held, one_fails, length-filter_le, has_number-filter, has_number-range, length-range}
+use Rattle.tsd_model.proofs.ValueLaws.{and_true}
 
 -- ---- pairs that pass
 
@@ -63,10 +64,6 @@ count_but_number p i (suc n) b low high is = elim (cases_eq i b) [
     clash : (x : ℕ) → nat_le (i + 1) x ≡ true → x ≡ b → i ≡ b → ⊥
     clash x le e f = grind (arith, nat_tests)
 
-    and_true : (t : Bool) → (t && true) ≡ t
-    and_true true = refl
-    and_true false = refl
-
     step : (t : Bool) → length (filter p (range_with_len (i + 1) n)) ≡ suc (length (filter (λ x. p x && not (x == b)) (range_with_len (i + 1) n)))
         → length (cond t (i ∷ filter p (range_with_len (i + 1) n)) (filter p (range_with_len (i + 1) n)))
         ≡ suc (length (cond (t && not false) (i ∷ filter (λ x. p x && not (x == b)) (range_with_len (i + 1) n)) (filter (λ x. p x && not (x == b)) (range_with_len (i + 1) n))))
@@ -92,10 +89,6 @@ marked_fit (x ∷ xs) n once below = let parts = and_parts (not (has_number xs x
       | inl same ↦ and_right ((x == y) || has_number xs y) (not (y == x)) (ap not (eq-eqb y x same)) ∙ sym (ap (has_number xs) same ∙ out)
       | inr other ↦ ap (λ t. ((x == y) || has_number xs y) && not t) (ne_eqb y x other) ∙ (ap (λ t. (t || has_number xs y) && true) (ne_eqb x y (λ e. other (sym e))) ∙ and_true (has_number xs y))
     ]
-      where
-        and_true : (t : Bool) → (t && true) ≡ t
-        and_true true = refl
-        and_true false = refl
 
 pub apart_fits : (xs : List ℕ) (n : ℕ) → are_apart xs ≡ true → ((b : ℕ) → has_number xs b ≡ true → b < n) → length xs ≤ n
 apart_fits xs n once below = omega (arith, marked_fit xs n once below, length-filter_le (has_number xs) (range_with_len 0 n), length-range 0 n)

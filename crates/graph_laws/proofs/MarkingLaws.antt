@@ -5,6 +5,7 @@ use Rattle.graph_laws.specs.Marking.{IsMarking, IsMarkingBut, IsCountedOff}
 use Rattle.graph_laws.proofs.DoomedLaws.{doomed_least, doomed_from, doomed_is_no_primary, source_is_doomed}
 use Rattle.graph_laws.proofs.SettleLaws.{stays_doomed}
 use Rattle.graph_laws.proofs.CountLaws.{count_but_number, count_but_pair}
+use Rattle.tsd_model.proofs.ValueLaws.{and_true}
 
 -- ---- the steps
 
@@ -132,10 +133,6 @@ count_lowered left es x t b rising held is = count_but_pair (λ e. (e.1 == b) &&
     ∙ (ap (λ n. n + length (filter (λ e. ((e.1 == b) && left e) && not (is_pair x t e)) es)) (ap (λ s. cond ((t == b) && s) 1 0) is ∙ ap (λ s. cond s 1 0) (and_true (t == b)))
     ∙ ap (λ fs. cond (t == b) 1 0 + length fs) (filter_held (λ e. ((e.1 == b) && left e) && not (is_pair x t e)) (λ e. (e.1 == b) && (left e && not (is_pair x t e))) es (λ a c _. joined (c == b) (left (a, c)) (not (is_pair x t (a, c))))))
   where
-    and_true : (s : Bool) → (s && true) ≡ s
-    and_true true = refl
-    and_true false = refl
-
     joined : (p q s : Bool) → ((p && q) && s) ≡ (p && (q && s))
     joined true q s = refl
     joined false q s = refl
@@ -157,10 +154,6 @@ pub count_deleted : (left : (ℕ × ℕ) → Bool) (es : List (ℕ × ℕ)) (a t
     → count_where left es b ≡ cond (t == b) 1 0 + count_where left (without_pair a t es) b
 count_deleted left es a t b rising held is = count-without_pair (λ e. (e.1 == b) && left e) es a t rising held
     ∙ ap (λ n. n + count_where left (without_pair a t es) b) (ap (λ s. cond ((t == b) && s) 1 0) is ∙ ap (λ s. cond s 1 0) (and_true (t == b)))
-  where
-    and_true : (s : Bool) → (s && true) ≡ s
-    and_true true = refl
-    and_true false = refl
 
 -- one pair more was counted off
 pub off_lowered : (left : (ℕ × ℕ) → Bool) (es : List (ℕ × ℕ)) (x t : ℕ) → is_rising es ≡ true → holds es x t ≡ true → left (x, t) ≡ true

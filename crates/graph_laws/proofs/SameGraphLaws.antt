@@ -5,6 +5,7 @@ use Rattle.std.specs.Prelude.{is_some}
 use Rattle.disk_laws.specs.Bytes.{AreLike}
 use Rattle.disk_laws.proofs.ByteLaws.{contents_like, free_count_like}
 use Rattle.graph_laws.proofs.SameLaws.{length-restricted}
+use Rattle.tsd_model.proofs.ValueLaws.{and_true}
 
 -- ---- rounds
 
@@ -91,10 +92,6 @@ live-with_free w a b = elim (cases_eq b a) [
     freed [] k = refl
     freed (x ∷ xs) zero = refl
     freed (x ∷ xs) (suc k) = freed xs k
-
-    and_true : (t : Bool) → (t && true) ≡ t
-    and_true true = refl
-    and_true false = refl
 
 free_by_graph : (a : ℕ) (v w : World) → HasGraphOf v w → HasGraphOf (with_free v a) (with_free w a)
 free_by_graph a v w same = record {

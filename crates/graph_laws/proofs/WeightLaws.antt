@@ -7,6 +7,7 @@ use Rattle.std.specs.Prelude.{is_none, is_some}
 use Rattle.graph_laws.proofs.CountLaws.{filter_self, count_but_number}
 use Rattle.graph_laws.proofs.SettleLaws.{contents-settle, length-settle, doomed_freed, freed_is_not_doomed, lost_is_doomed}
 use Rattle.graph_laws.proofs.StepLaws.{doomed-without_pointer, doomed-without_pointers, laid_out-without_pointer, laid_out-without_pointers, blocks-without_pointers}
+use Rattle.tsd_model.proofs.ValueLaws.{and_true}
 
 -- the doomed blocks are those of the disk that are doomed, ascending
 pub doomed_listed : (w : World) → doomed w ≡ filter (has_number (doomed w)) (all_blocks w)
@@ -164,10 +165,6 @@ module _ (r : World) (a : ℕ) (bs : List ℕ) (out : IsLaidOut r) (lost : IsLos
   pub doomed_after_step : (freed : Bool) → IsStep r a bs freed → (c : ℕ) → has_number (doomed (stepped r a bs freed)) c ≡ (has_number (doomed r) c && not (freed && (c == a)))
   doomed_after_step true step c = fewer (without_pointers r a bs) laid_less a still (step.last refl).out c ∙ ap (λ t. t && not (c == a)) (doomed-without_pointers a bs r out is c)
   doomed_after_step false step c = doomed-without_pointers a bs r out is c ∙ sym (and_true (has_number (doomed r) c))
-    where
-      and_true : (t : Bool) → (t && true) ≡ t
-      and_true true = refl
-      and_true false = refl
 
   -- and keeps each count of pairs from blocks that aren't doomed
   pub step_keeps_counts : (freed : Bool) → IsStep r a bs freed → (c : ℕ) → kept_count (stepped r a bs freed) c ≡ kept_count r c

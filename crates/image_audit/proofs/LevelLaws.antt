@@ -4,6 +4,7 @@ use Rattle.image_audit.proofs.Common.{or_cases, or_left, or_right, cases_lt, cas
 use Rattle.std.specs.Prelude.{cond}
 use Rattle.reclaim.proofs.HeldLaws.{has-push}
 use Rattle.image_audit.proofs.SearchLaws.{noted_goes_on, level_done}
+use Rattle.tsd_model.proofs.ValueLaws.{or_false}
 
 -- where the same pairs were looked at, the search is the same
 pub same_seen : (w : World) (roots : List ℕ) (d : ℕ) (level next : List ℕ) (seen then_ : ℕ → ℕ → Type 0) (entries : List (Option Entry))
@@ -55,12 +56,8 @@ root_more done r entries inside are b = elim (cases_eq b r) [
   | inl same ↦ ap (entry_at (slice_set entries r (Some root_entry))) same ∙ (get_or-set_same entries r (Some root_entry) None inside
       ∙ ap (λ t. cond t (Some root_entry) None) (sym (has_more done r b ∙ or_right (has_number done b) (b == r) (eq-eqb b r same))))
   | inr apart ↦ get_or-set_other entries r b (Some root_entry) None apart ∙ (are b
-      ∙ ap (λ t. cond t (Some root_entry) None) (sym (has_more done r b ∙ (ap (λ u. has_number done b || u) (ne_eqb b r apart) ∙ or_off (has_number done b)))))
+      ∙ ap (λ t. cond t (Some root_entry) None) (sym (has_more done r b ∙ (ap (λ u. has_number done b || u) (ne_eqb b r apart) ∙ or_false (has_number done b)))))
 ]
-  where
-    or_off : (u : Bool) → (u || false) ≡ u
-    or_off true = refl
-    or_off false = refl
 
 module _ (w : World) (roots : List ℕ) (d : ℕ) (level done : List ℕ) (source from t : ℕ) (old : List (Option Entry)) (before : List ℕ)
     (in_level : has_number level source ≡ true) (next : IsNextTarget w.pairs source from (Some t)) (inside : t < length old)

@@ -1,21 +1,8 @@
 -- The source mounted and copied on a disk.
-use Rattle.std.proofs.Common.{◌≡◌, ◌≢◌, ◌⊎◌, inl, inr, ⊎_elim, ℕ, ◌<◌, false, refl, sym, ◌∙◌, ap, subst}
-use Rattle.std.specs.Prelude.{Result, Ok, Err, IfOk, IfErr, OnOk, slice_get}
-use Rattle.tsd_model.specs.World.{World}
-use Rattle.tsd_model.specs.Valid.{IsValid}
-use Rattle.tsd_model.specs.declared.geometry.Geometry.{Geometry}
-use Rattle.image_device.specs.Counts.{CountsFault, Rose}
+use Rattle.std.proofs.Common.{◌≡◌, ◌≢◌, ◌⊎◌, inl, inr, ⊎_elim, ℕ, ◌<◌, false, refl, sym, ◌∙◌, ap, subst, Result, Ok, Err, IfOk, IfErr, OnOk, slice_get}
+use Rattle.image_shell.proofs.Common.{AreApart, Counts, CountsFault, DiskView, FilesView, FindsTree, FsRefusal, Geometry, IsClientReady, IsDiskSound, IsTreeAlone, IsValid, IsValidNow, LeavesWorldsOnly, OnlyDeletes, OthersStay, Rose, Runs, Tree, World, mounted_now, tree_at, tree_under}
 use Rattle.fs_trees.specs.Copying.{copy_steps, partial}
-use Rattle.fs_trees.specs.Layouts.{tree_at}
-use Rattle.fs_trees.specs.Outside.{OthersStay}
-use Rattle.fs_trees.specs.Tree.{Tree}
-use Rattle.fs_trees.specs.declared.refusal.FsRefusal.{FsRefusal}
 use Rattle.fs_trees.specs.declared.refusal.FsRefusal.TheVariants as fs
-use Rattle.fs_laws.specs.Apart.{AreApart}
-use Rattle.fs_port.specs.View.{DiskView, IsDiskSound}
-use Rattle.fs_port.specs.Calls.{Counts, IsValidNow, LeavesWorldsOnly}
-use Rattle.fs_port.specs.Files.{FilesView, IsClientReady, IsTreeAlone, OnlyDeletes, mounted_now}
-use Rattle.fs_port.specs.Runs.{FindsTree, Runs}
 use Rattle.fs_port.proofs.RunLaws.{both_count, both_leave, leaves_more}
 use Rattle.fs_copy.specs.Copies as FsStays
 use Rattle.fs_copy.specs.Copies.{CopiesTree, CopyRuns, IsPartOfCopy}
@@ -25,7 +12,6 @@ use Rattle.fs_copy.specs.declared.copied.Copied.{Copied}
 use Rattle.fs_copy.specs.declared.refusal.CopyRefusal.{CopyRefusal}
 use Rattle.fs_copy.specs.declared.refusal.CopyRefusal.TheVariants as no
 use Rattle.tsd_words.specs.declared.status.Status.TheVariants as status
-use Rattle.shell_server.specs.Shell.{tree_under}
 use Rattle.image_copy.specs.declared.ending.CopyEnd.TheVariants as end
 use Rattle.image_copy.specs.Lines.{HasWords}
 use Rattle.image_copy.specs.Ends.{EndsAs, IsSourceMounted, IsTrimmed, IsUnderWay, SourceStays}
@@ -62,16 +48,7 @@ module _ (told : Type 0) (f g : FilesView) (old : DiskView) (was_apart : told �
 
   refused_how : (e : FsRefusal) → (e ≡ fs.Device) ⊎ ((e ≢ fs.Device) × (unmounted_end e ≡ unmounted_end fs.NotThisFs))
   refused_how fs.Device = inl refl
-  refused_how fs.NotThisFs = inr (λ e. absurd (cc), refl)
-  refused_how fs.NoEntry = inr (λ e. absurd (cc), refl)
-  refused_how fs.Exists = inr (λ e. absurd (cc), refl)
-  refused_how fs.NotDir = inr (λ e. absurd (cc), refl)
-  refused_how fs.IsDir = inr (λ e. absurd (cc), refl)
-  refused_how fs.NotEmpty = inr (λ e. absurd (cc), refl)
-  refused_how fs.DirFull = inr (λ e. absurd (cc), refl)
-  refused_how fs.TooBig = inr (λ e. absurd (cc), refl)
-  refused_how (fs.Full free wanted) = inr (λ e. absurd (cc), refl)
-  refused_how (fs.PointersFull held most) = inr (λ e. absurd (cc), refl)
+  refused_how e = inr (λ is. absurd (cc), refl)
 
   no_tree : {X : Type 0} (mid : DiskView) (e : FsRefusal) → e ≢ fs.Device → told → FindsTree {X = X} f old mid (Err e) → EndsAs f g start end.NotThisFs mid.world
   no_tree mid e other t finds =

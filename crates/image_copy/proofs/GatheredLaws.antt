@@ -1,31 +1,9 @@
 -- A copy that was carried out in memory, and what is committed of it.
-use Rattle.std.proofs.Common.{◌≡◌, ◌⊎◌, inl, inr, ℕ, ◌≤◌, false, true, List, [], refl, sym, ◌∙◌, ap, subst}
-use Rattle.std.specs.Prelude.{Result, Ok, Err, OnOk, IfErr, is_some}
-use Rattle.tsd_model.specs.Sessions.{Fits}
-use Rattle.tsd_model.specs.Step.{State}
-use Rattle.tsd_model.specs.Valid.{IsValid}
-use Rattle.tsd_model.specs.World.{World}
-use Rattle.tsd_model.specs.declared.geometry.Geometry.{Geometry}
-use Rattle.tsd_model.specs.declared.requests.PlaceKind.{PlaceKind}
-use Rattle.image_device.specs.Counts.{CountsFault, Rose}
-use Rattle.image_device.specs.View.{IsLeftNow, IsSound, View}
-use Rattle.image_device.specs.Runs.{LeavesOnly, LeavesPart}
-use Rattle.image_device.proofs.Moments.{joined, started, weakened}
-use Rattle.image_device.proofs.Parts.{part_then}
-use Rattle.image_world.specs.Behind.{LeavesBehind, behind, size_of_image}
-use Rattle.image_world.specs.Stands.{Stands, world_of}
+use Rattle.std.proofs.Common.{◌≡◌, ◌⊎◌, inl, inr, ℕ, false, true, List, [], refl, sym, ◌∙◌, ap, subst, Result, Ok, Err, OnOk, IfOk, IfErr, is_some}
+use Rattle.image_shell.proofs.Common.{AreApart, Core, CountsFault, DiskView, FilesView, Fits, Geometry, IsBegun, IsCoreAt, IsCoreReady, IsImageOf, IsLeftNow, IsSound, IsValid, LeavesBehind, LeavesOnly, LeavesPart, PlaceKind, Rose, Stands, State, Status, There, View, Works, World, behind, blocks_view, held_world, joined, part_then, sessions_of, size_at, size_of_image, started, told_world, weakened, world_below, world_of}
 use Rattle.volume_laws.proofs.QuestionLaws.{told_size}
-use Rattle.volume_laws.specs.Writes.{Works}
-use Rattle.tsd_words.specs.declared.status.Status.{Status}
 use Rattle.tsd_words.specs.declared.status.Status.TheVariants as status
-use Rattle.tsd_core.specs.Core.{Core, IsCoreAt, IsCoreReady, sessions_of, told_world}
 use Rattle.tsd_core.specs.Work.{SameSize}
-use Rattle.core_blocks.proofs.BehindLaws.{size_at}
-use Rattle.core_blocks.proofs.ImageLaws.{IsImageOf}
-use Rattle.fs_laws.specs.Apart.{AreApart}
-use Rattle.fs_port.specs.Files.{FilesView}
-use Rattle.fs_port.specs.View.{DiskView}
-use Rattle.gathered_tasks.specs.Blocks.{IsBegun, There, blocks_view, held_world, world_below}
 use Rattle.gathered_tasks.specs.Carried.{LeavesBaseOrNow}
 use Rattle.gathered_tasks.specs.Held.{IsInMemory, IsReadyInMemory}
 use Rattle.gathered_tasks.specs.Rooms.{gathered}
@@ -34,8 +12,8 @@ use Rattle.gathered_tasks.specs.declared.room.AskRoom.{AskRoom}
 use Rattle.gathered_tasks.proofs.CarryLaws.{begun_held, begun_in_memory, with_ring}
 use Rattle.gathered_tasks.proofs.RunLaws.{asks_aside, asks_base, asks_held, asks_leave}
 use Rattle.image_copy.specs.Ends.{EndsAs, IsUnderWay}
-use Rattle.image_copy.specs.Gathered.{IsCopyGathered, IsCopyist}
-use Rattle.image_copy.specs.Steps.{AreBothOpen, CopiesBetween, IsStartOf, RunsOn}
+use Rattle.image_copy.specs.Gathered.{IsCopyGathered, IsCopyReady, IsCopyist}
+use Rattle.image_copy.specs.Steps.{AreBothOpen, CopiesBetween, CopiesOn, IsEndedOn, IsLeftBy, IsStartOf, IsStoppedBy}
 use Rattle.image_copy.specs.declared.ending.CopyEnd.{CopyEnd}
 
 -- ---- what was gathered
@@ -62,6 +40,11 @@ gathered_as told view start f g l m kind placed bs cs a old b new r was is none 
   at = λ t. subst (λ (n : There _). OnOk r (IsInMemory n.core n.room.ring (gathered n.room) (view n.dev))) is (on_ok r (at t) copies.unspent);
 }
 
+-- what was lent is given back, as it was left
+pub given_back : {D : Type 0} {told : Type 0} {view : D → View} {start : View} {f g : FilesView} {begin : There D} {core core_now : Core} {room room_now : AskRoom} {dev dev_now : D} {r : Result CopyEnd Status}
+    → core_now ≡ core → room_now ≡ room → dev_now ≡ dev → IsCopyGathered told view start f g begin (record { core = core; room = room; dev = dev }) r → IsCopyGathered told view start f g begin (record { core = core_now; room = room_now; dev = dev_now }) r
+given_back core room dev did = rw (core, room, dev) did
+
 -- ---- over a device
 
 module _ {D : Type 0} (told : Type 0) (view : D → View) (sound : (d : D) → told → IsSound (view d)) (f g : FilesView) (c0 c1 : Core) (r1 : AskRoom) (dev : D) (is : c1 ≡ with_ring c0 []) (given : r1.ring ≡ c0.volume.ring) (none : gathered r1 ≡ []) (unspent : c1.volume.is_spent ≡ false)
@@ -79,28 +62,15 @@ module _ {D : Type 0} (told : Type 0) (view : D → View) (sound : (d : D) → t
   world_begun : told → held_world view r1 dev ≡ world_of v.reads
   world_begun t = ap (λ (s : State). s.world) (begun_held c0 v (core_at t) c1 r1.ring (gathered r1) is given none)
 
-  pub at_begun : told → IsInMemory c1 r1.ring (gathered r1) v
-  at_begun t = begun_in_memory c0 v (core_at t) c1 r1.ring (gathered r1) is given none
-
-  pub valid_begun : told → IsValid (held_world view r1 dev)
-  valid_begun t = subst IsValid (sym (world_begun t)) (starts.at t).valid
-
-  pub fits_begun : told → Fits (held_world view r1 dev) (sessions_of c1)
-  fits_begun t =
-      subst (λ (w : World). Fits w (sessions_of c1)) (sym (world_begun t))
-      (subst (λ s. Fits (world_of v.reads) s) (sym (ap (λ (s : State). s.sessions) (begun_held c0 v (core_at t) c1 r1.ring (gathered r1) is given none))) (starts.at t).fits)
-
-  pub apart_begun : (told → AreApart (world_of v.reads) f.root g.root) → told → AreApart (held_world view r1 dev) f.root g.root
-  apart_begun apart t = subst (λ (w : World). AreApart w f.root g.root) (sym (world_begun t)) (apart t)
-
-  pub copyist_begun : AreBothOpen c0 → IsCopyist f g c1
-  copyist_begun begun = subst (λ (c : Core). IsCopyist f g c) (sym is) (record {
-    source = starts.source;
-    target = starts.target;
-    source_asks = starts.source_asks;
-    target_asks = starts.target_asks;
-    begun = record { source = begun.source; target = begun.target; others = begun.others };
-  })
+  pub ready_begun : AreBothOpen c0 → (told → AreApart (world_of v.reads) f.root g.root) → IsCopyReady told view f g c1 r1 dev
+  ready_begun both apart = record {
+    copyist = subst (λ (c : Core). IsCopyist f g c) (sym is) (record { source = starts.source; target = starts.target; source_asks = starts.source_asks; target_asks = starts.target_asks; begun = record { source = both.source; target = both.target; others = both.others } });
+    at = λ t. begun_in_memory c0 v (core_at t) c1 r1.ring (gathered r1) is given none;
+    valid = λ t. subst IsValid (sym (world_begun t)) (starts.at t).valid;
+    fits = λ t. subst (λ (w : World). Fits w (sessions_of c1)) (sym (world_begun t))
+        (subst (λ s. Fits (world_of v.reads) s) (sym (ap (λ (s : State). s.sessions) (begun_held c0 v (core_at t) c1 r1.ring (gathered r1) is given none))) (starts.at t).fits);
+    apart = λ t. subst (λ (w : World). AreApart w f.root g.root) (sym (world_begun t)) (apart t);
+  }
 
   begun : told → IsBegun view v begin
   begun t = record {
@@ -123,14 +93,10 @@ module _ {D : Type 0} (told : Type 0) (view : D → View) (sound : (d : D) → t
     abbrev Way : World → Type 0
     Way = IsUnderWay f g (held_world view r1 dev)
 
-    -- what a crash leaves of the images
-    abbrev Left : View → Type 0
-    Left to = LeavesOnly v to (λ x s. ((u : World) × Stands x u × IsUnderWay f g (world_of v.reads) u) × (s ≡ v.sent))
-
-    left_as : (to : View) → told → LeavesOnly v to (IsImageOf Way v.sent) → Left to
+    left_as : (to : View) → told → LeavesOnly v to (IsImageOf Way v.sent) → LeavesOnly v to (λ x s. IsLeftBy f g (world_of v.reads) x × (s ≡ v.sent))
     left_as to t leaves =
-        weakened v to (IsImageOf Way v.sent) (λ x s. ((u : World) × Stands x u × IsUnderWay f g (world_of v.reads) u) × (s ≡ v.sent)) leaves
-        (λ x s left. ((left.0, left.1, subst (λ (y : World). IsUnderWay f g y left.0) (world_begun t) left.2), left.3))
+        weakened v to (IsImageOf Way v.sent) (λ x s. IsLeftBy f g (world_of v.reads) x × (s ≡ v.sent)) leaves
+        (λ x s left. (inr (left.0, left.1, inl (subst (λ (y : World). IsUnderWay f g y left.0) (world_begun t) left.2)), left.3))
 
     left : told → LeavesOnly v w (IsImageOf Way v.sent)
     left t = asks_leave view did.lenders did.lenders_now did.kind did.kind_now v begin now did.asked (λ d. sound d t) (core_at t).0 (core_at t).1.good (begun t) Way (did.copies.crash t)
@@ -147,20 +113,16 @@ module _ {D : Type 0} (told : Type 0) (view : D → View) (sound : (d : D) → t
         (asks_aside view did.lenders did.lenders_now did.kind did.kind_now v begin now did.asked (λ d. sound d t) (core_at t).0 (core_at t).1.good (begun t) Way (did.copies.crash t))
 
     -- The copy has no end: nothing is committed.
-    pub no_end : (why : Status) → r ≡ Err why → v.clock ≤ w.clock → RunsOn told f g now.core v w (Err why)
-    no_end why fell clock = record {
-      ready = tt;
-      at = λ t. tt;
-      ends = λ t. tt;
-      words = tt;
+    pub no_end : (why : Status) → r ≡ Err why → CopiesOn told f g now.core v w (Err why)
+    no_end why fell = record {
+      ended = tt;
+      stopped =
+          let is : why ≡ status.DeviceFault = subst (λ (q : Result CopyEnd Status). IfErr q (λ e. e ≡ status.DeviceFault)) fell did.copies.stops in
+          subst (IsStoppedBy told v w) (sym is) (subst (λ (q : Result CopyEnd Status). CountsFault q v.faults w.faults) fell did.copies.faults);
       sent = sent;
       any_moment = λ t. left_as w t (left t);
-      size = size;
       behind = aside;
-      clock = clock;
       put_faults = did.copies.counts.put_faults;
-      stops = subst (λ (q : Result CopyEnd Status). IfErr q (λ e. e ≡ status.DeviceFault)) fell did.copies.stops;
-      faults = subst (λ (q : Result CopyEnd Status). CountsFault q v.faults w.faults) fell did.copies.faults;
     }
 
     -- ---- it has one, and a commit follows
@@ -179,7 +141,7 @@ module _ {D : Type 0} (told : Type 0) (view : D → View) (sound : (d : D) → t
       at_then t = subst (λ (q : Result CopyEnd Status). OnOk q (IsInMemory now.core now.room.ring (gathered now.room) w)) went (did.at t)
 
       module _ (c3 : Core) (dev3 : D) (any : told → LeavesBaseOrNow (gathered now.room) w (view dev3)) (more_aside : told → LeavesPart (behind now.core.volume.tables.geometry) w (view dev3)) (sent3 : told → (view dev3).sent ≡ w.sent) (size3 : SameSize now.core c3)
-          (works : Works w (view dev3)) (clock : v.clock ≤ (view dev3).clock) where
+          (works : Works w (view dev3)) where
         left_then : told → LeavesOnly v (view dev3) (IsImageOf Way v.sent)
         left_then t =
             joined v w (view dev3) (IsImageOf Way v.sent) (λ x s. (Stands x (world_below view now.dev) ⊎ Stands x (held_world view now.room now.dev)) × (s ≡ w.sent)) (left t) (any t)
@@ -196,36 +158,20 @@ module _ {D : Type 0} (told : Type 0) (view : D → View) (sound : (d : D) → t
             part_then (behind (size_of_image v.reads)) v w (view dev3) (sound now.dev t) (aside t)
             (subst (λ (s : Geometry). LeavesPart (behind s) w (view dev3)) (sym (told_size now.core.volume.tables).0 ∙ size t) (more_aside t))
 
+        committed_as : (q : Result CopyEnd Status) → IfOk q (IsEndedOn told f g c3 v (view dev3)) → IfErr q (IsStoppedBy told v (view dev3)) → CopiesOn told f g c3 v (view dev3) q
+        committed_as q ended stopped = record { ended = ended; stopped = stopped; sent = λ t. sent3 t ∙ sent t; any_moment = λ t. left_as (view dev3) t (left_then t); behind = aside_then; put_faults = works.put_faults ∙ copies.counts.put_faults }
+
         -- that was done
-        pub committed : IsCoreReady c3 → (told → IsCoreAt c3 (view dev3)) → (told → world_of (view dev3).reads ≡ held_world view now.room now.dev) → (view dev3).faults ≡ w.faults → RunsOn told f g c3 v (view dev3) (Ok end)
-        committed core_ready core_at3 world3 faults3 = record {
+        pub committed : IsCoreReady c3 → (told → IsCoreAt c3 (view dev3)) → (told → world_of (view dev3).reads ≡ held_world view now.room now.dev) → (view dev3).faults ≡ w.faults → CopiesOn told f g c3 v (view dev3) (Ok end)
+        committed core_ready core_at3 world3 faults3 = committed_as (Ok end) (record {
           ready = core_ready;
           at = core_at3;
+          size = size_then;
           ends = λ t. subst (λ (y : World). EndsAs f g (world_of v.reads) end y) (sym (world3 t)) (subst (λ (y : World). EndsAs f g y end (held_world view now.room now.dev)) (world_begun t) (copies.ends t));
           words = copies.words;
-          sent = λ t. sent3 t ∙ sent t;
-          any_moment = λ t. left_as (view dev3) t (left_then t);
-          size = size_then;
-          behind = aside_then;
-          clock = clock;
-          put_faults = works.put_faults ∙ copies.counts.put_faults;
-          stops = tt;
           faults = faults3 ∙ copies.faults;
-        }
+        }) tt
 
         -- that failed
-        pub not_committed : Rose w.faults (view dev3).faults → RunsOn told f g c3 v (view dev3) (Err status.DeviceFault)
-        not_committed rose = record {
-          ready = tt;
-          at = λ t. tt;
-          ends = λ t. tt;
-          words = tt;
-          sent = λ t. sent3 t ∙ sent t;
-          any_moment = λ t. left_as (view dev3) t (left_then t);
-          size = size_then;
-          behind = aside_then;
-          clock = clock;
-          put_faults = works.put_faults ∙ copies.counts.put_faults;
-          stops = refl;
-          faults = subst (λ (n : ℕ). Rose n (view dev3).faults) copies.faults rose;
-        }
+        pub not_committed : Rose w.faults (view dev3).faults → CopiesOn told f g c3 v (view dev3) (Err status.DeviceFault)
+        not_committed rose = committed_as (Err status.DeviceFault) tt (subst (λ (n : ℕ). Rose n (view dev3).faults) copies.faults rose)

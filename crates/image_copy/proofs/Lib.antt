@@ -1,6 +1,5 @@
 pub mod TrimLaws
 pub mod BetweenLaws
-pub mod SessionLaws
 pub mod OpenedLaws
 pub mod GatheredLaws
 pub mod SharedLaws

@@ -1,12 +1,8 @@
 -- The blocks that two roots reach, in worlds that differ in bytes alone.
-use Rattle.std.proofs.Common.{◌≡◌, ℕ, zero, suc, ◌==◌, ◌&&◌, ◌||◌, List, [], ◌∷◌, refl, sym, ◌∙◌, ap, filter}
-use Rattle.std.specs.Prelude.{Option, Some, None}
+use Rattle.std.proofs.Common.{◌≡◌, ℕ, zero, suc, ◌==◌, ◌&&◌, ◌||◌, List, [], ◌∷◌, refl, sym, ◌∙◌, ap, filter, Option, Some, None}
 use Rattle.std.specs.List.{list_any, range_with_len}
-use Rattle.tsd_model.specs.World.{World, has_number}
+use Rattle.image_shell.proofs.Common.{AreLike, Geometry, World, has_number, is_under}
 use Rattle.tsd_model.specs.Reach.{reach_from, reach_round, reach_rounds}
-use Rattle.tsd_model.specs.declared.geometry.Geometry.{Geometry}
-use Rattle.disk_laws.specs.Bytes.{AreLike}
-use Rattle.fs_trees.specs.Outside.{is_under}
 use Rattle.image_copy.specs.Steps.{IsSharing}
 
 round_like : (v w : World) → AreLike v w → (from : List ℕ) → reach_round v from ≡ reach_round w from

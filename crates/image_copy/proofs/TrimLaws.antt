@@ -1,20 +1,14 @@
 -- What hangs from one root while what another doesn't reach stays: its tree is as it was, also where none is there.
-use Rattle.std.proofs.Common.{◌≡◌, ℕ, ◌<◌, Bool, true, false, refl, sym, ◌∙◌, subst}
-use Rattle.tsd_model.specs.World.{World, contents, has_number}
+use Rattle.std.proofs.Common.{◌≡◌, ℕ, ◌<◌, true, false, refl, sym, ◌∙◌, subst}
+use Rattle.image_shell.proofs.Common.{AreApart, Geometry, IsValid, OthersStay, ShellKind, Tree, World, a_dir, a_file, contents, has_number, is_there, is_under, named_at, nothing, tree_at}
 use Rattle.tsd_model.specs.Pairs.{holds}
-use Rattle.tsd_model.specs.Valid.{IsValid}
-use Rattle.tsd_model.specs.declared.geometry.Geometry.{Geometry}
-use Rattle.fs_trees.specs.Layouts.{tree_at, named_at}
-use Rattle.fs_trees.specs.Outside.{is_under, OthersStay}
-use Rattle.fs_trees.specs.Tree.{Tree, nothing, a_file, a_dir, is_there}
-use Rattle.fs_trees.specs.declared.ask.ShellKind.{ShellKind}
 use Rattle.fs_trees.specs.declared.ask.ShellKind.TheVariants as kind
-use Rattle.fs_laws.specs.Apart.{AreApart}
 use Rattle.fs_laws.specs.Stays.{IsUnder, Keeps}
 use Rattle.fs_laws.proofs.ApartLaws.{under_live}
 use Rattle.fs_laws.proofs.NamedLaws.{each_named}
 use Rattle.fs_laws.proofs.TreeLaws.{named_is_under, read_from_named}
 use Rattle.fs_laws.proofs.UnderLaws.{each_under, root_under, target_under}
+use Rattle.tsd_model.proofs.ValueLaws.{clash}
 
 gone : (t : Tree) → is_there t ≡ false → t ≡ nothing
 gone nothing e = refl
@@ -85,9 +79,3 @@ apart_back w root other apart b h = elim (is_under w root b) as (λ t. is_under 
   | true ↦ λ e. absurd (clash (is_under w other b) h (apart b e))
   | false ↦ λ e. e
 ] refl
-  where
-    clash : (t : Bool) → t ≡ true → t ≡ false → ⊥
-    clash t is off = let both : true ≡ false = sym is ∙ off in cc
-
-pub others_same : (root : ℕ) (w : World) → OthersStay root w w
-others_same root w = record { records = refl; bytes = λ b live away. refl; pairs = λ a b live away. refl; apart = λ b live away. away }

@@ -1,15 +1,19 @@
 -- What a copy does on the disk in memory, before it is committed.
 use Rattle.std.specs.Prelude.{◌≡◌, true, ℕ, List, [], Result, OnOk, is_some}
+use Rattle.tsd_model.specs.Sessions.{Fits}
+use Rattle.tsd_model.specs.Valid.{IsValid}
 use Rattle.tsd_model.specs.declared.requests.Level.TheVariants as level
 use Rattle.tsd_model.specs.declared.requests.PlaceKind.{PlaceKind}
 use Rattle.image_device.specs.View.{View}
 use Rattle.tsd_words.specs.declared.status.Status.{Status}
-use Rattle.tsd_core.specs.Core.{Core, told_world}
+use Rattle.tsd_core.specs.Core.{Core, sessions_of, told_world}
+use Rattle.fs_laws.specs.Apart.{AreApart}
 use Rattle.fs_port.specs.Files.{FilesView}
-use Rattle.gathered_tasks.specs.Blocks.{There, blocks_view}
+use Rattle.gathered_tasks.specs.Blocks.{There, blocks_view, held_world}
 use Rattle.gathered_tasks.specs.Held.{IsInMemory, IsReadyInMemory}
 use Rattle.gathered_tasks.specs.Rooms.{gathered}
 use Rattle.gathered_tasks.specs.declared.asked.Before.{Before}
+use Rattle.gathered_tasks.specs.declared.room.AskRoom.{AskRoom}
 use Rattle.image_shell.specs.Served.{level_at}
 use Rattle.image_copy.specs.Copied.{source_session, target_session}
 use Rattle.image_copy.specs.Steps.{AreBothOpen, CopiesBetween}
@@ -22,6 +26,16 @@ pub record IsCopyist (f g : FilesView) (c : Core) : Type 0 where
   pub source_asks : f.session ≡ source_session
   pub target_asks : g.session ≡ target_session
   pub begun : AreBothOpen c
+
+-- A copy may begin in memory: both sides may be asked, and what is in memory is a valid world, in which no block is
+-- reached from both roots.
+pub record IsCopyReady {D : Type 0} (told : Type 0) (view : D → View) (f g : FilesView) (c : Core) (room : AskRoom)
+    (dev : D) : Type 0 where
+  pub copyist : IsCopyist f g c
+  pub at : told → IsInMemory c room.ring (gathered room) (view dev)
+  pub valid : told → IsValid (held_world view room dev)
+  pub fits : told → Fits (held_world view room dev) (sessions_of c)
+  pub apart : told → AreApart (held_world view room dev) f.root g.root
 
 -- It was made by these requests, as a copy promises over a disk of blocks, and after an answer what there is then may
 -- be committed.

@@ -1,13 +1,12 @@
 -- One copy over an image by its steps: the blocks that both roots reach, the sessions, mounting and copying, and the
 -- end.
-use Rattle.std.specs.Prelude.{◌≡◌, ◌⊎◌, ℕ, ◌≤◌, false, List, length, Option, Some, None, Result, Ok, Err, OnOk, IfOk}
+use Rattle.std.specs.Prelude.{◌≡◌, ◌⊎◌, ℕ, ◌≤◌, false, List, Option, Some, None, Result, Ok, Err, OnOk, IfOk}
 use Rattle.std.specs.Prelude.{IfErr, IsTrue, ⊤}
 use Rattle.tsd_model.specs.World.{World}
-use Rattle.tsd_model.specs.Sessions.{is_open}
+use Rattle.tsd_model.specs.Sessions.{is_open, no_sessions}
 use Rattle.tsd_model.specs.declared.requests.Level.{Level}
 use Rattle.tsd_model.specs.declared.requests.Level.TheVariants as level
-use Rattle.disk_laws.specs.Bytes.{AreLike}
-use Rattle.image_device.specs.Counts.{CountsFault, CountsFaultOf}
+use Rattle.image_device.specs.Counts.{CountsFault, CountsFaultOf, Rose}
 use Rattle.image_device.specs.View.{View}
 use Rattle.image_device.specs.Runs.{IsFirm, LeavesOnly}
 use Rattle.image_audit.specs.declared.entry.Entry.{Entry}
@@ -18,7 +17,7 @@ use Rattle.image_world.specs.Stands.{Stands, world_of}
 use Rattle.image_world.specs.Faults.{IsGood}
 use Rattle.recovery.specs.Opening.{IsForeign, IsUntouched, SparesDamaged, StandAlike}
 use Rattle.image_runs.specs.Looking.{OnlyLooks}
-use Rattle.image_runs.specs.Served.{IsAtEase}
+use Rattle.volume_laws.specs.Volume.{Volume, told_by}
 use Rattle.tsd_words.specs.declared.status.Status.{Status}
 use Rattle.tsd_words.specs.declared.status.Status.TheVariants as status
 use Rattle.tsd_core.specs.Core.{Core, IsCoreAt, IsCoreReady, sessions_of, told_world}
@@ -31,7 +30,6 @@ use Rattle.fs_port.specs.Files.{FilesView}
 use Rattle.fs_copy.specs.declared.copied.Copied.{Copied}
 use Rattle.fs_copy.specs.declared.refusal.CopyRefusal.{CopyRefusal}
 use Rattle.fs_copy.specs.declared.refusal.CopyRefusal.TheVariants as no
-use Rattle.core_blocks.specs.Behind.{KeepsBehind}
 use Rattle.image_shell.specs.FromCore.{IsAtStart}
 use Rattle.image_shell.specs.Served.{level_at}
 use Rattle.image_copy.specs.Copied.{AreAdmitted, HasEnded, IsCopyJudged, IsKeptOut, IsNotBegun, IsSideDenied}
@@ -62,28 +60,6 @@ IsSharing w root other (Some b) = IsFirstShared w root other b
 IsSharing w root other None = AreApart w root other
 
 -- ---- sessions
-
--- Sessions were begun, so that they are open as this says. The world stays.
-pub record AreBegun {X : Type 0} (told : Type 0) (open_now : Type 0) (c0 c1 : Core) (v w : View)
-    (result : Result X Status) : Type 0 where
-  pub ready : OnOk result (IsCoreReady c1)
-  pub begun : OnOk result open_now
-  pub like : OnOk result (AreLike (told_world c1) (told_world c0))
-  pub at : told → OnOk result (IsAtStart (world_of v.reads) c1 w)
-  pub sent : told → w.sent ≡ v.sent
-  pub any_moment : told → LeavesOnly v w (λ x f. Stands x (world_of v.reads) × (f ≡ v.sent))
-  pub behind : KeepsBehind told c0 c1 v w
-  pub stops : IfErr result (λ why. (why ≡ status.DeviceFault) ⊎ (why ≡ status.NoMemory))
-  pub clock : v.clock ≤ w.clock
-  pub put_faults : w.put_faults ≡ v.put_faults
-  pub faults : CountsFaultOf status.DeviceFault result v.faults w.faults
-
--- this one is open, and those that were, and no other
-pub record IsOneMore (session : ℕ) (c0 c1 : Core) : Type 0 where
-  pub this : IsTrue (is_open (sessions_of c1) session)
-  pub others : (n : ℕ) → IsTrue (is_open (sessions_of c0) n) → IsTrue (is_open (sessions_of c1) n)
-  pub only : (n : ℕ) → IsTrue (is_open (sessions_of c1) n) → (n ≡ session) ⊎ IsTrue (is_open (sessions_of c0) n)
-  pub count : length (sessions_of c1) ≡ length (sessions_of c0)
 
 -- the source's is open, and the target's, and no other
 pub record AreBothOpen (c : Core) : Type 0 where
@@ -127,45 +103,36 @@ pub record IsStartOf (told : Type 0) (f g : FilesView) (c : Core) (v : View) : T
   pub target_asks : g.session ≡ target_session
   pub at : told → IsAtStart (world_of v.reads) c v
 
--- The source was mounted on a core, and its tree copied; a crash leaves the world at the start or one on the way.
-pub record RunsOn (told : Type 0) (f g : FilesView) (c1 : Core) (v w : View)
-    (result : Result CopyEnd Status) : Type 0 where
-  pub ready : OnOk result (IsCoreReady c1)
-  pub at : told → OnOk result (IsCoreAt c1 w)
-  pub ends : told → IfOk result (λ e. EndsAs f g (world_of v.reads) e (world_of w.reads))
-  pub words : IfOk result HasWords
-  pub sent : told → w.sent ≡ v.sent
-  pub any_moment : told → LeavesOnly v w (λ x s. ((u : World) × Stands x u × IsUnderWay f g (world_of v.reads) u)
-      × (s ≡ v.sent))
-  pub size : told → (told_world c1).geometry ≡ size_of_image v.reads
-  pub behind : told → LeavesBehind v w
-  pub clock : v.clock ≤ w.clock
-  pub put_faults : w.put_faults ≡ v.put_faults
-  pub stops : IfErr result (λ why. why ≡ status.DeviceFault)
-  pub faults : CountsFault result v.faults w.faults
-
 -- what a crash leaves before the line: the world at the start, one on the way, or one in which the copy has ended
 abbrev pub IsLeftBy : FilesView → FilesView → World → Image → Type 0
 IsLeftBy f g start x = Stands x start ⊎ ((w : World) × Stands x w
     × (IsUnderWay f g start w ⊎ ((e : CopyEnd) × EndsAs f g start e w)))
 
--- The copy was made on a core, and nothing is sent yet. Without memory no step of it was made.
+-- The copy has this end on a core, which may be used.
+pub record IsEndedOn (told : Type 0) (f g : FilesView) (c1 : Core) (v w : View) (e : CopyEnd) : Type 0 where
+  pub ready : IsCoreReady c1
+  pub at : told → IsCoreAt c1 w
+  pub size : told → (told_world c1).geometry ≡ size_of_image v.reads
+  pub ends : told → EndsAs f g (world_of v.reads) e (world_of w.reads)
+  pub words : HasWords e
+  pub faults : w.faults ≡ v.faults
+
+-- It stopped without an end: the count of faults rose; or without memory no step of it was made.
+abbrev pub IsStoppedBy : Type 0 → View → View → Status → Type 0
+IsStoppedBy told v w status.DeviceFault = Rose v.faults w.faults
+IsStoppedBy told v w status.NoMemory =
+    (w.faults ≡ v.faults) × (told → LeavesOnly v w (λ x s. Stands x (world_of v.reads) × (s ≡ v.sent)))
+IsStoppedBy told v w r = ⊥
+
+-- The copy was made on a core, and nothing is sent yet.
 pub record CopiesOn (told : Type 0) (f g : FilesView) (c1 : Core) (v w : View)
     (result : Result CopyEnd Status) : Type 0 where
-  pub ready : OnOk result (IsCoreReady c1)
-  pub at : told → OnOk result (IsCoreAt c1 w)
-  pub ends : told → IfOk result (λ e. EndsAs f g (world_of v.reads) e (world_of w.reads))
-  pub words : IfOk result HasWords
+  pub ended : IfOk result (IsEndedOn told f g c1 v w)
+  pub stopped : IfErr result (IsStoppedBy told v w)
   pub sent : told → w.sent ≡ v.sent
   pub any_moment : told → LeavesOnly v w (λ x s. IsLeftBy f g (world_of v.reads) x × (s ≡ v.sent))
-  pub size : told → (told_world c1).geometry ≡ size_of_image v.reads
   pub behind : told → LeavesBehind v w
-  pub no_memory : told → IfErr result (λ why. why ≡ status.NoMemory
-      → LeavesOnly v w (λ x s. Stands x (world_of v.reads) × (s ≡ v.sent)))
-  pub stops : IfErr result (λ why. (why ≡ status.DeviceFault) ⊎ (why ≡ status.NoMemory))
-  pub clock : v.clock ≤ w.clock
   pub put_faults : w.put_faults ≡ v.put_faults
-  pub faults : CountsFaultOf status.DeviceFault result v.faults w.faults
 
 -- ---- on a volume that was opened
 
@@ -177,31 +144,19 @@ IsUnended status.NoMemory = ⊤
 IsUnended status.DeviceFault = ⊤
 IsUnended r = ⊥
 
--- why no copy was made: a capability that doesn't attain write, or what a copy may stop by
-abbrev pub IsStop : World → CopyFs → Status → Type 0
-IsStop w words (status.RootDenied attained) = IsSideDenied w words attained
-IsStop w words status.DeviceFault = ⊤
-IsStop w words status.NoMemory = ⊤
-IsStop w words r = ⊥
+-- both capabilities attain write: a core of the volume, with no session open, and the least block that both roots reach
+pub record IsAdmitted (volume : Volume) (words : CopyFs) (c : Core) (shared : Option ℕ) : Type 0 where
+  pub of : c.volume ≡ volume
+  pub none : c.grants.sessions ≡ no_sessions
+  pub ready : IsCoreReady c
+  pub both : AreAdmitted (told_by volume) words
+  pub sharing : IsSharing (told_by volume) words.from.root words.into.root shared
 
--- The copy was made on a volume, and nothing is sent yet. Where none was begun, the world is as it was.
-pub record CopiesFrom (told : Type 0) (words : CopyFs) (v w : View) (result : Result CopyEnd Status) : Type 0 where
-  pub ends : told → IfOk result (λ e. EndsAs (source words) (target words) (world_of v.reads) e (world_of w.reads))
-  pub has_words : IfOk result HasWords
-  pub at_ease : told → OnOk result (IsAtEase w (world_of w.reads))
-  pub admitted : told → OnOk result (AreAdmitted (world_of v.reads) words)
-  pub stops : IfErr result IsUnended
-  pub denied : told → IfErr result (IsStop (world_of v.reads) words)
-  pub sent : told → w.sent ≡ v.sent
-  pub any_moment : told → LeavesOnly v w (λ x s. IsLeftBy (source words) (target words) (world_of v.reads) x
-      × (s ≡ v.sent))
-  pub behind : told → LeavesBehind v w
-  pub not_begun : told → IfErr result (λ why. IsNotBegun why
-      → LeavesOnly v w (λ x s. Stands x (world_of v.reads) × (s ≡ v.sent)))
-  pub looked : IfErr result (λ why. IsKeptOut why → w.writes ≡ v.writes)
-  pub clock : v.clock ≤ w.clock
-  pub put_faults : w.put_faults ≡ v.put_faults
-  pub faults : CountsFaultOf status.DeviceFault result v.faults w.faults
+-- why none is made: a capability that doesn't attain write, or no memory
+abbrev pub IsRefused : World → CopyFs → Status → Type 0
+IsRefused w words (status.RootDenied attained) = IsSideDenied w words attained
+IsRefused w words status.NoMemory = ⊤
+IsRefused w words r = ⊥
 
 -- ---- over an image
 

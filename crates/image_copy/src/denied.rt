@@ -2,10 +2,10 @@
 
 ghost use Rattle.std.specs.Prelude.{◌≡◌};
 ghost use Rattle.volume_laws.specs.Volume.{told_by};
-ghost use Rattle.image_shell.specs.FromCore.{is_below_write};
 ghost use Rattle.image_copy.specs.Copied.{level_under};
 ghost use Rattle.image_copy.specs.Steps.{IsDenial};
 
+use image_shell::is_below_write;
 use tsd_model::{Level, Shown};
 use tsd_words::{CopyFs, TreeRoot};
 use volume::Volume;
@@ -34,11 +34,4 @@ fn root_level(volume: &Volume, tree: &TreeRoot) -> Level
         return volume.level_shown(tree.root, &Shown::Key(tree.cap));
     }
     Level::Bare
-}
-
-/// Whether it isn't write.
-fn is_below_write(attained: &Level) -> bool
-    ensures { result ≡ is_below_write attained.now }
-{
-    !matches!(attained, Level::Write)
 }

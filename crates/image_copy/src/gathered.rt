@@ -1,16 +1,12 @@
 //! A copy carried out in memory as long as there is room, and committed.
 
-ghost use Rattle.std.specs.Prelude.{◌≡◌, ◌≤◌, true, is_some};
-ghost use Rattle.tsd_model.specs.Sessions.{Fits};
-ghost use Rattle.tsd_model.specs.Valid.{IsValid};
+ghost use Rattle.std.specs.Prelude.{◌≡◌, true, is_some};
 ghost use Rattle.image_world.specs.Stands.{world_of};
-ghost use Rattle.tsd_core.specs.Core.{sessions_of};
 ghost use Rattle.fs_laws.specs.Apart.{AreApart};
-ghost use Rattle.gathered_tasks.specs.Blocks.{held_world};
-ghost use Rattle.gathered_tasks.specs.Held.{IsInMemory, IsReadyInMemory};
-ghost use Rattle.gathered_tasks.specs.Rooms.{IsFree, gathered};
-ghost use Rattle.image_copy.specs.Gathered.{IsCopyGathered, IsCopyist};
-ghost use Rattle.image_copy.specs.Steps.{AreBothOpen, IsStartOf, RunsOn};
+ghost use Rattle.gathered_tasks.specs.Held.{IsReadyInMemory};
+ghost use Rattle.gathered_tasks.specs.Rooms.{IsFree};
+ghost use Rattle.image_copy.specs.Gathered.{IsCopyGathered, IsCopyReady};
+ghost use Rattle.image_copy.specs.Steps.{AreBothOpen, CopiesOn, IsStartOf};
 
 use crate::between::copy_between;
 use crate::ending::CopyEnd;
@@ -37,9 +33,7 @@ pub(crate) fn copy_committed<A: Walks, B: Files, L: Placing, D: Device>(
     requires open { AreBothOpen core.old }
     requires apart { D.told → AreApart (world_of (D.view dev.old).reads) (A.view from.old).root (B.view into.old).root }
     requires room { IsFree room.old }
-    // Of a device that tells nothing only its type can say that its clock doesn't go back (`onward`).
-    ensures { (D.view dev.old).clock ≤ (D.view dev.new).clock → RunsOn D.told (A.view from.old) (B.view into.old)
-        core.new (D.view dev.old) (D.view dev.new) result }
+    ensures { CopiesOn D.told (A.view from.old) (B.view into.old) core.new (D.view dev.old) (D.view dev.new) result }
 {
     begin(core, room);
     let mut outcome = Err(Status::DeviceFault);
@@ -66,13 +60,8 @@ fn gather_copy<'a, A: Walks, B: Files, D: Device, L: Placing, K: Lending>(
     requires lent_dev { on.dev.ghost_name ≡ K.dev }
     requires lent_room { on.room.ghost_name ≡ K.room }
     requires ready { IsReadyInMemory on.core.now }
-    requires copyist { IsCopyist (A.view from.old) (B.view into.old) on.core.now }
     requires here { is_some on.room.now.room ≡ true }
-    requires at { D.told → IsInMemory on.core.now on.room.now.ring (gathered on.room.now) (D.view on.dev.now) }
-    requires valid { D.told → IsValid (held_world D.view on.room.now on.dev.now) }
-    requires fits { D.told → Fits (held_world D.view on.room.now on.dev.now) (sessions_of on.core.now) }
-    requires apart { D.told → AreApart (held_world D.view on.room.now on.dev.now) (A.view from.old).root
-        (B.view into.old).root }
+    requires start { IsCopyReady D.told D.view (A.view from.old) (B.view into.old) on.core.now on.room.now on.dev.now }
     ensures lent_core { result.core.ghost_name ≡ K.core }
     ensures lent_dev { result.dev.ghost_name ≡ K.dev }
     ensures lent_room { result.room.ghost_name ≡ K.room }

@@ -1,16 +1,15 @@
 //! One copy over an image.
 
-ghost use Rattle.std.specs.Prelude.{◌≡◌, false};
-ghost use Rattle.gathered_tasks.specs.Rooms.{IsFree};
+ghost use Rattle.std.specs.Prelude.{◌≡◌, false, IfErr, IfOk};
 ghost use Rattle.image_device.specs.Runs.{IsFirm, LeavesOnly};
 ghost use Rattle.image_world.specs.Behind.{LeavesBehind};
 ghost use Rattle.image_runs.specs.Looking.{OnlyLooks};
 ghost use Rattle.recovery.specs.Opening.{IsForeign, IsUntouched, SparesDamaged, StandAlike};
-ghost use Rattle.volume_laws.specs.Volume.{IsVolumeAt, IsVolumeReady, told_by};
+ghost use Rattle.volume_laws.specs.Volume.{IsVolumeReady, told_by};
 ghost use Rattle.serving.specs.Faults.{TellsPortFaults};
 ghost use Rattle.image_copy.specs.Copied.{HasCopied, IsCopyEnding, IsCopyJudged, IsKeptOut, IsLeftOfCopy, IsNotBegun};
-ghost use Rattle.image_copy.specs.Copied.{AreAdmitted, source, target};
-ghost use Rattle.image_copy.specs.Steps.{CarriesOut, CopiesFrom};
+ghost use Rattle.image_copy.specs.Copied.{source, target};
+ghost use Rattle.image_copy.specs.Steps.{CarriesOut, IsAdmitted, IsRefused};
 
 use crate::denied::denied;
 use crate::ending::CopyEnd;
@@ -90,97 +89,43 @@ fn carry_out<A: Walks, B: Files, L: Placing, D: Device>(
     ensures { CarriesOut D.told words.now (D.view dev.old) (D.view dev.new) result }
 {
     match AskRoom::new(alloc) {
-        Ok(mut room) => carry_out_in(alloc, &mut room, from, into, words, placement, dev),
+        Ok(mut room) => match open_volume(alloc, dev) {
+            Ok(volume) => match admit(alloc, volume, words) {
+                Ok((mut core, shared)) => {
+                    copy_and_close(shared, &mut core, from, into, placement, dev, &mut room)
+                }
+                Err(why) => Err(why),
+            },
+            Err(why) => Err(why),
+        },
         Err(_) => Err(Status::NoMemory),
     }
 }
 
-/// The same in a room for what is gathered.
-fn carry_out_in<A: Walks, B: Files, L: Placing, D: Device>(
-    alloc: Global,
-    room: &mut AskRoom,
-    from: &mut A,
-    into: &mut B,
-    words: &CopyFs,
-    placement: &L,
-    dev: &mut D,
-) -> Result<CopyEnd, Status>
-    requires room { IsFree room.old }
-    requires source { A.view from.old ≡ source words.now }
-    requires target { B.view into.old ≡ target words.now }
-    ensures { CarriesOut D.told words.now (D.view dev.old) (D.view dev.new) result }
-{
-    match open_volume(alloc, dev) {
-        Ok(volume) => copy_opened(alloc, room, volume, from, into, words, placement, dev),
-        Err(why) => Err(why),
-    }
-}
-
-/// Copies on a volume that was opened, where both capabilities attain write.
-fn copy_opened<A: Walks, B: Files, L: Placing, D: Device>(
-    alloc: Global,
-    room: &mut AskRoom,
-    volume: Volume,
-    from: &mut A,
-    into: &mut B,
-    words: &CopyFs,
-    placement: &L,
-    dev: &mut D,
-) -> Result<CopyEnd, Status>
-    requires room { IsFree room.old }
-    requires source { A.view from.old ≡ source words.now }
-    requires target { B.view into.old ≡ target words.now }
+/// The core of a volume, and the least block that both roots reach, where both capabilities attain write.
+fn admit(alloc: Global, volume: Volume, words: &CopyFs) -> Result<(Core, Option<u32>), Status>
     requires ready { IsVolumeReady volume }
     requires unspent { volume.is_spent ≡ false }
-    requires at { D.told → IsVolumeAt volume (D.view dev.old) }
-    ensures { CopiesFrom D.told words.now (D.view dev.old) (D.view dev.new) result }
+    ensures admitted { IfOk result (λ a. IsAdmitted volume words.now a.0 a.1) }
+    ensures refused { IfErr result (IsRefused (told_by volume) words.now) }
 {
     match denied(&volume, words) {
         Some(attained) => {
             let_volume_go(volume);
             Err(Status::RootDenied(attained))
         }
-        None => copy_admitted(alloc, room, volume, from, into, words, placement, dev),
-    }
-}
-
-/// Copies on a volume where no block is shared.
-fn copy_admitted<A: Walks, B: Files, L: Placing, D: Device>(
-    alloc: Global,
-    room: &mut AskRoom,
-    volume: Volume,
-    from: &mut A,
-    into: &mut B,
-    words: &CopyFs,
-    placement: &L,
-    dev: &mut D,
-) -> Result<CopyEnd, Status>
-    requires room { IsFree room.old }
-    requires source { A.view from.old ≡ source words.now }
-    requires target { B.view into.old ≡ target words.now }
-    requires ready { IsVolumeReady volume }
-    requires unspent { volume.is_spent ≡ false }
-    requires at { D.told → IsVolumeAt volume (D.view dev.old) }
-    requires admitted { AreAdmitted (told_by volume) words.now }
-    ensures { CopiesFrom D.told words.now (D.view dev.old) (D.view dev.new) result }
-{
-    let _size = volume.geometry();
-    match first_shared(alloc, &volume, words.from.root, words.into.root) {
-        Ok(shared) => {
-            let mut core = Core::new(alloc, volume);
-            let end = copy_and_close(shared, &mut core, from, into, placement, dev, room);
-            let_core_go(core);
-            end
-        }
-        Err(_) => {
-            let_volume_go(volume);
-            Err(Status::NoMemory)
+        None => {
+            let _size = volume.geometry();
+            match first_shared(alloc, &volume, words.from.root, words.into.root) {
+                Ok(shared) => Ok((Core::new(alloc, volume), shared)),
+                Err(_) => {
+                    let_volume_go(volume);
+                    Err(Status::NoMemory)
+                }
+            }
         }
     }
 }
-
-/// Gives back the memory of a core.
-fn let_core_go(_core: Core) {}
 
 /// Gives back the memory of a volume.
 fn let_volume_go(_volume: Volume) {}

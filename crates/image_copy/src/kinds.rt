@@ -11,7 +11,7 @@ ghost use Rattle.image_copy.specs.Copied.{HasCopied, IsCopyEnding, IsCopyJudged,
 ghost use Rattle.image_copy.specs.Copied.{source};
 
 use crate::image::copy_over_image;
-use crate::sessions::{SOURCE_SESSION, TARGET_SESSION};
+use crate::opened::{SOURCE_SESSION, TARGET_SESSION};
 use chain_fs::ChainFs;
 use fs_trees::ShellKind;
 use fs_walks::Walks;
@@ -23,6 +23,7 @@ use tsd_words::{CopyFs, Status};
 
 /// Opens an image and copies the tree under one root to another, each in its layout, as `copy_over_image` does. Free
 /// blocks are taken by `placement`.
+#[tactic(auto, using(crate::proofs::PutLaws::idle))]
 pub fn copy_image<P: Port>(
     alloc: Global,
     words: &CopyFs,
@@ -75,22 +76,13 @@ pub fn copy_image<P: Port>(
     /// promise: A count of faults rose exactly where the status is that fault's.
     ensures faults { TellsPortFaults result (P.view port.old) (P.view port.new) }
 {
-    match words.from.layout {
-        ShellKind::Inode => match InodeFs::new(
-            alloc,
-            words.from.root,
-            &words.from.cap,
-            SOURCE_SESSION,
-        ) {
+    let tree = &words.from;
+    match tree.layout {
+        ShellKind::Inode => match InodeFs::new(alloc, tree.root, &tree.cap, SOURCE_SESSION) {
             Ok(mut from) => copy_from(alloc, &mut from, words, placement, port),
             Err(_) => Status::NoMemory,
         },
-        ShellKind::Chain => match ChainFs::new(
-            alloc,
-            words.from.root,
-            &words.from.cap,
-            SOURCE_SESSION,
-        ) {
+        ShellKind::Chain => match ChainFs::new(alloc, tree.root, &tree.cap, SOURCE_SESSION) {
             Ok(mut from) => copy_from(alloc, &mut from, words, placement, port),
             Err(_) => Status::NoMemory,
         },
@@ -98,6 +90,7 @@ pub fn copy_image<P: Port>(
 }
 
 /// The same, from this source.
+#[tactic(auto, using(crate::proofs::PutLaws::idle))]
 fn copy_from<A: Walks, P: Port>(
     alloc: Global,
     from: &mut A,
@@ -108,43 +101,26 @@ fn copy_from<A: Walks, P: Port>(
     requires source { A.view from.old ≡ source words.now }
     ensures ending { IsCopyEnding result }
     ensures read { P.told → IsCopyJudged words.now (P.view port.old).reads result }
-    // How the copy ended, and what of its line was sent.
     ensures copied { P.told → HasCopied result words.now (P.view port.old) (P.view port.new) }
-    // A crash at any moment leaves the world at the start, one on the way, or with a front of the line the one that it
-    // tells.
     ensures any_moment { P.told → IsFirm (P.view port.old) → LeavesOnly (P.view port.old) (P.view port.new)
         (IsLeftOfCopy words.now (P.view port.old)) }
-    // Where no copy was begun, all is as it was.
     ensures not_begun { P.told → IsNotBegun result → IsFirm (P.view port.old)
         → LeavesOnly (P.view port.old) (P.view port.new) (λ x f. StandAlike (P.view port.old).reads x
         × (f ≡ (P.view port.old).sent)) }
-    // Where no image was opened, or a capability doesn't attain write, no more is written than an opening writes.
     ensures looked { P.told → IsKeptOut result → OnlyLooks (P.view port.old) (P.view port.new) }
-    // Where the image fails one of the tests that need no write, nothing is written, and the disk reads as before;
-    // where it fails another, nothing is lost that a repair could use, whatever is answered.
     ensures untouched { P.told → IsForeign (P.view port.old).reads
         → IsUntouched (P.view port.old) (P.view port.new) }
     ensures spared { P.told → SparesDamaged (P.view port.old) (P.view port.new) }
-    // However it ended, a crash at any moment leaves what lies behind the image as it was.
     ensures behind { P.told → IsFirm (P.view port.old) → LeavesBehind (P.view port.old) (P.view port.new) }
     ensures faults { TellsPortFaults result (P.view port.old) (P.view port.new) }
 {
-    match words.into.layout {
-        ShellKind::Inode => match InodeFs::new(
-            alloc,
-            words.into.root,
-            &words.into.cap,
-            TARGET_SESSION,
-        ) {
+    let tree = &words.into;
+    match tree.layout {
+        ShellKind::Inode => match InodeFs::new(alloc, tree.root, &tree.cap, TARGET_SESSION) {
             Ok(mut into) => copy_over_image(alloc, from, &mut into, words, placement, port),
             Err(_) => Status::NoMemory,
         },
-        ShellKind::Chain => match ChainFs::new(
-            alloc,
-            words.into.root,
-            &words.into.cap,
-            TARGET_SESSION,
-        ) {
+        ShellKind::Chain => match ChainFs::new(alloc, tree.root, &tree.cap, TARGET_SESSION) {
             Ok(mut into) => copy_over_image(alloc, from, &mut into, words, placement, port),
             Err(_) => Status::NoMemory,
         },

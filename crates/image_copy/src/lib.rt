@@ -4,11 +4,10 @@
 //! disk as a file system asks it, `fs_copy` copies, and `inode_fs` and `chain_fs` are the two file systems.
 //!
 //! - `image`, `kinds`: a copy over an image, by any two file systems, and by these.
-//! - `opened`: the same from a core that is open.
-//! - `denied`, `shared`, `sessions`: who may copy, the blocks that both roots reach, and the sessions.
+//! - `opened`: the same from a core that is open: the sessions, the copy, and the end.
+//! - `denied`, `shared`: who may copy, and the blocks that both roots reach.
 //! - `between`: a tree mounted and copied on a disk.
 //! - `gathered`: the same on the disk in memory, committed each time when a batch is full, and once in the end.
-//! - `onward`: the device as it is lent for that.
 //! - `ending`, `lines`: how a copy ends, and the line that says it.
 //!
 //! What it promises (`specs/Copied`, `specs/Ends`): after `copied` the target's root has the source's tree. A crash at
@@ -25,9 +24,7 @@ mod gathered;
 mod image;
 mod kinds;
 mod lines;
-mod onward;
 mod opened;
-mod sessions;
 mod shared;
 
 pub use ending::CopyEnd;

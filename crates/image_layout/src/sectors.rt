@@ -4,8 +4,7 @@ ghost use Rattle.std.specs.Prelude.{◌≡◌};
 ghost use Rattle.image_layout.specs.Areas.{header_sector, format_gate, sweep_flag, caps_start, counts_start};
 ghost use Rattle.image_layout.specs.Areas.{most_sectors};
 
-/// The bytes of a sector.
-pub const SECTOR_BYTES: usize = 512;
+pub use tsd_model::SECTOR_BYTES;
 
 /// The header.
 pub const HEADER_SECTOR: u32 = 0;

@@ -8,12 +8,11 @@ pub use Rattle.image_device.specs.Runs.{IsConfined, IsFirm, LeavesOnly, LeavesPa
 pub use Rattle.image_device.specs.View.{IsLeftInPut, IsPart, IsSound, View}
 pub use Rattle.image_layout.specs.Areas.{sweep_flag, total}
 pub use Rattle.image_layout.specs.Image.{Image, says_open}
-pub use Rattle.image_runs.specs.Applying.{HasApplied, IsFirstStarved, IsRequestNext, IsSummary, LeavesRun, more_granted, more_refused}
+pub use Rattle.image_runs.specs.Applying.{HasApplied, IsSummary, LeavesRun, more_granted, more_refused}
 pub use Rattle.image_runs.specs.Behind.{AreSameBehind, LeavesSameBehind, LeavesSectorsBehind, sectors_behind}
 pub use Rattle.image_runs.specs.Fresh.{FreshEnds, FreshRan, IsPromptFresh, format_writes, fresh_start, single_world}
 pub use Rattle.image_runs.specs.Load.{HasLoaded, IsLeftOfLoad, IsLoadDone, IsLoadedBy, granted_count, is_refused, load_line, loaded, loaded_replies, refused_count, requests_of}
 pub use Rattle.image_runs.specs.Opened.{IsJudged, IsUnopened, status_of}
-pub use Rattle.image_runs.specs.Sending.{IsStopped, ProperFrontWasSent}
 pub use Rattle.image_runs.specs.Served.{ImageRan, IsAtEase, IsOwed, IsPromptRun, RunEnds, disk_service, start_of}
 pub use Rattle.image_runs.specs.Server.{disk_rules, disk_work, limit_with, placed_on, writes_before}
 pub use Rattle.image_world.proofs.WorldLaws.{geometry_left, told_like, world_valid}
@@ -62,7 +61,7 @@ pub use Rattle.tsd_model.specs.declared.replies.Reply.{Reply}
 pub use Rattle.tsd_model.specs.declared.replies.Rule.{Rule}
 pub use Rattle.tsd_model.specs.declared.requests.PlaceKind.{PlaceKind}
 pub use Rattle.tsd_model.specs.declared.requests.Request.{Request}
-pub use Rattle.tsd_words.specs.Lines.{cap_lines, clean_line, clean_words, line_of, load_words, upgrade_line}
+pub use Rattle.tsd_words.specs.Lines.{cap_lines, clean_line, clean_words, line_of, load_words}
 pub use Rattle.tsd_words.specs.declared.status.Status.{Status}
 pub use Rattle.volume_laws.specs.Moments.{LeavesEither, LeavesWorld}
 pub use Rattle.volume_laws.specs.Quiet.{IsQuiet}

@@ -1,29 +1,15 @@
 -- A run after formatting, as one from the start.
 use Rattle.std.proofs.Common.{◌≡◌, ◌⊎◌, inl, inr, ℕ, ◌+◌, ◌≤◌, List, [], refl, sym, ◌∙◌, subst, append-nil, arith}
-use Rattle.image_runs.proofs.Common.{World, PlaceKind, Request, View, IsFirm, LeavesOnly, joined, weakened, Image, Stands, IsFormatting, Status, IsPaidFor, HasDebt, Spelling, Placed, Mark, Promptly, mark, ByStatus, Moments, Taking, IsAcknowledged, IsCounted, Voice, disk_service, RunEnds, IsOwed, ImageRan, IsPromptRun, IsJudged, fresh_start, format_writes, FreshEnds, FreshRan, IsPromptFresh, debt, IsQuiet, disk_work}
+use Rattle.image_runs.proofs.Common.{World, PlaceKind, Request, View, LeavesOnly, joined, weakened, Image, IsFormatting, Status, IsPaidFor, HasDebt, Spelling, Placed, Mark, Promptly, mark, ByStatus, Moments, Taking, IsAcknowledged, IsCounted, Voice, disk_service, IsAtEase, RunEnds, IsOwed, ImageRan, IsPromptRun, IsJudged, fresh_start, format_writes, FreshEnds, FreshRan, IsPromptFresh, debt, disk_work}
 use Rattle.image_device.specs.Calls.{Uses}
 use Rattle.tsd_words.specs.declared.status.Status.TheVariants as status
 use Rattle.image_world.proofs.FaultLaws.{no_fault}
 use Rattle.image_runs.proofs.Started.{paid_from, paid_nothing}
 
--- what formatting leaves, or what a run after it leaves
-abbrev left_by : Voice → PlaceKind → World → View → List Request → Image → List ℕ → Type 0
-left_by v kind w old asked x f = (IsFormatting old w x f × (f ≡ old.sent)) ⊎ IsAcknowledged (disk_service v) (fresh_start kind w) old.sent asked x f
-
--- how much is owed in what formatting leaves, or in what a run after it leaves
-abbrev owed_by : Voice → PlaceKind → World → View → List Request → Image → List ℕ → Type 0
-owed_by v kind w old asked x f = (IsFormatting old w x f × (f ≡ old.sent)) ⊎ HasDebt (disk_service v) disk_work (fresh_start kind w) old.sent 0 asked x f
-
--- by the moment `now` the disk is formatted
-pub record IsFormatted (w : World) (old now : View) : Type 0 where
-  pub stands : Stands now.reads w
-  pub quiet : IsQuiet now.reads
-  pub firm : IsFirm now
-  pub sent : now.sent ≡ old.sent
-
 -- what formatting did: the disk stands for this world, with nothing left to be done
 pub record Formatted (w : World) (old mid : View) : Type 0 where
-  pub formatted : IsFormatted w old mid
+  pub ease : IsAtEase mid w
+  pub sent : mid.sent ≡ old.sent
   pub leaves : LeavesOnly old mid (λ x f. IsFormatting old w x f × (f ≡ old.sent))
   pub uses : Uses (format_writes w.geometry) old mid
 
@@ -31,12 +17,10 @@ pub record Formatted (w : World) (old mid : View) : Type 0 where
 owed_fresh : (v : Voice) (kind : PlaceKind) (w : World) (old mid : View) (asked : List Request) (x : Image) (f : List ℕ) → IsCounted (disk_service v) → Formatted w old mid
     → IsOwed v kind mid asked x f → HasDebt (disk_service v) disk_work (fresh_start kind w) old.sent 0 asked x f
 owed_fresh v kind w old mid asked x f counted done owed = elim owed [
-  | inl has ↦
-      subst (λ (b : List ℕ). HasDebt (disk_service v) disk_work (fresh_start kind w) b 0 asked x f) done.formatted.sent
-      (subst (λ (u : World). HasDebt (disk_service v) disk_work (fresh_start kind u) mid.sent 0 asked x f) (sym done.formatted.stands.world) has)
+  | inl has ↦ rw (sym done.ease.stands.world, done.sent) at has
   | inr few ↦
-      let none : debt x ≤ debt mid.reads = few.1 done.formatted.quiet.still in
-      let settled : debt mid.reads ≡ 0 = done.formatted.quiet.settled in
+      let none : debt x ≤ debt mid.reads = few.1 done.ease.quiet.still in
+      let settled : debt mid.reads ≡ 0 = done.ease.quiet.settled in
       record {
         answered = [];
         rest = asked;
@@ -45,7 +29,7 @@ owed_fresh v kind w old mid asked x f counted done owed = elim owed [
         state = fresh_start kind w;
         run = refl;
         front = [];
-        sent = few.0 ∙ (done.formatted.sent ∙ sym (append-nil old.sent));
+        sent = few.0 ∙ (done.sent ∙ sym (append-nil old.sent));
         count = counted.nothing;
         few = omega (arith, none, settled);
       }
@@ -54,23 +38,23 @@ owed_fresh v kind w old mid asked x f counted done owed = elim owed [
 pub ends_formatted : (r : Status) (v : Voice) (kind : PlaceKind) (w : World) (old mid new : View) (asked : List Request) (final : Placed) → IsCounted (disk_service v)
     → Formatted w old mid → IsJudged mid.reads r → RunEnds r v kind mid new asked final → FreshEnds r v kind w old new asked final
 ends_formatted r v kind w old mid new asked final counted done judged ends =
-    let sent = done.formatted.sent in
-    let stands = done.formatted.stands in
+    let sent = done.sent in
+    let stands = done.ease.stands in
     let by : ByStatus r (disk_service v) (fresh_start kind w) old.sent asked final new.sent =
     subst (λ (b : List ℕ). ByStatus r (disk_service v) (fresh_start kind w) b asked final new.sent) sent
     (subst (λ (u : World). ByStatus r (disk_service v) (fresh_start kind u) mid.sent asked final new.sent) (sym stands.world) ends.sent) in
     let moments : LeavesOnly mid new (IsAcknowledged (disk_service v) (fresh_start kind w) old.sent asked) =
     subst (λ (b : List ℕ). LeavesOnly mid new (IsAcknowledged (disk_service v) (fresh_start kind w) b asked)) sent
-    (subst (λ (u : World). LeavesOnly mid new (IsAcknowledged (disk_service v) (fresh_start kind u) mid.sent asked)) (sym stands.world) (ends.any_moment done.formatted.firm w stands)) in
+    (subst (λ (u : World). LeavesOnly mid new (IsAcknowledged (disk_service v) (fresh_start kind u) mid.sent asked)) (sym stands.world) (ends.any_moment done.ease.firm w stands)) in
     let most : IsPaidFor (disk_service v) disk_work (fresh_start kind w) old.sent asked new.sent mid.writes new.writes =
     subst (λ (b : List ℕ). IsPaidFor (disk_service v) disk_work (fresh_start kind w) b asked new.sent mid.writes new.writes) sent
-    (subst (λ (u : World). IsPaidFor (disk_service v) disk_work (fresh_start kind u) mid.sent asked new.sent mid.writes new.writes) (sym stands.world) (ends.writes done.formatted.quiet)) in
+    (subst (λ (u : World). IsPaidFor (disk_service v) disk_work (fresh_start kind u) mid.sent asked new.sent mid.writes new.writes) (sym stands.world) (ends.writes done.ease.quiet)) in
     record {
       sent = by;
-      any_moment = joined old mid new (left_by v kind w old asked) _ (weakened old mid _ _ done.leaves (λ x f p. inl p)) moments (λ x f p. inr p);
+      any_moment = joined old mid new _ _ (weakened old mid _ _ done.leaves (λ x f p. inl p)) moments (λ x f p. inr p);
       formatted = inr (mid.clock, done.uses.clock, moments.later, moments.each);
       opens = λ why e. no_fault mid.reads why stands.good (subst (λ (t : Status). IsJudged mid.reads t) e judged);
-      debt = λ bounded. joined old mid new (owed_by v kind w old asked) _ (weakened old mid _ _ done.leaves (λ x f p. inl p)) (ends.debt done.formatted.firm bounded) (λ x f p. inr (owed_fresh v kind w old mid asked x f counted done p));
+      debt = λ bounded. joined old mid new _ _ (weakened old mid _ _ done.leaves (λ x f p. inl p)) (ends.debt done.ease.firm bounded) (λ x f p. inr (owed_fresh v kind w old mid asked x f counted done p));
       writes = paid_from v (fresh_start kind w) old.sent asked new.sent mid.writes (old.writes + format_writes w.geometry) new.writes done.uses.most most;
       done = ends.done;
     }
@@ -80,23 +64,23 @@ pub ends_unformatted : (v : Voice) (kind : PlaceKind) (w : World) (old new : Vie
     → LeavesOnly old new (λ x f. IsFormatting old w x f × (f ≡ old.sent)) → Uses (format_writes w.geometry) old new → FreshEnds status.DeviceFault v kind w old new [] (fresh_start kind w)
 ends_unformatted v kind w old new counted sent leaves uses = record {
   sent = inl (record { answered = []; rest = []; parts = refl; answers = []; state = fresh_start kind w; run = refl; sent = sent ∙ sym (append-nil old.sent); count = counted.nothing });
-  any_moment = weakened old new _ (left_by v kind w old []) leaves (λ x f p. inl p);
+  any_moment = weakened old new _ _ leaves (λ x f p. inl p);
   formatted = inl (record { failed = refl; none = refl; sent = sent; leaves = leaves });
   opens = λ why e. cc;
-  debt = λ bounded. weakened old new _ (owed_by v kind w old []) leaves (λ x f p. inl p);
+  debt = λ bounded. weakened old new _ _ leaves (λ x f p. inl p);
   writes = paid_nothing v (fresh_start kind w) old.sent new.sent (old.writes + format_writes w.geometry) new.writes counted sent uses.most;
   done = λ e. absurd (cc);
 }
 
 -- A run after formatting.
-pub ran_formatted : (r : Status) (v : Voice) (p : Spelling Request) (kind : PlaceKind) (w : World) (limit : ℕ) (source : Taking) (tells same since : Type 0) (old mid new : View)
+pub ran_formatted : {r : Status} {v : Voice} {p : Spelling Request} {kind : PlaceKind} {w : World} {limit : ℕ} {source : Taking} (tells same since : Type 0) (old mid new : View)
     → IsCounted (disk_service v) → (tells → Formatted w old mid) → (tells → IsJudged mid.reads r)
     → ImageRan r v p kind limit source (record { tells = tells; untouched = since; old = mid; new = new }) → FreshRan r v p kind w limit source (record { tells = tells; untouched = same; old = old; new = new })
-ran_formatted r v p kind w limit source tells same since old mid new counted done judged ran = record {
+ran_formatted {r = r} {v = v} {kind = kind} {w = w} tells same since old mid new counted done judged ran = record {
   bytes = ran.bytes;
   came_in = ran.came_in;
   asked = ran.asked;
-  these = elim ran.these [ inl closed ↦ inl (record { why = closed.why; untouched = closed.untouched; none = closed.none; sent = λ told. closed.sent told ∙ (done told).formatted.sent }) | inr asked ↦ inr asked ];
+  these = elim ran.these [ inl closed ↦ inl (record { why = closed.why; untouched = closed.untouched; none = closed.none; sent = λ told. closed.sent told ∙ (done told).sent }) | inr asked ↦ inr asked ];
   final = ran.final;
   ends = λ told. ends_formatted r v kind w old mid new ran.asked ran.final counted (done told) (judged told) (ran.ends told);
 }
@@ -107,20 +91,20 @@ prompt_formatted r v kind w port p limit source old mid new done run = record {
   opened = run.opened;
   of_port = run.of_port;
   not_before = let first = done.uses.clock in let then = run.not_before in omega (arith, first, then);
-  sent = run.sent ∙ done.formatted.sent;
-  writes = λ _. omega (arith, run.writes done.formatted.quiet, done.uses.most);
+  sent = run.sent ∙ done.sent;
+  writes = λ _. omega (arith, run.writes done.ease.quiet, done.uses.most);
   prompt = elim run.prompt [
     | inl unserved ↦ inl unserved
-    | inr prompt ↦ inr (subst (λ (u : World). Promptly r (disk_service v) disk_work port p limit (fresh_start kind u) source run.opened (mark new)) (sym done.formatted.stands.world) prompt)
+    | inr prompt ↦ inr (subst (λ (u : World). Promptly r (disk_service v) disk_work port p limit (fresh_start kind u) source run.opened (mark new)) (sym done.ease.stands.world) prompt)
   ];
 }
 
 -- a run that ended in formatting
-pub ran_unformatted : (v : Voice) (p : Spelling Request) (kind : PlaceKind) (w : World) (limit : ℕ) (source : Taking) (port : Moments)
+pub ran_unformatted : {v : Voice} {p : Spelling Request} {kind : PlaceKind} {w : World} {limit : ℕ} {source : Taking} {port : Moments}
     → IsCounted (disk_service v) → source.came [] → source.untouched → (port.tells → port.new.sent ≡ port.old.sent)
     → (port.tells → LeavesOnly port.old port.new (λ x f. IsFormatting port.old w x f × (f ≡ port.old.sent)))
     → Uses (format_writes w.geometry) port.old port.new → FreshRan status.DeviceFault v p kind w limit source port
-ran_unformatted v p kind w limit source port counted came untouched sent leaves uses = record {
+ran_unformatted {v = v} {kind = kind} {w = w} {port = port} counted came untouched sent leaves uses = record {
   bytes = [];
   came_in = came;
   asked = [];

@@ -28,16 +28,9 @@ cut_here v s before qs kind state now c same =
 
 sent_here : (r : Status) (v : Voice) (s : Placed) (before : List ℕ) (qs : List Request) (kind : PlaceKind) (state : State) (now : List ℕ)
     → ByStatus r (spoken disk_rules v) s before qs (placed kind state) now → ByStatus r (spoken disk_rules v) s before qs (placed s.kind state) now
-sent_here status.Done v s before qs kind state now sent = served_here v s before qs kind state now sent
-sent_here status.Usage v s before qs kind state now sent = served_here v s before qs kind state now sent
-sent_here (status.NotImage why) v s before qs kind state now sent = served_here v s before qs kind state now sent
 sent_here status.DeviceFault v s before qs kind state now sent = sent
-sent_here status.SourceFault v s before qs kind state now sent = served_here v s before qs kind state now sent
 sent_here status.PutFault v s before qs kind state now sent = cut_here v s before qs kind state now sent.0 sent.1
-sent_here status.TooLong v s before qs kind state now sent = served_here v s before qs kind state now sent
-sent_here status.NoMemory v s before qs kind state now sent = served_here v s before qs kind state now sent
-sent_here status.Truncated v s before qs kind state now sent = served_here v s before qs kind state now sent
-sent_here (status.RootDenied level) v s before qs kind state now sent = served_here v s before qs kind state now sent
+sent_here r v s before qs kind state now sent = served_here v s before qs kind state now sent
 
 -- a run in the end of which the placement is any, as one of its own
 pub ran_here : (r : Status) (v : Voice) (p : Spelling Request) (s : Placed) (kind : PlaceKind) (state : State) (limit : ℕ) (source : Taking) (due : ℕ) (port : Moments)

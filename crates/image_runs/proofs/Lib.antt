@@ -6,12 +6,10 @@ pub mod RunCosts
 pub mod Opened
 pub mod Started
 mod FreshRuns
-mod Saying
+pub mod Saying
 pub mod Looking
-mod Formatted
 mod Upgraded
 mod Requests
 mod LoadRuns
 mod Loaded
 pub mod Behind
-mod Counted

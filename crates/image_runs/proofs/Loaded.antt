@@ -1,12 +1,11 @@
 -- A load over an image, from its opening to its line.
-use Rattle.std.proofs.Common.{◌≡◌, ◌⊎◌, inl, inr, ℕ, ◌≤◌, List, length, refl, sym, ◌∙◌, ap, subst, arith}
+use Rattle.std.proofs.Common.{◌≡◌, ◌⊎◌, inl, inr, ℕ, ◌≤◌, List, length, refl, sym, ◌∙◌, ap, subst}
 use Rattle.std.specs.Prelude.{Result, Ok, Err, OnOk, IfErr}
-use Rattle.image_runs.proofs.Common.{World, free_count, State, PlaceKind, free_count_like, View, IsPart, IsLeftInPut, IsFirm, LeavesOnly, joined, weakened, Image, IsGood, Stands, world_of, StandAlike, Status, Core, IsCoreAt, state_on, told_world, IsQuiet, at_volume, like_at, line_of, load_words, IsJudged, IsUnopened, IsStopped, HasLoaded, IsLeftOfLoad, IsLoadDone, IsLoadedBy, granted_count, load_line, loaded, loaded_replies, refused_count, HasApplied, IsFirstStarved, IsSummary, LeavesRun}
-use Rattle.image_runs.specs.Looking.{OnlyLooks}
+use Rattle.image_runs.proofs.Common.{World, free_count, State, PlaceKind, free_count_like, View, LeavesOnly, joined, weakened, Image, IsGood, Stands, world_of, StandAlike, Status, Core, IsCoreAt, state_on, told_world, IsQuiet, at_volume, like_at, line_of, load_words, IsJudged, IsUnopened, HasLoaded, IsLoadDone, IsLoadedBy, granted_count, load_line, loaded, loaded_replies, refused_count, HasApplied, IsSummary, LeavesRun}
 use Rattle.tsd_words.specs.declared.status.Status.TheVariants as status
 use Rattle.tsd_words.specs.declared.lines.Summary.{Summary}
-use Rattle.image_runs.proofs.Saying.{put_over, still_firm}
-use Rattle.image_runs.proofs.Upgraded.{alike_of}
+use Rattle.image_runs.specs.Sending.{HasPut, IsStopped}
+use Rattle.image_runs.proofs.Saying.{still_firm}
 
 -- ---- once all requests are carried out
 
@@ -35,67 +34,38 @@ loaded_there kind seed image count c new s granted refused had good at state qui
 
 -- ---- from the image that was opened
 
-loaded_from : (kind : PlaceKind) (seed : List ℕ) (old mid : Image) (count : ℕ) (v : View) → IsGood old → world_of mid ≡ world_of old → IsLoadDone kind seed mid count v → IsLoadDone kind seed old count v
-loaded_from kind seed old mid count v good same is = record {
+pub loaded_on : {T : Type 0} → (kind : PlaceKind) (seed : List ℕ) (old mid : Image) (count : ℕ) (v : View) (result : Result T Status) → IsGood old → world_of mid ≡ world_of old
+    → OnOk result (IsLoadDone kind seed mid count v) → OnOk result (IsLoadDone kind seed old count v)
+loaded_on kind seed old mid count v (Ok x) good same is = record {
   firm = is.firm;
   load = record { good = good; stands = subst (λ (w : World). Stands v.reads (loaded kind seed w count).world) same is.load.stands };
   quiet = is.quiet;
 }
-
-pub loaded_on : {T : Type 0} → (kind : PlaceKind) (seed : List ℕ) (old mid : Image) (count : ℕ) (v : View) (result : Result T Status) → IsGood old → world_of mid ≡ world_of old
-    → OnOk result (IsLoadDone kind seed mid count v) → OnOk result (IsLoadDone kind seed old count v)
-loaded_on kind seed old mid count v (Ok x) good same is = loaded_from kind seed old mid count v good same is
 loaded_on kind seed old mid count v (Err why) good same is = tt
 
 -- what a crash leaves of opening and a load
-abbrev left_by : PlaceKind → List ℕ → ℕ → View → Image → List ℕ → Type 0
-left_by kind seed count old x f = (StandAlike old.reads x ⊎ ((n : ℕ) × (n ≤ count) × IsLoadedBy kind seed old.reads n x)) × (f ≡ old.sent)
-
 pub load_moments : (kind : PlaceKind) (seed : List ℕ) (count : ℕ) (old mid new : View) → IsGood old.reads → world_of mid.reads ≡ world_of old.reads → mid.sent ≡ old.sent
     → LeavesOnly old mid (λ x f. StandAlike old.reads x × (f ≡ old.sent)) → LeavesRun kind seed count mid new
     → LeavesOnly old new (λ x f. (StandAlike old.reads x ⊎ ((n : ℕ) × (n ≤ count) × IsLoadedBy kind seed old.reads n x)) × (f ≡ old.sent))
 load_moments kind seed count old mid new good same sent opening run =
-    joined old mid new (left_by kind seed count old) _ (weakened old mid _ (left_by kind seed count old) opening (λ x f left. (inl left.0, left.1))) run
+    joined old mid new _ _ (weakened old mid _ _ opening (λ x f left. (inl left.0, left.1))) run
     (λ x f left. (
       inr (left.0.0, left.0.1, record { good = good; stands = subst (λ (w : World). Stands x (loaded kind seed w left.0.0).world) same left.0.2 }),
       left.1 ∙ sent,
     ))
 
--- where no request was carried out
-still_alike : (kind : PlaceKind) (seed : List ℕ) (old mid new : View) → IsGood old.reads → world_of mid.reads ≡ world_of old.reads → mid.sent ≡ old.sent
-    → LeavesOnly old mid (λ x f. StandAlike old.reads x × (f ≡ old.sent)) → LeavesRun kind seed 0 mid new → LeavesOnly old new (λ x f. StandAlike old.reads x × (f ≡ old.sent))
-still_alike kind seed old mid new good same sent opening run =
-    joined old mid new (λ x f. StandAlike old.reads x × (f ≡ old.sent)) _ opening run
-    (λ x f left.
-    let none : left.0.0 ≡ 0 = omega (arith, left.0.1) in
-    let here : Stands x (world_of mid.reads) = subst (λ (n : ℕ). Stands x (loaded kind seed (world_of mid.reads) n).world) none left.0.2 in
-    (alike_of old.reads x good (subst (λ (w : World). Stands x w) same here), left.1 ∙ sent))
-
-pub starved_alike : {T : Type 0} → (kind : PlaceKind) (seed : List ℕ) (old mid new : View) (result : Result T Status) → IsGood old.reads → world_of mid.reads ≡ world_of old.reads → mid.sent ≡ old.sent
-    → (IsFirm old → LeavesOnly old mid (λ x f. StandAlike old.reads x × (f ≡ old.sent))) → IfErr result (λ why. why ≡ status.NoMemory → LeavesRun kind seed 0 mid new)
-    → IfErr result (λ why. why ≡ status.NoMemory → IsFirm old → LeavesOnly old new (λ x f. StandAlike old.reads x × (f ≡ old.sent)))
-starved_alike kind seed old mid new (Ok x) good same sent opening run = tt
-starved_alike kind seed old mid new (Err why) good same sent opening run = λ e firm. still_alike kind seed old mid new good same sent (opening firm) (run e)
-
--- where request 0 had no memory, nothing was written since the opening
-pub looked_by_first : {T D : Type 0} (result : Result T Status) (view : D → View) (old : View) (mid new : D) (kind : PlaceKind) (seed : List ℕ) (c d : Core) → OnlyLooks old (view mid)
-    → IfErr result (λ why. why ≡ status.NoMemory → IsFirstStarved kind seed view c d mid new) → IfErr result (λ why. why ≡ status.NoMemory → OnlyLooks old (view new))
-looked_by_first (Ok x) view old mid new kind seed c d looks first = tt
-looked_by_first {D = D} (Err why) view old mid new kind seed c d looks first = λ e. subst (λ (p : D). OnlyLooks old (view p)) (sym (first e).device) looks
+-- where request 0 had no memory, the device is as the opening left it
+pub starved_there : {T D : Type 0} (P : D → Type 0) (mid new : D) (result : Result T Status) → P mid → IfErr result (λ why. why ≡ status.NoMemory → new ≡ mid)
+    → IfErr result (λ why. why ≡ status.NoMemory → P new)
+starved_there P mid new (Ok x) opened first = tt
+starved_there P mid new (Err why) opened first = λ e. subst P (sym (first e)) opened
 
 -- ---- statuses
 
 stopped_judged : (image : Image) (why : Status) → IsStopped why → IsJudged image why × IsUnopened why
 stopped_judged image status.DeviceFault stops = (tt, tt)
 stopped_judged image status.NoMemory stops = (tt, tt)
-stopped_judged image status.Done stops = absurd stops
-stopped_judged image (status.NotImage reason) stops = absurd stops
-stopped_judged image status.Usage stops = absurd stops
-stopped_judged image status.SourceFault stops = absurd stops
-stopped_judged image status.PutFault stops = absurd stops
-stopped_judged image status.TooLong stops = absurd stops
-stopped_judged image status.Truncated stops = absurd stops
-stopped_judged image (status.RootDenied level) stops = absurd stops
+stopped_judged image r stops = absurd stops
 
 pub judged_on : {T : Type 0} → (image : Image) (result : Result T Status) → IfErr result IsStopped → IfErr result (IsJudged image)
 judged_on image (Ok x) stops = tt
@@ -110,13 +80,7 @@ pub not_loaded : (why : Status) (kind : PlaceKind) (seed : List ℕ) (count : �
 not_loaded (status.NotImage reason) kind seed count old new stops judged sent = (judged, sent)
 not_loaded status.DeviceFault kind seed count old new stops judged sent = sent
 not_loaded status.NoMemory kind seed count old new stops judged sent = sent
-not_loaded status.Done kind seed count old new stops judged sent = absurd stops
-not_loaded status.Usage kind seed count old new stops judged sent = absurd stops
-not_loaded status.SourceFault kind seed count old new stops judged sent = absurd stops
-not_loaded status.PutFault kind seed count old new stops judged sent = absurd stops
-not_loaded status.TooLong kind seed count old new stops judged sent = absurd stops
-not_loaded status.Truncated kind seed count old new stops judged sent = absurd stops
-not_loaded (status.RootDenied level) kind seed count old new stops judged sent = absurd stops
+not_loaded r kind seed count old new stops judged sent = absurd stops
 
 -- ---- the line
 
@@ -129,17 +93,10 @@ line_is kind seed image count s is =
     ∙ ap (λ (n : ℕ). line_of (load_words count (granted_count (loaded_replies kind seed (world_of image) count)) (refused_count (loaded_replies kind seed (world_of image) count)) n s.pointers)) is.free_is
     ∙ ap (λ (n : ℕ). line_of (load_words count (granted_count (loaded_replies kind seed (world_of image) count)) (refused_count (loaded_replies kind seed (world_of image) count)) (free_count (loaded kind seed (world_of image) count).world) n)) is.pointers_are
 
-pub loaded_still : (kind : PlaceKind) (seed : List ℕ) (image : Image) (count : ℕ) (mid new : View) → IsLoadDone kind seed image count mid → new.reads ≡ mid.reads → new.loose ≡ mid.loose → IsLoadDone kind seed image count new
-loaded_still kind seed image count mid new is reads loose = record {
-  firm = still_firm mid new is.firm loose;
-  load = subst (λ (x : Image). IsLoadedBy kind seed image count x) (sym reads) is.load;
-  quiet = subst (λ (x : Image). IsQuiet x) (sym reads) is.quiet;
+pub loaded_put : {told : Type 0} {text : List ℕ} {done r : Status} {kind : PlaceKind} {seed : List ℕ} {image : Image} {count : ℕ} {mid new : View} → told → HasPut told text done r mid new → IsLoadDone kind seed image count mid
+    → IsLoadDone kind seed image count new
+loaded_put {kind = kind} {seed = seed} {image = image} {count = count} {mid = mid} {new = new} tells has is = record {
+  firm = still_firm mid new is.firm (has.puts.loose tells);
+  load = subst (λ (x : Image). IsLoadedBy kind seed image count x) (sym (has.puts.reads tells)) is.load;
+  quiet = subst (λ (x : Image). IsQuiet x) (sym (has.puts.reads tells)) is.quiet;
 }
-
-pub line_moments : (kind : PlaceKind) (seed : List ℕ) (count : ℕ) (old mid new : View) → IsLoadDone kind seed old.reads count mid → mid.sent ≡ old.sent
-    → LeavesOnly old mid (λ x f. (StandAlike old.reads x ⊎ ((n : ℕ) × (n ≤ count) × IsLoadedBy kind seed old.reads n x)) × (f ≡ old.sent))
-    → LeavesOnly mid new (IsLeftInPut (load_line kind seed old.reads count) mid) → LeavesOnly old new (IsLeftOfLoad kind seed count old)
-line_moments kind seed count old mid new is sent before putting =
-    put_over old mid new (load_line kind seed old.reads count) (left_by kind seed count old) (IsLeftOfLoad kind seed count old) is.firm before putting
-    (λ x f left. inl left)
-    (λ f part. inr (is.load, subst (λ (b : List ℕ). IsPart b (load_line kind seed old.reads count) f) sent part))

@@ -21,24 +21,20 @@ state_of_none c x w e none =
 
 pub judged_of : (image : Image) (why : OpenFault) → IsOpening image (Err why) → IsJudged image (status_of why)
 judged_of image (opening.Image reason) h = h
-judged_of image opening.Device h = tt
-judged_of image opening.NoMemory h = tt
+judged_of image why h = tt
 
 pub unopened_of : (why : OpenFault) → IsUnopened (status_of why)
 unopened_of (opening.Image reason) = tt
-unopened_of opening.Device = tt
-unopened_of opening.NoMemory = tt
+unopened_of why = tt
 
 pub device_of : (why : OpenFault) → status_of why ≡ status.DeviceFault → why ≡ opening.Device
-device_of (opening.Image reason) e = absurd (cc)
 device_of opening.Device e = refl
-device_of opening.NoMemory e = absurd (cc)
+device_of why e = absurd (cc)
 
 -- a fault of the device has that status alone
 pub device_only : {T : Type 0} (why : OpenFault) → ◌≡◌ {A = Result T OpenFault} (Err why) (Err opening.Device) → status_of why ≡ status.DeviceFault
-device_only (opening.Image reason) e = absurd (cc)
 device_only opening.Device e = refl
-device_only opening.NoMemory e = absurd (cc)
+device_only why e = absurd (cc)
 
 -- ---- what isn't a disk of this format
 

@@ -1,6 +1,6 @@
 -- One request more of a load.
 use Rattle.std.proofs.Common.{◌≡◌, ◌≢◌, ℕ, ◌+◌, ◌/◌, ◌%◌, ◌==◌, Bool, true, false, not, List, [], ◌∷◌, ◌++◌, refl, sym, ◌∙◌, ap, arith}
-use Rattle.image_runs.proofs.Common.{count_by, if◌then◌else◌, World, State, Outcome, step, judged, is_begin, verdict, answer, starved, after, replies, at_rest, CapPair, Geometry, PlaceKind, Request, Reply, Rule, seed_request, request_of_words, request_of_kind, shown_at, stream_word, window, words_place, requests_of, loaded, loaded_replies, is_refused, granted_count, refused_count, HasApplied, IsRequestNext, more_granted, more_refused}
+use Rattle.image_runs.proofs.Common.{count_by, if◌then◌else◌, World, State, Outcome, step, judged, is_begin, verdict, answer, starved, after, replies, at_rest, CapPair, Geometry, PlaceKind, Request, Reply, Rule, seed_request, request_of_words, request_of_kind, shown_at, stream_word, window, words_place, requests_of, loaded, loaded_replies, is_refused, granted_count, refused_count, HasApplied, IsAnswer, more_granted, more_refused}
 use Rattle.std.specs.Prelude.{Option, Some, None, cond}
 use Rattle.std.proofs.lemmas.List.Sums.{sum_by_push}
 use Rattle.std.proofs.lemmas.List.FromFn.{map-range_with_len_more}
@@ -40,35 +40,13 @@ starved_step s n (Some r) o found = refl
 pub answer_is_step : (kind : PlaceKind) (s : State) (q : Request) (want : Bool) → (answer kind s q want).reply ≢ replied.NoMemory → answer kind s q want ≡ step kind s q
 answer_is_step kind s q false found = refl
 answer_is_step kind s (ask.Begin n) true found = starved_step s n (verdict s.world s.sessions (ask.Begin n)) (step kind s (ask.Begin n)) found
-answer_is_step kind s ask.Bad true found = refl
-answer_is_step kind s (ask.End n) true found = refl
-answer_is_step kind s (ask.Read n b shown) true found = refl
-answer_is_step kind s (ask.Write n b shown bytes) true found = refl
-answer_is_step kind s (ask.Alloc n a shown h count) true found = refl
-answer_is_step kind s (ask.Contig n a shown h count) true found = refl
-answer_is_step kind s ask.GetFree true found = refl
-answer_is_step kind s (ask.Create n a shown b) true found = refl
-answer_is_step kind s (ask.Delete n a shown b) true found = refl
-answer_is_step kind s (ask.SetCap n b shown caps) true found = refl
-answer_is_step kind s (ask.Sweep n shown) true found = refl
-answer_is_step kind s (ask.List n a shown start) true found = refl
+answer_is_step kind s q true found = refl
 
 -- no step is without memory
 judged_memory : (kind : PlaceKind) (s : State) (q : Request) (r : Option Rule) → (judged kind s q r).reply ≡ replied.NoMemory → ⊥
 judged_memory kind s q (Some r) e = cc
 judged_memory kind s ask.Bad None e = cc
-judged_memory kind s (ask.Begin n) None e = cc
-judged_memory kind s (ask.End n) None e = cc
-judged_memory kind s (ask.Read n b shown) None e = cc
-judged_memory kind s (ask.Write n b shown bytes) None e = cc
-judged_memory kind s (ask.Alloc n a shown h count) None e = cc
-judged_memory kind s (ask.Contig n a shown h count) None e = cc
-judged_memory kind s ask.GetFree None e = cc
-judged_memory kind s (ask.Create n a shown b) None e = cc
-judged_memory kind s (ask.Delete n a shown b) None e = cc
-judged_memory kind s (ask.SetCap n b shown caps) None e = cc
-judged_memory kind s (ask.Sweep n shown) None e = cc
-judged_memory kind s (ask.List n a shown start) None e = cc
+judged_memory kind s q None e = cc
 
 step_memory : (kind : PlaceKind) (s : State) (q : Request) → (step kind s q).reply ≡ replied.NoMemory → ⊥
 step_memory kind s q e = judged_memory kind s q (verdict s.world s.sessions q) e
@@ -77,38 +55,7 @@ step_memory kind s q e = judged_memory kind s q (verdict s.world s.sessions q) e
 pub starved_begins : (kind : PlaceKind) (s : State) (q : Request) (want : Bool) → (answer kind s q want).reply ≡ replied.NoMemory → is_begin q ≡ true
 starved_begins kind s q false e = absurd (step_memory kind s q e)
 starved_begins kind s (ask.Begin n) true e = refl
-starved_begins kind s ask.Bad true e = absurd (step_memory kind s ask.Bad e)
-starved_begins kind s (ask.End n) true e = absurd (step_memory kind s (ask.End n) e)
-starved_begins kind s (ask.Read n b shown) true e = absurd (step_memory kind s (ask.Read n b shown) e)
-starved_begins kind s (ask.Write n b shown bytes) true e = absurd (step_memory kind s (ask.Write n b shown bytes) e)
-starved_begins kind s (ask.Alloc n a shown h count) true e = absurd (step_memory kind s (ask.Alloc n a shown h count) e)
-starved_begins kind s (ask.Contig n a shown h count) true e = absurd (step_memory kind s (ask.Contig n a shown h count) e)
-starved_begins kind s ask.GetFree true e = absurd (step_memory kind s ask.GetFree e)
-starved_begins kind s (ask.Create n a shown b) true e = absurd (step_memory kind s (ask.Create n a shown b) e)
-starved_begins kind s (ask.Delete n a shown b) true e = absurd (step_memory kind s (ask.Delete n a shown b) e)
-starved_begins kind s (ask.SetCap n b shown caps) true e = absurd (step_memory kind s (ask.SetCap n b shown caps) e)
-starved_begins kind s (ask.Sweep n shown) true e = absurd (step_memory kind s (ask.Sweep n shown) e)
-starved_begins kind s (ask.List n a shown start) true e = absurd (step_memory kind s (ask.List n a shown start) e)
-
-judged_begin : (kind : PlaceKind) (s : State) (n : ℕ) (r : Option Rule) → (judged kind s (ask.Begin n) r).state.world ≡ s.world
-judged_begin kind s n (Some r) = refl
-judged_begin kind s n None = refl
-
--- a begin leaves the world
-pub begin_world : (kind : PlaceKind) (s : State) (q : Request) → is_begin q ≡ true → (step kind s q).state.world ≡ s.world
-begin_world kind s (ask.Begin n) e = judged_begin kind s n (verdict s.world s.sessions (ask.Begin n))
-begin_world kind s ask.Bad e = absurd (cc)
-begin_world kind s (ask.End n) e = absurd (cc)
-begin_world kind s (ask.Read n b shown) e = absurd (cc)
-begin_world kind s (ask.Write n b shown bytes) e = absurd (cc)
-begin_world kind s (ask.Alloc n a shown h count) e = absurd (cc)
-begin_world kind s (ask.Contig n a shown h count) e = absurd (cc)
-begin_world kind s ask.GetFree e = absurd (cc)
-begin_world kind s (ask.Create n a shown b) e = absurd (cc)
-begin_world kind s (ask.Delete n a shown b) e = absurd (cc)
-begin_world kind s (ask.SetCap n b shown caps) e = absurd (cc)
-begin_world kind s (ask.Sweep n shown) e = absurd (cc)
-begin_world kind s (ask.List n a shown start) e = absurd (cc)
+starved_begins kind s q true e = absurd (step_memory kind s q e)
 
 -- ---- the requests of a seed
 
@@ -139,20 +86,21 @@ seed_begins seed g n e =
 counted_more : (f : Reply → Bool) (rs : List Reply) (r : Reply) → count_by f (rs ++ r ∷ []) ≡ count_by f rs + cond (f r) 1 0
 counted_more f rs r = sum_by_push (λ (x : Reply). cond (f x) 1 0) rs r
 
-pub applied_more : (kind : PlaceKind) (seed : List ℕ) (w : World) (n : ℕ) (s t : State) (q : Request) (granted refused all_granted all_refused : ℕ) → HasApplied kind seed w n s granted refused
-    → q ≡ seed_request seed w.geometry n → IsRequestNext kind s q t granted refused all_granted all_refused → HasApplied kind seed w (n + 1) t all_granted all_refused
-applied_more kind seed w n s t q granted refused all_granted all_refused had asked next =
-    let is = answer_is_step kind s q next.given.want (λ e. next.found (next.given.reply ∙ e)) in
+pub applied_more : (kind : PlaceKind) (seed : List ℕ) (w : World) (n : ℕ) (s t : State) (q : Request) (reply : Reply) (granted refused all_granted all_refused : ℕ) → HasApplied kind seed w n s granted refused
+    → q ≡ seed_request seed w.geometry n → IsAnswer kind s q reply t → reply ≢ replied.NoMemory → all_granted ≡ granted + more_granted reply → all_refused ≡ refused + more_refused reply
+    → HasApplied kind seed w (n + 1) t all_granted all_refused
+applied_more kind seed w n s t q reply granted refused all_granted all_refused had asked given found more fewer =
+    let is = answer_is_step kind s q given.want (λ e. found (given.reply ∙ e)) in
     let stepped : step kind s q ≡ step kind (loaded kind seed w n) (seed_request seed w.geometry n) = ap (λ (u : State). step kind u q) had.state ∙ ap (λ (p : Request). step kind (loaded kind seed w n) p) asked in
     let outcome = is ∙ stepped in
-    let reply_is = next.given.reply ∙ ap (λ (o : Outcome). o.reply) outcome in
+    let reply_is = given.reply ∙ ap (λ (o : Outcome). o.reply) outcome in
     let all = loaded_replies_more kind seed w n ∙ ap (λ (r : Reply). loaded_replies kind seed w n ++ r ∷ []) (sym reply_is) in
     record {
-      state = next.given.state ∙ ap (λ (o : Outcome). o.state) outcome ∙ sym (loaded_more kind seed w n);
-      granted_are = next.granted_are ∙ ap (λ (k : ℕ). k + more_granted next.reply) had.granted_are ∙ ap (λ (k : ℕ). granted_count (loaded_replies kind seed w n) + k) (granted_of next.reply)
-          ∙ sym (counted_more (λ r. not (is_refused r)) (loaded_replies kind seed w n) next.reply) ∙ ap (λ (rs : List Reply). granted_count rs) (sym all);
-      refused_are = next.refused_are ∙ ap (λ (k : ℕ). k + more_refused next.reply) had.refused_are
-          ∙ sym (counted_more is_refused (loaded_replies kind seed w n) next.reply) ∙ ap (λ (rs : List Reply). refused_count rs) (sym all);
+      state = given.state ∙ ap (λ (o : Outcome). o.state) outcome ∙ sym (loaded_more kind seed w n);
+      granted_are = more ∙ ap (λ (k : ℕ). k + more_granted reply) had.granted_are ∙ ap (λ (k : ℕ). granted_count (loaded_replies kind seed w n) + k) (granted_of reply)
+          ∙ sym (counted_more (λ r. not (is_refused r)) (loaded_replies kind seed w n) reply) ∙ ap (λ (rs : List Reply). granted_count rs) (sym all);
+      refused_are = fewer ∙ ap (λ (k : ℕ). k + more_refused reply) had.refused_are
+          ∙ sym (counted_more is_refused (loaded_replies kind seed w n) reply) ∙ ap (λ (rs : List Reply). refused_count rs) (sym all);
     }
   where
     turned : (t : Bool) → cond {A = ℕ} t 0 1 ≡ cond {A = ℕ} (not t) 1 0

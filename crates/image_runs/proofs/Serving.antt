@@ -81,19 +81,14 @@ batched rs homes few now was ring le once = omega (arith, once, batch_most rs ho
 -- what waits goes by the limit of the call, and what doesn't by its batch
 within_limit : (v : Volume) (q : Request) (now was : ℕ) → checkpoint_writes v.ring ≤ 121 → v.tables.geometry.sectors ≤ 8 → is_sweep q ≡ false → now ≤ was + write_limit v q
     → (waits v q ≡ false → now ≤ was + batch_writes v.ring (most_homes v.tables.geometry q)) → now ≤ was + limit_with (owed v.tables) q
-within_limit v ask.Bad now was ring few bounded limit once = once refl
-within_limit v (ask.Begin s) now was ring few bounded limit once = once refl
-within_limit v (ask.End s) now was ring few bounded limit once = once refl
-within_limit v (ask.Read s b shown) now was ring few bounded limit once = once refl
 within_limit v (ask.Write s b shown bytes) now was ring few bounded limit once = batched v.ring v.tables.geometry.sectors 8 now was ring few (once refl)
 within_limit v (ask.Alloc s a shown h count) now was ring few bounded limit once = limit
 within_limit v (ask.Contig s a shown h count) now was ring few bounded limit once = limit
-within_limit v ask.GetFree now was ring few bounded limit once = once refl
 within_limit v (ask.Create s a shown b) now was ring few bounded limit once = limit
 within_limit v (ask.Delete s a shown b) now was ring few bounded limit once = batched v.ring 2 2 now was ring (omega arith) (once refl)
 within_limit v (ask.SetCap s b shown caps) now was ring few bounded limit once = batched v.ring 1 1 now was ring (omega arith) (once refl)
 within_limit v (ask.Sweep s shown) now was ring few bounded limit once = absurd (cc)
-within_limit v (ask.List s a shown start) now was ring few bounded limit once = once refl
+within_limit v q now was ring few bounded limit once = once refl
 
 -- a core at a device: its ring is one, and its blocks are of lawful size
 ring_few : (c : Core) (v : View) → IsSound v → FitsReads c v.reads → checkpoint_writes c.volume.ring ≤ 121

@@ -1,6 +1,6 @@
 -- A disk that was opened, and a run from there as one from the start.
 use Rattle.std.proofs.Common.{◌≡◌, inl, inr, ℕ, ◌≤◌, Bool, true, false, List, [], refl, sym, ◌∙◌, ap, subst, append-nil, arith}
-use Rattle.std.specs.Prelude.{All}
+use Rattle.std.specs.Prelude.{All, Result, Ok, Err}
 use Rattle.image_runs.proofs.Common.{World, State, at_rest, PlaceKind, Request, View, IsFirm, LeavesOnly, joined, weakened, leaves_both, Image, home, Stands, world_of, tables_of, StandAlike, IsQuiet, IsGood, Status, IsPaidFor, HasDebt, Spelling, Placed, ByStatus, AskedBy, IsAcknowledged, IsCounted, Voice, Core, state_on, debt, disk_work, placed_on, IsUnopened, IsJudged, disk_service, start_of, IsAtEase, IsOwed, RunEnds}
 use Rattle.tsd_words.specs.declared.status.Status.TheVariants as status
 use Rattle.serving.specs.Ran.{Ends as Served}
@@ -119,28 +119,16 @@ ends_unopened r v kind old new counted why opened =
     by (status.NotImage reason) h = record { answers = []; run = refl; sent = opened.sent ∙ sym (append-nil old.sent) }
     by status.NoMemory h = record { answers = []; run = refl; sent = opened.sent ∙ sym (append-nil old.sent) }
     by status.DeviceFault h = inl (record { answered = []; rest = []; parts = refl; answers = []; state = start_of kind old.reads; run = refl; sent = opened.sent ∙ sym (append-nil old.sent); count = counted.nothing })
-    by status.Done h = absurd h
-    by status.Usage h = absurd h
-    by status.SourceFault h = absurd h
-    by status.PutFault h = absurd h
-    by status.TooLong h = absurd h
-    by status.Truncated h = absurd h
-    by (status.RootDenied level) h = absurd h
+    by r h = absurd h
 
 -- ---- statuses
 
 -- a loop's status comes of a disk that was opened
 pub judged_by : (image : Image) (r : Status) (p : Spelling Request) (limit : ℕ) (bytes : List ℕ) (ended : Type 0) (qs : List Request) → AskedBy r p limit bytes ended qs → IsGood image → IsJudged image r
-judged_by image status.Done p limit bytes ended qs h good = good
-judged_by image status.SourceFault p limit bytes ended qs h good = good
-judged_by image status.PutFault p limit bytes ended qs h good = good
-judged_by image status.TooLong p limit bytes ended qs h good = good
-judged_by image status.Truncated p limit bytes ended qs h good = good
-judged_by image status.DeviceFault p limit bytes ended qs h good = tt
 judged_by image (status.NotImage reason) p limit bytes ended qs h good = absurd h
-judged_by image status.NoMemory p limit bytes ended qs h good = absurd h
-judged_by image status.Usage p limit bytes ended qs h good = absurd h
-judged_by image (status.RootDenied level) p limit bytes ended qs h good = absurd h
+judged_by image status.DeviceFault p limit bytes ended qs h good = tt
+judged_by image status.NoMemory p limit bytes ended qs h good = tt
+judged_by image r p limit bytes ended qs h good = good
 
 -- of a status with which nothing was opened
 pub not_of_source : (r : Status) → IsUnopened r → r ≡ status.SourceFault → ⊥
@@ -148,3 +136,10 @@ not_of_source r h e = subst IsUnopened e h
 
 pub not_of_put : (r : Status) → IsUnopened r → r ≡ status.PutFault → ⊥
 not_of_put r h e = subst IsUnopened e h
+
+-- two statuses, and two results
+pub done_no_fault : (r : Status) → r ≡ status.Done → r ≡ status.DeviceFault → ⊥
+done_no_fault r done fault = cc
+
+pub ok_no_fault : {T : Type 0} (x : T) → ◌≡◌ {A = Result T Status} (Ok x) (Err status.DeviceFault) → ⊥
+ok_no_fault x e = cc

@@ -4,17 +4,16 @@ use Rattle.tsd_model.specs.World.{World}
 use Rattle.tsd_model.specs.Run.{fresh_world}
 use Rattle.tsd_model.specs.declared.caps.CapPair.{CapPair}
 use Rattle.image_device.specs.View.{View, IsPart}
-use Rattle.image_device.specs.Runs.{IsFirm}
 use Rattle.image_layout.specs.Image.{Image}
 use Rattle.image_world.specs.Stands.{Stands}
 use Rattle.cap_store.specs.Seeds.{seed_pairs}
 use Rattle.recovery.specs.Formatting.{IsFormatting}
-use Rattle.volume_laws.specs.Quiet.{IsQuiet}
 use Rattle.tsd_words.specs.declared.commands.Format.{Format}
 use Rattle.tsd_words.specs.declared.status.Status.{Status}
 use Rattle.tsd_words.specs.declared.status.Status.TheVariants as status
 use Rattle.tsd_words.specs.Lines.{cap_lines}
 use Rattle.image_runs.specs.Sending.{ProperFrontWasSent}
+use Rattle.image_runs.specs.Served.{IsAtEase}
 
 -- the capabilities of the primary blocks, which the seed gives
 abbrev pub caps_of : Format → List CapPair
@@ -29,10 +28,8 @@ abbrev pub lines_for : Format → List ℕ
 lines_for words = cap_lines 0 (caps_of words)
 
 -- nothing is loose, the disk stands for the fresh world, and nothing is left to be done
-pub record IsFormatted (words : Format) (v : View) : Type 0 where
-  pub firm : IsFirm v
-  pub stands : Stands v.reads (world_for words)
-  pub quiet : IsQuiet v.reads
+abbrev pub IsFormatted : Format → View → Type 0
+IsFormatted words v = IsAtEase v (world_for words)
 
 -- What it has done by the time that it ended so: the disk is formatted, and the lines are sent whole or a proper front
 -- of them; or nothing is sent.

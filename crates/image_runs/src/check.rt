@@ -6,14 +6,14 @@ ghost use Rattle.image_device.specs.Runs.{IsFirm, LeavesOnly};
 ghost use Rattle.image_world.specs.Behind.{LeavesBehind};
 ghost use Rattle.recovery.specs.Opening.{IsForeign, IsUntouched, LeavesData, SparesDamaged, StandAlike};
 ghost use Rattle.volume_laws.specs.Volume.{IsVolumeReady, told_by};
-ghost use Rattle.volume_laws.specs.Writes.{Works};
 ghost use Rattle.serving.specs.Faults.{TellsPortFaults};
-ghost use Rattle.image_runs.specs.Looking.{OnlyLooks};
+ghost use Rattle.image_runs.specs.Looking.{OnlyLooks, OnlyOpens};
 ghost use Rattle.image_runs.specs.Sending.{IsEnding, IsStopped};
 ghost use Rattle.image_runs.specs.Check.{HasChecked, IsFinding, IsCheckFound, IsSaying, told_of};
 
+use crate::ending::put_text;
 use crate::opening::open_volume;
-use image_device::{Device, Port, put_all};
+use image_device::{Device, Port};
 use script_text::OutBuf;
 use std::alloc::Global;
 use tsd_words::{Status, clean_line, image_line, info_lines};
@@ -62,10 +62,7 @@ pub fn check_image<P: Port>(alloc: Global, port: &mut P, telling: Telling) -> St
 {
     let mut line = OutBuf::new();
     match judge(alloc, port, telling, &mut line) {
-        Ok(found) => match put_all(port, line.as_slice()) {
-            Ok(()) => found,
-            Err(_) => Status::PutFault,
-        },
+        Ok(found) => put_text(port, &line, found),
         Err(why) => why,
     }
 }
@@ -80,20 +77,8 @@ fn judge<D: Device>(
     ensures finding { IfOk result IsFinding }
     ensures failing { IfErr result IsStopped }
     ensures found { D.told → IfOk result (λ s. IsCheckFound telling (D.view dev.old).reads s line.new) }
-    ensures sent { D.told → (D.view dev.new).sent ≡ (D.view dev.old).sent }
-    // Where the image fails one of the tests that need no write, nothing is written, and the disk reads as before;
-    // where it fails another, nothing is lost that a repair could use, whatever is answered.
-    ensures untouched { D.told → IsForeign (D.view dev.old).reads → IsUntouched (D.view dev.old) (D.view dev.new) }
-    ensures spared { D.told → SparesDamaged (D.view dev.old) (D.view dev.new) }
-    ensures any_moment { D.told → IsFirm (D.view dev.old) → LeavesOnly (D.view dev.old) (D.view dev.new)
-        (λ x f. StandAlike (D.view dev.old).reads x × (f ≡ (D.view dev.old).sent)) }
-    // Where nothing is left to be done on the image nothing is written, and else no more than an opening writes; the
-    // data of all blocks stays.
-    ensures only { D.told → OnlyLooks (D.view dev.old) (D.view dev.new) }
-    ensures kept { D.told → IsFirm (D.view dev.old) → LeavesData (D.view dev.old) (D.view dev.new) }
-    // A crash at any moment leaves what lies behind the image as it was.
-    ensures behind { D.told → IsFirm (D.view dev.old) → LeavesBehind (D.view dev.old) (D.view dev.new) }
-    ensures works { Works (D.view dev.old) (D.view dev.new) }
+    // It does no more than open the image.
+    ensures opens { OnlyOpens D.told (D.view dev.old) (D.view dev.new) }
     ensures faults { CountsFaultOf Status.DeviceFault result (D.view dev.old).faults (D.view dev.new).faults }
 {
     match open_volume(alloc, dev) {

@@ -1,6 +1,6 @@
 //! `format`: a disk made anew, with capabilities of a seed.
 
-ghost use Rattle.std.specs.Prelude.{◌≡◌, ◌≢◌, ◌≤◌, length};
+ghost use Rattle.std.specs.Prelude.{◌≡◌, ◌≢◌, length};
 ghost use Rattle.tsd_model.specs.Geometry.{IsLawful};
 ghost use Rattle.image_layout.specs.declared.fault.ImageFault.{ImageFault};
 ghost use Rattle.image_device.specs.Runs.{IsFirm, LeavesOnly};
@@ -9,8 +9,9 @@ ghost use Rattle.image_runs.specs.Behind.{LeavesSectorsBehind};
 ghost use Rattle.image_runs.specs.Sending.{IsEnding};
 ghost use Rattle.image_runs.specs.Format.{HasFormatted, IsLeftOfFormat, caps_of};
 
+use crate::ending::put_text;
 use cap_store::seed_caps;
-use image_device::{Port, put_all};
+use image_device::Port;
 use recovery::format;
 use tsd_model::CapList;
 use tsd_words::{Format, Status, cap_lines};
@@ -41,10 +42,7 @@ pub fn format_image<P: Port>(port: &mut P, words: &Format) -> Status
 {
     let caps = caps_of(words);
     match format(port, &words.geometry, &caps) {
-        Ok(()) => match put_all(port, cap_lines(&caps).as_slice()) {
-            Ok(()) => Status::Done,
-            Err(_) => Status::PutFault,
-        },
+        Ok(()) => put_text(port, &cap_lines(&caps), Status::Done),
         Err(_) => Status::DeviceFault,
     }
 }

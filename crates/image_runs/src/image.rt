@@ -11,10 +11,10 @@ ghost use Rattle.image_runs.specs.Opened.{IsJudged};
 ghost use Rattle.image_runs.specs.Served.{ImageRan, IsPromptRun};
 
 use crate::opening::open_core;
-use crate::run::serve_core;
+use crate::run::serve_core_in;
 use image_device::{Port, Source};
 use place_policy::Placement;
-use serving::{INPUT_MAX, Protocol, Replies};
+use serving::{INPUT_MAX, Intake, Protocol, Replies};
 use std::alloc::Global;
 use tsd_model::Request;
 use tsd_words::Status;
@@ -44,7 +44,7 @@ pub fn serve_image<S: Source, P: Port, R: Protocol<Request = Request> + Replies>
     // Done.
     ensures ran { ImageRan result R.voice R.spelling placement.now.kind limit
         (taking S.told S.taken S.left_bytes S.ended source.old source.new) (moments P.told P.view port.old port.new) }
-    /// promise: Each reply is prompt, as for `serve_core`.
+    /// promise: Each reply is prompt, as for `serve_core_in`.
     ensures prompt { P.told → IsPromptRun result R.voice placement.now.kind (IsOfPort P.view) R.spelling limit
         (taking S.told S.taken S.left_bytes S.ended source.old source.new) (P.view port.old) (P.view port.new) }
     /// promise (with spared): Where the image fails one of the first three tests, nothing is written, and it reads as
@@ -59,7 +59,18 @@ pub fn serve_image<S: Source, P: Port, R: Protocol<Request = Request> + Replies>
         (P.view port.new) }
 {
     match open_core(alloc, port) {
-        Ok(mut core) => serve_core(&mut core, placement, protocol, source, port, limit),
+        Ok(mut core) => {
+            let mut intake = Intake::new(limit);
+            serve_core_in(
+                &mut core,
+                placement,
+                protocol,
+                source,
+                port,
+                limit,
+                &mut intake,
+            )
+        }
         Err(why) => why,
     }
 }

@@ -3,15 +3,14 @@
 //!
 //! What it stands on: `recovery` opens an image as a `volume` and formats one, `tsd_core` is the disk with its
 //! sessions, `serving` is the loop over an input, `load_gen` draws requests from a seed. The outside is `image_device`;
-//! commands, statuses and lines are of
-//! `tsd_words`.
+//! commands, statuses and lines are of `tsd_words`.
 //!
 //! - `opening`: an image is opened exactly where it stands for a world, and else the status tells the first test that
 //!   it fails.
 //! - `server`, `run`: the core as what the loop serves. Runs by its rules are the abstract disk's, and cost at most 460
 //!   writes a request and 12 for each pair that goes.
 //! - `image`, `fresh`: an image opened, or formatted first, and served.
-//! - `check`, `format`, `load`, `upgrade`: the commands that take no input.
+//! - `check`, `format`, `load`, `upgrade`: the commands that take no input; `ending`: what they put in the end.
 //!
 //! What it promises of each run (`specs/`: `Served`, `Fresh`, and a file a command): by its status, which bytes came
 //! in, which requests they hold, and what of the replies or lines was sent. Where nothing was loose at the start and
@@ -22,6 +21,7 @@
 #![tactic(auto)]
 
 mod check;
+mod ending;
 mod format;
 mod fresh;
 mod image;
@@ -33,6 +33,7 @@ mod server;
 mod upgrade;
 
 pub use check::{Telling, check_image};
+pub use ending::{ended, put_text};
 pub use format::format_image;
 pub use fresh::serve_fresh;
 pub use image::serve_image;
@@ -42,5 +43,5 @@ pub use laws::{
 };
 pub use load::load_image;
 pub use opening::{open_core, open_volume};
-pub use run::{serve_core, serve_core_in};
+pub use run::serve_core_in;
 pub use upgrade::upgrade_image;

@@ -1,7 +1,6 @@
 //! `load`: the requests of a seed, carried out.
 
-ghost use Rattle.std.specs.Prelude.{◌≡◌, ◌≢◌, ℕ, ◌+◌, ◌<◌, ◌≤◌, ◌⊎◌, ◌^◌, IfOk};
-ghost use Rattle.std.specs.Prelude.{OnOk, IfErr};
+ghost use Rattle.std.specs.Prelude.{◌≡◌, ◌≢◌, ℕ, ◌+◌, ◌<◌, ◌≤◌, ◌⊎◌, ◌^◌, IfOk, OnOk, IfErr};
 ghost use Rattle.image_device.specs.Counts.{CountsFaultOf};
 ghost use Rattle.image_device.specs.Runs.{IsFirm, LeavesOnly, LeavesPart};
 ghost use Rattle.image_world.specs.Behind.{LeavesBehind, behind};
@@ -9,27 +8,25 @@ ghost use Rattle.image_world.specs.Stands.{world_of};
 ghost use Rattle.tsd_model.specs.Run.{at_rest};
 ghost use Rattle.load_gen.specs.Load.{load_after};
 ghost use Rattle.recovery.specs.Opening.{IsForeign, IsUntouched, SparesDamaged, StandAlike};
-ghost use Rattle.tsd_model.specs.Run.{IsAnswer};
-ghost use Rattle.volume_laws.specs.Moments.{LeavesEither};
+ghost use Rattle.recovery.specs.Spared.{SparesImage};
 ghost use Rattle.volume_laws.specs.Writes.{Works};
-ghost use Rattle.tsd_core.specs.Applying.{next_world};
 ghost use Rattle.tsd_core.specs.Core.{IsCoreAt, IsCoreReady, state_on, told_world};
 ghost use Rattle.tsd_model.specs.declared.replies.Reply.TheVariants as replied;
 ghost use Rattle.serving.specs.Faults.{TellsPortFaults};
 ghost use Rattle.image_runs.specs.Looking.{OnlyLooks};
 ghost use Rattle.image_runs.specs.Sending.{IsEnding, IsStopped};
 ghost use Rattle.image_runs.specs.Load.{HasLoaded, IsLeftOfLoad, IsLoadDone, IsLoadedBy};
-ghost use Rattle.image_runs.specs.Applying.{HasApplied, IsFirstStarved, IsRequestNext, IsSummary, LeavesRun};
-ghost use Rattle.image_runs.specs.Applying.{more_granted, more_refused};
+ghost use Rattle.image_runs.specs.Applying.{IsSummary, LeavesRun, more_granted, more_refused};
 ghost use Rattle.image_runs.specs.Opened.{IsJudged, IsUnopened};
 
+use crate::ending::put_text;
 use crate::opening::open_volume;
-use image_device::{Device, Failed, Port, WorkDone, put_all};
+use image_device::{Device, Port, WorkDone};
 use load_gen::LoadGen;
 use place_policy::Placement;
 use std::alloc::Global;
 use tsd_core::Core;
-use tsd_model::{Reply, Request};
+use tsd_model::Reply;
 use tsd_words::{Load, Status, Summary, load_line};
 
 /// How many requests were granted and how many refused.
@@ -47,6 +44,7 @@ impl Tally {
         ensures refused { OnOk result (self.new.refused ≡ self.old.refused + more_refused reply.now) }
         ensures one { OnOk result (self.new.granted + self.new.refused ≡ self.old.granted + self.old.refused + 1) }
         ensures memory { OnOk result (reply.now ≢ replied.NoMemory) }
+        ensures stops { IfErr result IsStopped }
         ensures none { IfErr result (λ why. (why ≡ Status.NoMemory) × (reply.now ≡ replied.NoMemory)) }
     {
         match reply {
@@ -97,10 +95,7 @@ pub fn load_image<P: Port>(
     ensures faults { TellsPortFaults result (P.view port.old) (P.view port.new) }
 {
     match carry_out(alloc, load, placement, port) {
-        Ok(summary) => match put_all(port, load_line(&summary).as_slice()) {
-            Ok(()) => Status::Done,
-            Err(_) => Status::PutFault,
-        },
+        Ok(summary) => put_text(port, &load_line(&summary), Status::Done),
         Err(why) => why,
     }
 }
@@ -121,10 +116,7 @@ fn carry_out<D: Device>(
     ensures judged { D.told → IfErr result (IsJudged (D.view dev.old).reads) }
     ensures stops { IfErr result IsUnopened }
     ensures sent { D.told → (D.view dev.new).sent ≡ (D.view dev.old).sent }
-    // Where the image fails one of the tests that need no write, nothing is written, and the disk reads as before;
-    // where it fails another, nothing is lost that a repair could use, whatever is answered.
-    ensures untouched { D.told → IsForeign (D.view dev.old).reads → IsUntouched (D.view dev.old) (D.view dev.new) }
-    ensures spared { D.told → SparesDamaged (D.view dev.old) (D.view dev.new) }
+    ensures spares { SparesImage D.told (D.view dev.old) (D.view dev.new) }
     ensures any_moment { D.told → IsFirm (D.view dev.old) → LeavesOnly (D.view dev.old) (D.view dev.new)
         (λ x f. (StandAlike (D.view dev.old).reads x ⊎ ((n : ℕ) × (n ≤ load.now.count)
         × IsLoadedBy placement.now.kind load.now.seed (D.view dev.old).reads n x)) × (f ≡ (D.view dev.old).sent)) }
@@ -133,8 +125,6 @@ fn carry_out<D: Device>(
         × (f ≡ (D.view dev.old).sent))) }
     ensures looked { D.told → IfErr result (λ why. why ≡ Status.NoMemory
         → OnlyLooks (D.view dev.old) (D.view dev.new)) }
-    // A crash at any moment leaves what lies behind the image as it was.
-    ensures behind { D.told → IsFirm (D.view dev.old) → LeavesBehind (D.view dev.old) (D.view dev.new) }
     ensures works { Works (D.view dev.old) (D.view dev.new) }
     ensures faults { CountsFaultOf Status.DeviceFault result (D.view dev.old).faults (D.view dev.new).faults }
 {
@@ -170,58 +160,8 @@ fn run<D: Device>(
     ensures sent { D.told → (D.view dev.new).sent ≡ (D.view dev.old).sent }
     ensures any_moment { D.told → LeavesRun placement.now.kind load.now.seed load.now.count (D.view dev.old)
         (D.view dev.new) }
-    ensures no_memory { D.told → IfErr result (λ why. why ≡ Status.NoMemory
-        → LeavesRun placement.now.kind load.now.seed 0 (D.view dev.old) (D.view dev.new)) }
-    // Where memory was wanting, request 0 was answered so, and nothing was done: the core and the device are as they
-    // were.
-    ensures first { D.told → IfErr result (λ why. why ≡ Status.NoMemory → IsFirstStarved placement.now.kind
-        load.now.seed D.view core.old core.new dev.old dev.new) }
-    ensures behind { D.told → LeavesPart (behind core.old.volume.tables.geometry) (D.view dev.old) (D.view dev.new) }
-    ensures works { Works (D.view dev.old) (D.view dev.new) }
-    ensures faults { CountsFaultOf Status.DeviceFault result (D.view dev.old).faults (D.view dev.new).faults }
-{
-    let tally = apply_all(core, dev, placement, draws, load)?;
-    match core.close(dev) {
-        Ok(()) => Ok(Summary {
-            count: load.count,
-            granted: tally.granted,
-            refused: tally.refused,
-            free: core.free_count(),
-            pointers: core.pointers(),
-        }),
-        Err(_) => Err(Status::DeviceFault),
-    }
-}
-
-/// Carries out the requests one after another.
-fn apply_all<D: Device>(
-    core: &mut Core,
-    dev: &mut D,
-    placement: &Placement,
-    draws: &mut LoadGen,
-    load: &Load,
-) -> Result<Tally, Status>
-    requires few { load.now.count ≤ 200000 }
-    requires ready { IsCoreReady core.old }
-    requires at { D.told → IsCoreAt core.old (D.view dev.old) }
-    requires start { D.told → state_on core.old (D.view dev.old).reads ≡ at_rest (world_of (D.view dev.old).reads) }
-    requires draws { draws.old ≡ load_after load.now.seed (told_world core.old).geometry 0 }
-    ensures ready { OnOk result (IsCoreReady core.new) }
-    ensures at { D.told → OnOk result (IsCoreAt core.new (D.view dev.new)) }
-    ensures applied { D.told
-        → IfOk result (λ t. HasApplied placement.now.kind load.now.seed (world_of (D.view dev.old).reads) load.now.count
-        (state_on core.new (D.view dev.new).reads) t.granted t.refused) }
-    ensures size { core.new.volume.tables.geometry ≡ core.old.volume.tables.geometry }
-    ensures stops { IfErr result IsStopped }
-    ensures sent { D.told → (D.view dev.new).sent ≡ (D.view dev.old).sent }
-    ensures any_moment { D.told → LeavesRun placement.now.kind load.now.seed load.now.count (D.view dev.old)
-        (D.view dev.new) }
-    ensures no_memory { D.told → IfErr result (λ why. why ≡ Status.NoMemory
-        → LeavesRun placement.now.kind load.now.seed 0 (D.view dev.old) (D.view dev.new)) }
-    // Where memory was wanting, request 0 was answered so, and nothing was done: the core and the device are as they
-    // were.
-    ensures first { D.told → IfErr result (λ why. why ≡ Status.NoMemory → IsFirstStarved placement.now.kind
-        load.now.seed D.view core.old core.new dev.old dev.new) }
+    // Memory is wanting at request 0 alone, and then nothing is done.
+    ensures first { D.told → IfErr result (λ why. why ≡ Status.NoMemory → dev.new ≡ dev.old) }
     ensures behind { D.told → LeavesPart (behind core.old.volume.tables.geometry) (D.view dev.old) (D.view dev.new) }
     ensures works { Works (D.view dev.old) (D.view dev.new) }
     ensures faults { CountsFaultOf Status.DeviceFault result (D.view dev.old).faults (D.view dev.new).faults }
@@ -231,48 +171,23 @@ fn apply_all<D: Device>(
         refused: 0,
     };
     for number in 0..load.count {
-        apply_next(core, dev, placement, &draws.next_request(), &mut tally)?;
+        let Ok(reply) = core.apply(dev, placement, &draws.next_request()) else {
+            return Err(Status::DeviceFault);
+        };
+        tally.count(&reply)?;
         dev.show_work_done(WorkDone::Requests {
             done: number + 1,
             of: load.count,
         });
     }
-    Ok(tally)
-}
-
-/// Carries out one request and counts it.
-fn apply_next<D: Device>(
-    core: &mut Core,
-    dev: &mut D,
-    placement: &Placement,
-    request: &Request,
-    tally: &mut Tally,
-) -> Result<(), Status>
-    requires few { tally.old.granted + tally.old.refused < 2 ^ 31 }
-    requires ready { IsCoreReady core.old }
-    requires at { D.told → IsCoreAt core.old (D.view dev.old) }
-    ensures ready { OnOk result (IsCoreReady core.new) }
-    ensures at { D.told → OnOk result (IsCoreAt core.new (D.view dev.new)) }
-    ensures next { D.told
-        → OnOk result (IsRequestNext placement.now.kind (state_on core.old (D.view dev.old).reads) request.now
-        (state_on core.new (D.view dev.new).reads) tally.old.granted tally.old.refused tally.new.granted
-        tally.new.refused) }
-    ensures one { OnOk result (tally.new.granted + tally.new.refused ≡ tally.old.granted + tally.old.refused + 1) }
-    ensures size { core.new.volume.tables.geometry ≡ core.old.volume.tables.geometry }
-    ensures stops { IfErr result IsStopped }
-    ensures starved { D.told → IfErr result (λ why. why ≡ Status.NoMemory
-        → IsAnswer placement.now.kind (state_on core.old (D.view dev.old).reads) request.now replied.NoMemory
-        (state_on core.new (D.view dev.new).reads)) }
-    ensures nothing { IfErr result (λ why. why ≡ Status.NoMemory → (core.new ≡ core.old) × (dev.new ≡ dev.old)) }
-    ensures sent { D.told → (D.view dev.new).sent ≡ (D.view dev.old).sent }
-    ensures any_moment { D.told → LeavesEither (D.view dev.old) (D.view dev.new) (next_world placement.now.kind
-        (state_on core.old (D.view dev.old).reads) request.now) }
-    ensures behind { D.told → LeavesPart (behind core.old.volume.tables.geometry) (D.view dev.old) (D.view dev.new) }
-    ensures works { Works (D.view dev.old) (D.view dev.new) }
-    ensures faults { CountsFaultOf Status.DeviceFault result (D.view dev.old).faults (D.view dev.new).faults }
-{
-    match core.apply(dev, placement, request) {
-        Ok(reply) => tally.count(&reply),
-        Err(Failed) => Err(Status::DeviceFault),
+    match core.close(dev) {
+        Ok(()) => Ok(Summary {
+            count: load.count,
+            granted: tally.granted,
+            refused: tally.refused,
+            free: core.free_count(),
+            pointers: core.pointers(),
+        }),
+        Err(_) => Err(Status::DeviceFault),
     }
 }

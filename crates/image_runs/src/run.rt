@@ -21,18 +21,20 @@ use tsd_core::Core;
 use tsd_model::Request;
 use tsd_words::Status;
 
-/// Serves the requests of an input by a core until it ends, as `serving::serve` does. Free blocks are taken by
-/// `placement`.
-pub fn serve_core<S: Source, P: Port, R: Protocol<Request = Request> + Replies>(
+/// Serves the requests of an input by a core until it ends, as `serving::serve_in` does, in the room of an intake. Free
+/// blocks are taken by `placement`.
+pub fn serve_core_in<S: Source, P: Port, R: Protocol<Request = Request> + Replies>(
     core: &mut Core,
     placement: &Placement,
     protocol: &mut R,
     source: &mut S,
     port: &mut P,
     limit: u64,
+    intake: &mut Intake,
 ) -> Status
     requires few { limit ≤ INPUT_MAX }
     requires fresh { R.was_fed [] protocol.old }
+    requires room { IsFresh intake.old limit }
     requires ready { IsCoreReady core.old }
     requires at { P.told → IsCoreAt core.old (P.view port.old) }
     /// promise: As for `serving::serve`, by the rules of the abstract disk.
@@ -56,45 +58,6 @@ pub fn serve_core<S: Source, P: Port, R: Protocol<Request = Request> + Replies>(
     ensures spent { result ≡ Status.DeviceFault → core.new.volume.is_spent ≡ true }
     ensures closed { result ≡ Status.Done → P.told → IsQuiet (P.view port.new).reads }
     /// promise: What lies after the image is as it was in each image that a crash leaves.
-    ensures behind { P.told → LeavesPart (behind core.old.volume.tables.geometry) (P.view port.old) (P.view port.new) }
-    ensures once { EndsOnce (S.ends source.old) (S.ends source.new) }
-    ensures faults { TellsFaults result (S.faults source.old) (S.faults source.new) (P.view port.old)
-        (P.view port.new) }
-{
-    let mut intake = Intake::new(limit);
-    serve_core_in(core, placement, protocol, source, port, limit, &mut intake)
-}
-
-/// Serves the requests of an input by a core until it ends, as [`serve_core`] does, in the room of an intake that is
-/// there already.
-pub fn serve_core_in<S: Source, P: Port, R: Protocol<Request = Request> + Replies>(
-    core: &mut Core,
-    placement: &Placement,
-    protocol: &mut R,
-    source: &mut S,
-    port: &mut P,
-    limit: u64,
-    intake: &mut Intake,
-) -> Status
-    requires few { limit ≤ INPUT_MAX }
-    requires fresh { R.was_fed [] protocol.old }
-    requires room { IsFresh intake.old limit }
-    requires ready { IsCoreReady core.old }
-    requires at { P.told → IsCoreAt core.old (P.view port.old) }
-    /// promise: As for `serve_core`.
-    ensures ran { Ran result (spoken disk_rules R.voice) disk_work R.spelling
-        (placed_on placement.now.kind core.old (P.view port.old).reads)
-        (placed_on placement.now.kind core.new (P.view port.new).reads) limit
-        (taking S.told S.taken S.left_bytes S.ended source.old source.new) (due core.old.volume)
-        (moments P.told P.view port.old port.new) }
-    ensures prompt { P.told → Promptly result (spoken disk_rules R.voice) disk_work (IsOfPort P.view) R.spelling limit
-        (placed_on placement.now.kind core.old (P.view port.old).reads)
-        (taking S.told S.taken S.left_bytes S.ended source.old source.new) (mark (P.view port.old))
-        (mark (P.view port.new)) }
-    ensures ready { result ≢ Status.DeviceFault → IsCoreReady core.new }
-    ensures at { result ≢ Status.DeviceFault → P.told → IsCoreAt core.new (P.view port.new) }
-    ensures spent { result ≡ Status.DeviceFault → core.new.volume.is_spent ≡ true }
-    ensures closed { result ≡ Status.Done → P.told → IsQuiet (P.view port.new).reads }
     ensures behind { P.told → LeavesPart (behind core.old.volume.tables.geometry) (P.view port.old) (P.view port.new) }
     ensures once { EndsOnce (S.ends source.old) (S.ends source.new) }
     ensures faults { TellsFaults result (S.faults source.old) (S.faults source.new) (P.view port.old)

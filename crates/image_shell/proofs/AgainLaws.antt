@@ -1,21 +1,10 @@
 -- A run over what a crash left of another.
 use Rattle.std.proofs.Common.{◌≡◌, inl, inr, ℕ, List, [], ◌∷◌, refl, sym, ◌∙◌, ap, subst}
-use Rattle.tsd_model.specs.World.{World}
-use Rattle.image_layout.specs.Image.{Image}
-use Rattle.image_world.specs.Stands.{world_of}
-use Rattle.fs_trees.specs.Tree.{is_there}
-use Rattle.fs_trees.specs.Outside.{OthersStay}
-use Rattle.fs_trees.specs.Layouts.{tree_at}
+use Rattle.image_shell.proofs.Common.{Answers, FileAsk, FilesView, Image, IsFirstState, IsLeftOf, OthersStay, Run, ShellKind, ShellState, World, files_after, heard, is_there, resting, shell_service, tree_at, tree_of, tree_under, world_of}
 use Rattle.fs_trees.specs.declared.ask.ShellAsk.{ShellAsk}
 use Rattle.fs_trees.specs.declared.ask.ShellAsk.TheVariants as ask
-use Rattle.fs_trees.specs.declared.ask.ShellKind.{ShellKind}
 use Rattle.fs_laws.proofs.OutsideLaws.{outside_twice}
-use Rattle.fs_port.specs.Files.{FilesView}
-use Rattle.shell_text.specs.declared.file_ask.FileAsk.{FileAsk}
 use Rattle.shell_text.specs.declared.file_ask.FileAsk.TheVariants as file
-use Rattle.serving.specs.Runs.{Run}
-use Rattle.shell_server.specs.Shell.{Answers, ShellState, IsLeftOf, resting, files_after, heard, shell_service, tree_of, tree_under}
-use Rattle.image_shell.specs.Served.{IsFirstState}
 use Rattle.image_shell.specs.Told.{IsFoundAgain, WhatACrashLeftIsMounted}
 
 -- the same layout under the same root
@@ -23,25 +12,15 @@ abbrev IsSamePlace : FilesView → FilesView → Type 0
 IsSamePlace f g = (g.kind ≡ f.kind) × (g.root ≡ f.root)
 
 after_ask : (f : FilesView) (q : ShellAsk) → IsSamePlace f (files_after f q)
-after_ask f ask.Bad = (refl, refl)
 after_ask f ask.Make = (refl, refl)
-after_ask f (ask.Put path x) = (refl, refl)
-after_ask f (ask.Append path x) = (refl, refl)
-after_ask f (ask.Cat path) = (refl, refl)
-after_ask f (ask.Ls path) = (refl, refl)
-after_ask f (ask.MakeDir path) = (refl, refl)
-after_ask f (ask.Rm path) = (refl, refl)
-after_ask f (ask.Copy path new) = (refl, refl)
-after_ask f ask.Df = (refl, refl)
+after_ask f q = (refl, refl)
 
 after_look : (s t : ShellState) → t ≡ s → IsSamePlace s.files t.files
 after_look s t same = subst (λ (u : ShellState). IsSamePlace s.files u.files) (sym same) (refl, refl)
 
 after_answer : (start : World) (s t : ShellState) (q : FileAsk) (line : List ℕ) → Answers start s q line t → IsSamePlace s.files t.files
 after_answer start s t (file.Shell q) line given = subst (λ (h : FilesView). IsSamePlace s.files h) (sym given.files) (after_ask s.files (heard s.files.kind q))
-after_answer start s t (file.Size path) line given = after_look s t given.same
-after_answer start s t (file.Read path from count) line given = after_look s t given.same
-after_answer start s t (file.Next path after) line given = after_look s t given.same
+after_answer start s t q line given = after_look s t given.same
 
 after_run : (start : World) (s t : ShellState) (qs : List FileAsk) (xs : List (List ℕ)) → Run (shell_service start) s qs xs t → IsSamePlace s.files t.files
 after_run start s t [] [] run = subst (λ (u : ShellState). IsSamePlace s.files u.files) run (refl, refl)
@@ -71,13 +50,11 @@ module _ (f : FilesView) (start : World) (first second : ShellState) (x : Image)
 
   -- an empty tree was being made, and none is there yet
   found_none : (s : ShellState) (q : FileAsk) → IsSamePlace first.files s.files → (shell_service start).between s q x → IsFoundAgain start s second
-  found_none s (file.Size path) same making = absurd making
-  found_none s (file.Read path from count) same making = absurd making
-  found_none s (file.Next path after) same making = absurd making
   found_none s (file.Shell q) same making =
       let as_left = found (resting s.files making.world) same making.left in
       let none : tree_under s.files making.world ≡ tree_of s = making.none_yet ∙ sym making.none in
       record { tree = as_left.tree ∙ none; mounted = as_left.mounted ∙ ap is_there none; tidy = as_left.tidy; geometry = as_left.geometry; others = as_left.others }
+  found_none s q same making = absurd making
 
 pub found_again : WhatACrashLeftIsMounted
 found_again f start first second before asked x sent is_first is_second = (

@@ -1,56 +1,26 @@
 -- A run from a core that was opened, joined from its steps.
-use Rattle.std.proofs.Common.{◌≡◌, ◌≢◌, ◌⊎◌, inl, inr, ℕ, ◌≤◌, Bool, true, false, cond, nat_lt, List, [], ◌++◌, refl, sym, ◌∙◌, ap, subst, arith, append-nil}
-use Rattle.std.proofs.lemmas.Bool.{ltb-true}
-use Rattle.std.specs.Prelude.{Result, Err, IsTrue, None, slice_get}
-use Rattle.tsd_model.specs.World.{World}
+use Rattle.std.proofs.Common.{◌≡◌, ◌≢◌, ◌⊎◌, inl, inr, ℕ, ◌≤◌, Bool, true, false, cond, nat_lt, List, [], ◌++◌, refl, sym, ◌∙◌, ap, subst, arith, append-nil, Result, Ok, Err, None, slice_get}
+use Rattle.image_shell.proofs.Common.{AreLike, AreSeen, AskedBy, ByStatus, Cap, Core, Ends, EndsFrom, FileAsk, FilesView, FsRefusal, Geometry, Image, IsAdmitted, IsAsAtStart, IsAtStart, IsCoreAt, IsFirstState, IsLeftInRun, IsLeftOf, IsNotServed, IsOpeningAlone, IsPromptShell, IsQuiet, IsSeenRun, IsSound, IsValid, LeavesOnly, Level, Mark, OnAnswer, OthersStay, Ran, RanFrom, Rose, ShellState, Spelling, Stands, Status, Taking, View, World, at_volume, firm_image, is_below_write, is_device, is_there, joined, level_at, like_at, nothing, resting, shell_service, shell_state, shell_work, started, texts, told_world, tree_by, tree_under, weakened, world_of}
 use Rattle.tsd_model.specs.Records.{kept_of}
-use Rattle.tsd_model.specs.Sessions.{is_open}
 use Rattle.tsd_model.specs.Attained.{record_level}
-use Rattle.tsd_model.specs.Valid.{IsValid}
-use Rattle.tsd_model.specs.declared.caps.Cap.{Cap}
-use Rattle.tsd_model.specs.declared.geometry.Geometry.{Geometry}
 use Rattle.tsd_model.specs.declared.records.Record.{Record}
-use Rattle.tsd_model.specs.declared.requests.Level.{Level}
 use Rattle.tsd_model.specs.declared.requests.Level.TheVariants as level
-use Rattle.disk_laws.specs.Bytes.{AreLike}
-use Rattle.image_device.specs.View.{IsSound, View}
-use Rattle.image_device.specs.Runs.{LeavesOnly}
-use Rattle.image_device.proofs.Moments.{firm_image, joined, started, weakened}
-use Rattle.image_layout.specs.Image.{Image}
-use Rattle.image_world.specs.Stands.{Stands, world_of}
-use Rattle.volume_laws.specs.Quiet.{IsQuiet}
-use Rattle.tsd_words.specs.declared.status.Status.{Status}
 use Rattle.tsd_words.specs.declared.status.Status.TheVariants as status
-use Rattle.fs_trees.specs.Outside.{OthersStay}
-use Rattle.fs_trees.specs.Tree.{is_there, nothing}
-use Rattle.fs_trees.specs.declared.ask.ShellKind.{ShellKind}
-use Rattle.fs_trees.specs.declared.refusal.FsRefusal.{FsRefusal}
-use Rattle.fs_trees.specs.declared.refusal.FsRefusal.TheVariants as no
-use Rattle.fs_port.specs.Files.{FilesView}
-use Rattle.shell_text.specs.declared.file_ask.FileAsk.{FileAsk}
-use Rattle.serving.specs.Input.{Spelling}
-use Rattle.serving.specs.Prompt.{Mark}
-use Rattle.serving.specs.Ran.{ByStatus, Ends, Moments, Ran, Taking}
-use Rattle.serving.specs.Runs.{texts}
-use Rattle.serving.specs.Seen.{AreSeen, IsLeftInRun, IsSeenRun}
+use Rattle.serving.specs.Faults.{TellsFaults}
+use Rattle.serving.proofs.Still.{still_before}
+use Rattle.serving.specs.Prompt.{EndsBySending, IsCutShort}
 use Rattle.serving.specs.Service.{Service}
-use Rattle.tsd_core.specs.Core.{Core, sessions_of, told_world}
-use Rattle.tsd_core.specs.Core.{IsCoreAt}
-use Rattle.tsd_core.proofs.AtLaws.{at_volume, like_at}
-use Rattle.shell_server.specs.Shell.{ShellState, IsLeftOf, resting, shell_service, shell_work, tree_by, tree_under, unmounted}
-use Rattle.shell_server.specs.Kept.{IsClient, shell_state}
-use Rattle.image_shell.specs.Served.{IsPromptShell, IsFirstState, IsNotServed, IsOpeningAlone, level_at}
-use Rattle.image_shell.specs.FromCore.{EndsFrom, IsAdmitted, IsAsAtStart, IsAtStart, IsLetIn, NoAskServedFrom, RanFrom, is_below_write, is_device}
 
-pub not_device : (e : FsRefusal) (b : Bool) → b ≡ is_device e → b ≡ false → e ≢ no.Device
-not_device e b told shut is = let told_so = told ∙ ap is_device is in cc
+-- an answer that isn't the failure of the disk
+pub on_answer : {X P : Type 0} (r : Result X FsRefusal) (b : Bool) → b ≡ is_device r → b ≡ false → OnAnswer r P → P
+on_answer (Ok x) b told shut h = h.0
+on_answer {X = X} (Err e) b told shut h = h.1 (λ is. let same = told ∙ ap (λ (d : FsRefusal). is_device {X = X} (Err d)) is in absurd (cc))
 
 -- ---- levels
 
 pub is_write : (l : Level) (b : Bool) → b ≡ is_below_write l → b ≡ false → l ≡ level.Write
 is_write level.Write b told shut = refl
-is_write level.Read b told shut = absurd (cc)
-is_write level.Bare b told shut = absurd (cc)
+is_write l b told shut = absurd (cc)
 
 pub not_write : (l : Level) (b : Bool) → b ≡ is_below_write l → b ≡ true → l ≢ level.Write
 not_write l b told on is = let told_so = told ∙ ap is_below_write is in cc
@@ -66,26 +36,19 @@ module _ (root : ℕ) (cap : Cap) where
   pub level_told : (start : World) (c : Core) (v : View) → IsAtStart start c v → level_at (told_world c) root cap ≡ level_at start root cap
   level_told start c v at = level_like (told_world c) (world_of v.reads) (like_at c.volume v (at_volume c v at.core)) ∙ ap (λ (w : World). level_at w root cap) at.world
 
-split_level : (b : Bool) (x : Level) → cond b x level.Bare ≡ level.Write → (b ≡ true) × (x ≡ level.Write)
-split_level true x e = (refl, e)
-split_level false x e = absurd (cc)
+-- where asks were served, it was let in
+pub allowed_by : (root : ℕ) (cap : Cap) (start : World) (r : Status) (p : Spelling FileAsk) (limit : ℕ) (bytes : List ℕ) (ended : Type 0) (asked : List FileAsk) → AskedBy r p limit bytes ended asked → level_at start root cap ≡ level.Write → IsAdmitted root cap start r
+allowed_by root cap start (status.RootDenied attained) p limit bytes ended asked these is = absurd these
+allowed_by root cap start (status.NotImage why) p limit bytes ended asked these is = absurd these
+allowed_by root cap start status.DeviceFault p limit bytes ended asked these is = tt
+allowed_by root cap start status.NoMemory p limit bytes ended asked these is = tt
+allowed_by root cap start r p limit bytes ended asked these is = is
 
-pub client_begun : (kind : ShellKind) (root : ℕ) (cap : Cap) (f : FilesView) (c : Core) → f ≡ unmounted kind root cap → IsTrue (is_open (sessions_of c) 1) → level_at (told_world c) root cap ≡ level.Write → IsClient f c
-client_begun kind root cap f c is begun attained =
-    let both = split_level (nat_lt root (told_world c).geometry.primaries) (record_level (slice_get (told_world c).records root) (kept_of (told_world c).version cap)) attained in
-    subst (λ (h : FilesView). IsClient h c) (sym is) (record { number = omega arith; begun = begun; primary = ltb-true root (told_world c).geometry.primaries both.0; attains = both.1 })
-
-pub allowed_by : (root : ℕ) (cap : Cap) (start : World) (r : Status) → IsLetIn r → level_at start root cap ≡ level.Write → IsAdmitted root cap start r
-allowed_by root cap start (status.RootDenied attained) in_here is = absurd in_here
-allowed_by root cap start (status.NotImage why) in_here is = absurd in_here
-allowed_by root cap start status.DeviceFault in_here is = tt
-allowed_by root cap start status.NoMemory in_here is = absurd in_here
-allowed_by root cap start status.Done in_here is = is
-allowed_by root cap start status.Usage in_here is = is
-allowed_by root cap start status.SourceFault in_here is = is
-allowed_by root cap start status.PutFault in_here is = is
-allowed_by root cap start status.TooLong in_here is = is
-allowed_by root cap start status.Truncated in_here is = is
+pub opened_or_served : (r : Status) (p : Spelling FileAsk) (limit : ℕ) (bytes : List ℕ) (ended : Type 0) (asked : List FileAsk) → IsOpeningAlone r → AskedBy r p limit bytes ended asked → ⊥
+opened_or_served (status.NotImage why) p limit bytes ended asked alone these = these
+opened_or_served (status.RootDenied attained) p limit bytes ended asked alone these = these
+opened_or_served status.NoMemory p limit bytes ended asked alone these = these
+opened_or_served r p limit bytes ended asked alone these = alone
 
 -- ---- the first moment
 
@@ -144,24 +107,50 @@ seen_before k left s one other qs now e was = record {
 done_or_fault : (r : Status) → r ≡ status.Done → r ≡ status.DeviceFault → ⊥
 done_or_fault r e f = cc
 
+-- ---- no ask was served
+
+pub none_served : (r : Status) (f : FilesView) (p : Spelling FileAsk) (limit : ℕ) (source : Taking) (told same : Type 0) (start : World) (v w : View) (Q : Image → Type 0) → IsNotServed r → source.came [] → source.untouched → (told → w.sent ≡ v.sent)
+    → (told → LeavesOnly v w (λ x h. Q x × (h ≡ v.sent))) → (told → (x : Image) → Q x → IsAsAtStart r f start x) → RanFrom r f p limit source start (record { tells = told; untouched = same; old = v; new = w })
+none_served r f p limit source told same start v w Q why came_in untouched sent any here = record {
+  bytes = [];
+  came_in = came_in;
+  asked = [];
+  these = inl (record {
+    why = why;
+    untouched = untouched;
+    none = refl;
+    sent = sent;
+    alike = λ t. weakened v w (λ x h. Q x × (h ≡ v.sent)) (λ x h. IsAsAtStart r f start x × (h ≡ v.sent)) (any t) (λ x h left. (here t x left.0, left.1));
+  });
+}
+
+-- a session begun, and the tree mounted after that
+pub mounted_moments : (f : FilesView) (start : World) (v u m : View) → IsValid start → world_of v.reads ≡ start → u.sent ≡ v.sent → LeavesOnly v u (λ x h. Stands x (world_of v.reads) × (h ≡ v.sent)) → LeavesOnly u m (λ x h. IsLeftOf start (resting f start) x × (h ≡ u.sent)) → LeavesOnly v m (λ x h. IsLeftOf start (resting f start) x × (h ≡ v.sent))
+mounted_moments f start v u m valid here sent begun mounted =
+    let P : Image → List ℕ → Type 0 = λ x h. IsLeftOf start (resting f start) x × (h ≡ v.sent) in
+    joined v u m P (λ x h. IsLeftOf start (resting f start) x × (h ≡ u.sent))
+    (weakened v u (λ x h. Stands x (world_of v.reads) × (h ≡ v.sent)) P begun (λ x h left. (left_at_start f start valid x (subst (λ (w : World). Stands x w) here left.0), left.1)))
+    mounted (λ x h left. (left.0, left.1 ∙ sent))
+
 -- ---- mounting before the loop
 
 module _ (r : Status) (f g : FilesView) (p : Spelling FileAsk) (limit : ℕ) (source : Taking) (told later_same same : Type 0) (start : World) (c : Core) (v m new : View) (due : ℕ)
-    (valid : told → IsValid start) (sent : told → m.sent ≡ v.sent) (any : told → LeavesOnly v m (λ x h. IsLeftOf start (resting f start) x × (h ≡ v.sent))) (clock : v.clock ≤ m.clock)
-    (first : told → IsFirstState f start (shell_state g m.reads)) (at : r ≢ status.DeviceFault → told → IsCoreAt c new) (closed : r ≡ status.Done → told → IsQuiet new.reads) where
+    (valid : told → IsValid start) (sent : told → m.sent ≡ v.sent) (any : told → LeavesOnly v m (λ x h. IsLeftOf start (resting f start) x × (h ≡ v.sent)))
+    (first : told → IsFirstState f start (shell_state g m.reads)) (at : r ≢ status.DeviceFault → told → IsCoreAt c new) (closed : r ≡ status.Done → told → IsQuiet new.reads)
+    (still : told → IsCutShort r → EndsBySending m new) where
   abbrev one : ShellState
   one = shell_state g m.reads
 
   ends_mounted : (t : told) (final : ShellState) (asked : List FileAsk) → final.world ≡ world_of new.reads → final.under_way ≡ None → Ends r (shell_service start) shell_work one final due m new asked → EndsFrom r f start v new asked
-  ends_mounted t final asked last still ends =
+  ends_mounted t final asked last rests ends =
       let k = shell_service start in
-      let later : (n : ℕ) → n ≤ v.clock → n ≤ m.clock = λ n le. omega (arith, le, clock) in
+      let later : (n : ℕ) → n ≤ v.clock → n ≤ m.clock = λ n le. omega (arith, le, (any t).later) in
       record {
         first = one;
         is_first = first t;
         at_start = λ x stands. left_first f start one (first t) x (left_at_start f start (valid t) x stands);
         final = final;
-        at_rest = still;
+        at_rest = rests;
         sent = subst (λ (b : List ℕ). ByStatus r k one b asked final new.sent) (sent t) ends.sent;
         any_moment = λ n le. joined v m new (IsLeftInRun k (new.left n) one v.sent asked) (IsLeftInRun k (new.left n) one v.sent asked)
             (weakened v m (λ x h. IsLeftOf start (resting f start) x × (h ≡ v.sent)) (IsLeftInRun k (new.left n) one v.sent asked) (any t)
@@ -169,6 +158,7 @@ module _ (r : Status) (f g : FilesView) (p : Spelling FileAsk) (limit : ℕ) (so
             (subst (λ (b : List ℕ). LeavesOnly m new (IsLeftInRun k (new.left n) one b asked)) (sent t) (ends.any_moment n (later n le))) (λ x h acked. acked);
         seen = λ n le. seen_before k (new.left n) one m.sent v.sent asked new.sent (sent t) (ends.seen n (later n le));
         all_seen = λ fine n le. ends.all_seen fine n (later n le);
+        still = λ cut more. let s = ends.seen m.clock (omega arith) in still_before v m new (IsLeftOf start (resting f start)) (texts s.answers ++ s.front) (sent t) s.sent (any t) more (still t cut);
         done = λ e.
             let here = at (done_or_fault r e) t in
             record { firm = here.0; stands = record { good = here.1.good; world = last }; quiet = closed e t };
@@ -182,55 +172,6 @@ module _ (r : Status) (f g : FilesView) (p : Spelling FileAsk) (limit : ℕ) (so
     these = inr (ran.1.these, λ t. ends_mounted t ran.0 ran.1.asked ran.2 ran.3 (ran.1.ends t));
   }
 
--- ---- a session begun before that
-
-module _ (r : Status) (f : FilesView) (p : Spelling FileAsk) (limit : ℕ) (source : Taking) (told later_same same : Type 0) (start : World) (v m new : View)
-    (sent : told → m.sent ≡ v.sent) (any : told → LeavesOnly v m (λ x h. Stands x start × (h ≡ v.sent))) (clock : v.clock ≤ m.clock) where
-  abbrev later : Moments
-  later = record { tells = told; untouched = later_same; old = m; new = new }
-
-  abbrev all : Moments
-  all = record { tells = told; untouched = same; old = v; new = new }
-
-  ends_earlier : told → (asked : List FileAsk) → EndsFrom r f start m new asked → EndsFrom r f start v new asked
-  ends_earlier t asked ends =
-      let k = shell_service start in
-      let later : (n : ℕ) → n ≤ v.clock → n ≤ m.clock = λ n le. omega (arith, le, clock) in
-      record {
-        first = ends.first;
-        is_first = ends.is_first;
-        at_start = ends.at_start;
-        final = ends.final;
-        at_rest = ends.at_rest;
-        sent = subst (λ (b : List ℕ). ByStatus r k ends.first b asked ends.final new.sent) (sent t) ends.sent;
-        any_moment = λ n le. joined v m new (IsLeftInRun k (new.left n) ends.first v.sent asked) (IsLeftInRun k (new.left n) ends.first v.sent asked)
-            (weakened v m (λ x h. Stands x start × (h ≡ v.sent)) (IsLeftInRun k (new.left n) ends.first v.sent asked) (any t)
-            (λ x h left. first_moment start (new.left n) ends.first v.sent asked x h (ends.at_start x left.0) left.1))
-            (subst (λ (b : List ℕ). LeavesOnly m new (IsLeftInRun k (new.left n) ends.first b asked)) (sent t) (ends.any_moment n (later n le))) (λ x h acked. acked);
-        seen = λ n le. seen_before k (new.left n) ends.first m.sent v.sent asked new.sent (sent t) (ends.seen n (later n le));
-        all_seen = λ fine n le. ends.all_seen fine n (later n le);
-        done = ends.done;
-      }
-
-  not_earlier : (asked : List FileAsk) → NoAskServedFrom r f source start later asked → NoAskServedFrom r f source start all asked
-  not_earlier asked none = record {
-    why = none.why;
-    untouched = none.untouched;
-    none = none.none;
-    sent = λ t. none.sent t ∙ sent t;
-    alike = λ t. joined v m new (λ x h. IsAsAtStart r f start x × (h ≡ v.sent)) (λ x h. IsAsAtStart r f start x × (h ≡ m.sent))
-        (weakened v m (λ x h. Stands x start × (h ≡ v.sent)) (λ x h. IsAsAtStart r f start x × (h ≡ v.sent)) (any t) (λ x h left. (inl left.0, left.1)))
-        (none.alike t) (λ x h left. (left.0, left.1 ∙ sent t));
-  }
-
-  pub ran_earlier : RanFrom r f p limit source start later → RanFrom r f p limit source start all
-  ran_earlier ran = record {
-    bytes = ran.bytes;
-    came_in = ran.came_in;
-    asked = ran.asked;
-    these = elim ran.these [ inl none ↦ inl (not_earlier ran.asked none) | inr asked ↦ inr (asked.0, λ t. ends_earlier t ran.asked (asked.1 t)) ];
-  }
-
 -- ---- where nothing was done
 
 pub moments_of_start : (start : World) (c : Core) (v : View) → IsSound v → IsAtStart start c v → LeavesOnly v v (λ x h. Stands x start × (h ≡ v.sent))
@@ -242,23 +183,7 @@ pub not_served : (r : Status) → (r ≡ status.DeviceFault) ⊎ (r ≡ status.N
 not_served r (inl e) = subst IsNotServed (sym e) tt
 not_served r (inr e) = subst IsNotServed (sym e) tt
 
-pub allowed_stopped : (root : ℕ) (cap : Cap) (start : World) (r : Status) → (r ≡ status.DeviceFault) ⊎ (r ≡ status.NoMemory) → IsAdmitted root cap start r
-allowed_stopped root cap start r (inl e) = subst (IsAdmitted root cap start) (sym e) tt
-allowed_stopped root cap start r (inr e) = subst (IsAdmitted root cap start) (sym e) tt
-
 -- ---- how much was done
-
-pub opened_or_let_in : (r : Status) → IsOpeningAlone r → IsLetIn r → ⊥
-opened_or_let_in (status.NotImage why) alone in_here = in_here
-opened_or_let_in (status.RootDenied attained) alone in_here = in_here
-opened_or_let_in status.NoMemory alone in_here = in_here
-opened_or_let_in status.Done alone in_here = alone
-opened_or_let_in status.Usage alone in_here = alone
-opened_or_let_in status.DeviceFault alone in_here = alone
-opened_or_let_in status.SourceFault alone in_here = alone
-opened_or_let_in status.PutFault alone in_here = alone
-opened_or_let_in status.TooLong alone in_here = alone
-opened_or_let_in status.Truncated alone in_here = alone
 
 -- the device didn't fail
 pub alone_no_fault : {X : Type 0} (r : Status) → IsOpeningAlone r → (result : Result X Status) → result ≡ Err r → result ≢ Err status.DeviceFault
@@ -274,4 +199,17 @@ prompt_earlier r f port p limit start source mid old new same later run = record
   not_before = let then = run.not_before in omega (arith, later, then);
   sent = run.sent ∙ same;
   prompt = run.prompt;
+}
+
+-- no count rose before
+pub faults_later : (r : Status) (source_before source_now : ℕ) (old mid new : View) → mid.faults ≡ old.faults → mid.put_faults ≡ old.put_faults → TellsFaults r source_before source_now mid new → TellsFaults r source_before source_now old new
+faults_later r source_before source_now old mid new device put f = record {
+  source_fault = f.source_fault;
+  no_source_fault = f.no_source_fault;
+  port = record {
+    device_fault = λ e. subst (λ (n : ℕ). Rose n new.faults) device (f.port.device_fault e);
+    put_fault = λ e. subst (λ (n : ℕ). Rose n new.put_faults) put (f.port.put_fault e);
+    no_device_fault = λ other. f.port.no_device_fault other ∙ device;
+    no_put_fault = λ other. f.port.no_put_fault other ∙ put;
+  };
 }

@@ -1,3 +1,4 @@
+pub mod Common
 pub mod BeginLaws
 pub mod FromLaws
 pub mod MountLaws

@@ -1,29 +1,9 @@
 -- The tree mounted on the disk, where one is there.
-use Rattle.std.proofs.Common.{◌≡◌, inl, inr, ℕ, Bool, true, false, List, refl, sym, ap, subst, arith}
-use Rattle.std.specs.Prelude.{Result, Ok, Err, IsTrue, MatchResult}
-use Rattle.tsd_model.specs.World.{World}
-use Rattle.tsd_model.specs.declared.requests.PlaceKind.{PlaceKind}
+use Rattle.std.proofs.Common.{◌≡◌, inl, inr, ℕ, Bool, true, false, List, refl, sym, ap, subst, arith, Result, Ok, Err, IsTrue, MatchResult}
+use Rattle.image_shell.proofs.Common.{AreReady, Core, DiskView, FilesView, FindsTree, FitsReads, FitsShell, FsRefusal, Image, IsClient, IsCoreAt, IsCoreReady, IsFirstState, IsImageOf, IsKeptSince, IsLeftOf, IsMounted, IsTidy, IsTreeAlone, IsValidNow, KeepsBehind, LeavesOnly, LeavesTidyWorld, OnAnswer, OnlyDeletes, PlaceKind, Runs, Stays, Tree, World, images_left, is_there, mounted_now, resting, shell_state, tree_at, tree_under, unmounted_now, weakened, world_of}
 use Rattle.image_device.specs.View.{View as DeviceView}
-use Rattle.image_device.specs.Runs.{LeavesOnly}
-use Rattle.image_device.proofs.Moments.{weakened}
-use Rattle.image_layout.specs.Image.{Image}
-use Rattle.image_world.specs.Stands.{world_of}
-use Rattle.fs_trees.specs.Tree.{Tree, is_there}
-use Rattle.fs_trees.specs.Layouts.{tree_at, IsTidy}
-use Rattle.fs_trees.specs.declared.refusal.FsRefusal.{FsRefusal}
-use Rattle.fs_port.specs.View.{DiskView}
-use Rattle.fs_port.specs.Calls.{IsValidNow, Stays}
-use Rattle.fs_port.specs.Files.{FilesView, IsTreeAlone, LeavesTidyWorld, OnAnswer, OnlyDeletes, mounted_now, unmounted_now}
-use Rattle.fs_port.specs.Runs.{FindsTree, Runs}
-use Rattle.tsd_core.specs.Core.{Core, FitsReads, IsCoreAt, IsCoreReady}
-use Rattle.core_blocks.specs.Behind.{KeepsBehind}
 use Rattle.core_blocks.specs.CoreView.{core_view}
-use Rattle.core_blocks.proofs.ImageLaws.{IsImageOf, images_left}
 use Rattle.serving.specs.Handling.{FitsDevice}
-use Rattle.shell_server.specs.Shell.{IsKeptSince, IsLeftOf, resting, tree_under}
-use Rattle.shell_server.specs.Kept.{AreReady, IsClient, FitsShell, shell_state}
-use Rattle.image_shell.specs.Served.{IsFirstState}
-use Rattle.image_shell.specs.FromCore.{IsMounted}
 use Rattle.shell_server.proofs.KeptLaws.{client_still, size_stays}
 
 module _ (start : World) (f g : FilesView) (l m : ℕ × ℕ) (kind placement : PlaceKind) (c0 c1 : Core) (v w : DeviceView) where

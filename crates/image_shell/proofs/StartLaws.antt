@@ -1,34 +1,13 @@
 -- A run over an image, from its start: opened, and then served from the core.
-use Rattle.std.proofs.Common.{◌≡◌, inl, inr, ℕ, ◌≤◌, List, [], refl, sym, ◌∙◌, ap, subst}
-use Rattle.tsd_model.specs.World.{World}
-use Rattle.tsd_model.specs.Run.{at_rest}
-use Rattle.tsd_model.specs.Sessions.{Fits, Sessions, fitted, no_sessions}
-use Rattle.tsd_model.specs.Step.{State}
-use Rattle.tsd_model.specs.Valid.{IsValid}
-use Rattle.tsd_model.specs.declared.caps.Cap.{Cap}
-use Rattle.disk_laws.proofs.FreshLaws.{no_sessions_fit}
-use Rattle.image_device.specs.View.{IsSound, View}
-use Rattle.image_device.specs.Runs.{IsFirm, LeavesOnly}
-use Rattle.image_device.proofs.Moments.{firm_image, joined, started, weakened}
-use Rattle.image_layout.specs.Image.{Image}
-use Rattle.image_world.specs.Faults.{IsGood}
-use Rattle.image_world.specs.Stands.{Stands, world_of}
-use Rattle.image_world.proofs.WorldLaws.{world_valid}
-use Rattle.recovery.specs.Opening.{StandAlike}
-use Rattle.image_runs.specs.Opened.{IsUnopened}
-use Rattle.tsd_words.specs.declared.status.Status.{Status}
+use Rattle.std.proofs.Common.{Err, arith, ◌≡◌, inl, inr, ℕ, ◌≤◌, List, [], ◌++◌, refl, sym, ◌∙◌, ap, subst}
+use Rattle.recovery.specs.Opening.{IsUntouched}
+use Rattle.image_world.specs.Behind.{LeavesBehind}
+use Rattle.image_shell.specs.Served.{OpensNoMore}
+use Rattle.serving.specs.Faults.{TellsFaults}
+use Rattle.image_shell.proofs.Common.{ByStatus, Cap, Core, CountsFaultOf, EndsFrom, FileAsk, FilesView, Fits, Image, IsAdmitted, IsAsAtStart, IsAsItWas, IsAtStart, IsCoreAt, IsFirm, IsGood, IsLeftInRun, IsLeftOf, IsNotServed, IsRootDenied, IsShellJudged, IsSound, IsUnopened, IsValid, LeavesOnly, Moments, NoAskServed, NoAskServedFrom, RanFrom, Sessions, ShellEnds, ShellKind, ShellRan, Spelling, StandAlike, Stands, State, Status, Taking, View, World, at_rest, behind, firm_image, fitted, joined, level_at, no_sessions, no_sessions_fit, part_stays, resting, shell_service, size_of_image, spared_start, started, state_on, told_world, unmounted, weakened, world_of, world_valid}
 use Rattle.tsd_words.specs.declared.status.Status.TheVariants as status
-use Rattle.fs_trees.specs.declared.ask.ShellKind.{ShellKind}
-use Rattle.fs_port.specs.Files.{FilesView}
-use Rattle.shell_text.specs.declared.file_ask.FileAsk.{FileAsk}
-use Rattle.serving.specs.Input.{Spelling}
-use Rattle.serving.specs.Ran.{ByStatus, Moments, Taking}
-use Rattle.serving.specs.Seen.{IsLeftInRun}
-use Rattle.tsd_core.specs.Core.{Core, state_on, told_world}
-use Rattle.tsd_core.specs.Core.{IsCoreAt}
-use Rattle.shell_server.specs.Shell.{IsLeftOf, resting, shell_service, unmounted}
-use Rattle.image_shell.specs.Served.{IsAsItWas, IsRootDenied, IsNotServed, IsShellJudged, NoAskServed, ShellEnds, ShellRan, level_at}
-use Rattle.image_shell.specs.FromCore.{EndsFrom, IsAdmitted, IsAsAtStart, IsAtStart, NoAskServedFrom, RanFrom}
+use Rattle.serving.proofs.Still.{still_before}
+use Rattle.serving.specs.Runs.{texts}
 use Rattle.image_shell.proofs.FromLaws.{first_moment, seen_before}
 
 -- ---- an image that was opened
@@ -46,12 +25,7 @@ judged_start image root cap start (status.RootDenied attained) is good may = (go
 judged_start image root cap start (status.NotImage why) is good may = absurd may
 judged_start image root cap start status.DeviceFault is good may = tt
 judged_start image root cap start status.NoMemory is good may = tt
-judged_start image root cap start status.Done is good may = (good, ap (λ (w : World). level_at w root cap) (sym is) ∙ may)
-judged_start image root cap start status.Usage is good may = (good, ap (λ (w : World). level_at w root cap) (sym is) ∙ may)
-judged_start image root cap start status.SourceFault is good may = (good, ap (λ (w : World). level_at w root cap) (sym is) ∙ may)
-judged_start image root cap start status.PutFault is good may = (good, ap (λ (w : World). level_at w root cap) (sym is) ∙ may)
-judged_start image root cap start status.TooLong is good may = (good, ap (λ (w : World). level_at w root cap) (sym is) ∙ may)
-judged_start image root cap start status.Truncated is good may = (good, ap (λ (w : World). level_at w root cap) (sym is) ∙ may)
+judged_start image root cap start r is good may = (good, ap (λ (w : World). level_at w root cap) (sym is) ∙ may)
 
 -- ---- one that wasn't
 
@@ -59,13 +33,7 @@ pub not_served_by : (r : Status) → IsUnopened r → IsNotServed r
 not_served_by (status.NotImage why) h = tt
 not_served_by status.DeviceFault h = tt
 not_served_by status.NoMemory h = tt
-not_served_by (status.RootDenied attained) h = absurd h
-not_served_by status.Done h = absurd h
-not_served_by status.Usage h = absurd h
-not_served_by status.SourceFault h = absurd h
-not_served_by status.PutFault h = absurd h
-not_served_by status.TooLong h = absurd h
-not_served_by status.Truncated h = absurd h
+not_served_by r h = absurd h
 
 pub ran_unopened : (r : Status) (kind : ShellKind) (p : Spelling FileAsk) (root : ℕ) (cap : Cap) (limit : ℕ) (source : Taking) (told same : Type 0) (old new : View)
     → IsUnopened r → source.came [] → source.untouched → (told → new.sent ≡ old.sent) → (told → IsFirm old → LeavesOnly old new (λ x s. StandAlike old.reads x × (s ≡ old.sent))) → ShellRan r kind p root cap limit source (record { tells = told; untouched = same; old = old; new = new })
@@ -82,26 +50,38 @@ ran_unopened r kind p root cap limit source told same old new why came_in untouc
   });
 }
 
+pub unopened_faults : {T : Type 0} (why : Status) (n : ℕ) (old new : View) → IsUnopened why → new.put_faults ≡ old.put_faults → CountsFaultOf {T = T} status.DeviceFault (Err why) old.faults new.faults → TellsFaults why n n old new
+unopened_faults why n old new h put counts = record {
+  source_fault = λ e. absurd (subst IsUnopened e h);
+  no_source_fault = λ other. refl;
+  port = record { device_fault = λ e. counts.0 (ap Err e); put_fault = λ e. absurd (subst IsUnopened e h); no_device_fault = λ other. counts.1 (λ e. other (cc)); no_put_fault = λ other. put };
+}
+
+-- nothing was called
+pub idle_moments : (v : View) → IsSound v → IsFirm v → LeavesOnly v v (λ x s. StandAlike v.reads x × (s ≡ v.sent))
+idle_moments v sound firm = started v (λ x s. StandAlike v.reads x × (s ≡ v.sent)) sound
+    (λ x s left. (subst (λ (y : Image). StandAlike v.reads y) (sym (firm_image v firm x s left)) (λ w. (λ is. is, λ is. is)), left.1))
+
+pub idle_untouched : (v : View) → IsUntouched v v
+idle_untouched v = record { writes = refl; reads = refl }
+
+pub idle_opened : (v : View) → OpensNoMore v v
+idle_opened v = record { most = omega arith; quiet = λ quiet. omega arith }
+
+pub idle_behind : (v : View) → IsSound v → IsFirm v → LeavesBehind v v
+idle_behind v sound firm = part_stays (behind (size_of_image v.reads)) v sound firm
+
+pub ruleset idle = (idle_untouched, idle_opened, idle_behind, spared_start)
+
 -- nothing was begun: no memory was found
 pub ran_unstarted : (kind : ShellKind) (p : Spelling FileAsk) (root : ℕ) (cap : Cap) (limit : ℕ) (source : Taking) (told same : Type 0) (v : View) → (told → IsSound v) → source.came [] → source.untouched
     → ShellRan status.NoMemory kind p root cap limit source (record { tells = told; untouched = same; old = v; new = v })
-ran_unstarted kind p root cap limit source told same v sound came_in untouched = record {
-  bytes = [];
-  came_in = came_in;
-  asked = [];
-  these = inl (record {
-    why = tt;
-    untouched = untouched;
-    none = refl;
-    sent = λ t. refl;
-    alike = λ t firm. started v (λ x s. IsAsItWas status.NoMemory (unmounted kind root cap) v.reads x × (s ≡ v.sent)) (sound t)
-        (λ x s left. (inl (subst (λ (y : Image). StandAlike v.reads y) (sym (firm_image v firm x s left)) (λ w. (λ is. is, λ is. is))), left.1));
-  });
-}
+ran_unstarted kind p root cap limit source told same v sound came_in untouched =
+    ran_unopened status.NoMemory kind p root cap limit source told same v v tt came_in untouched (λ t. refl) (λ t firm. idle_moments v (sound t) firm)
 
 -- ---- the whole
 
-alike_of : (old x : Image) → IsGood old → Stands x (world_of old) → StandAlike old x
+pub alike_of : (old x : Image) → IsGood old → Stands x (world_of old) → StandAlike old x
 alike_of old x good stands w = (λ s. record { good = stands.good; world = s.world ∙ stands.world }, λ s. record { good = good; world = s.world ∙ sym stands.world })
 
 stands_by : (old x : Image) → IsGood old → StandAlike old x → Stands x (world_of old)
@@ -149,6 +129,7 @@ module _ (r : Status) (kind : ShellKind) (p : Spelling FileAsk) (root : ℕ) (ca
             (subst (λ (b : List ℕ). LeavesOnly mid new (IsLeftInRun k (new.left old.clock) ends.first b asked)) (sent t) (ends.any_moment old.clock clock)) (λ x s acked. acked);
         seen = seen_before k (new.left old.clock) ends.first mid.sent old.sent asked new.sent (sent t) (ends.seen old.clock clock);
         all_seen = λ fine. ends.all_seen fine old.clock clock;
+        still = λ firm cut more. let s = ends.seen old.clock clock in still_before old mid new (StandAlike old.reads) (texts s.answers ++ s.front) (sent t) s.sent (any t firm) more (ends.still cut (λ e. more (e ∙ sent t)));
         done = ends.done;
       }
 

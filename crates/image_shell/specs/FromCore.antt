@@ -1,8 +1,8 @@
 -- A run of the shell from a core that was opened, by its steps: the level, the session, mounting, and the loop.
 use Rattle.std.specs.Prelude.{◌≡◌, ◌≢◌, ◌⊎◌, ℕ, ◌≤◌, Bool, true, false, List, [], Result}
-use Rattle.std.specs.Prelude.{Err, OnOk, IfErr, IsTrue, None, ⊤}
+use Rattle.std.specs.Prelude.{Err, OnOk, IfErr, IsTrue, None, length, ⊤}
 use Rattle.tsd_model.specs.World.{World}
-use Rattle.tsd_model.specs.Sessions.{Fits, is_open}
+use Rattle.tsd_model.specs.Sessions.{Fits, Sessions, is_open}
 use Rattle.tsd_model.specs.Valid.{IsValid}
 use Rattle.tsd_model.specs.declared.caps.Cap.{Cap}
 use Rattle.tsd_model.specs.declared.requests.Level.{Level}
@@ -21,6 +21,7 @@ use Rattle.fs_port.specs.Files.{FilesView, OnAnswer}
 use Rattle.shell_text.specs.declared.file_ask.FileAsk.{FileAsk}
 use Rattle.serving.specs.Handling.{FitsDevice}
 use Rattle.serving.specs.Input.{Spelling}
+use Rattle.serving.specs.Prompt.{StopsBySending}
 use Rattle.serving.specs.Ran.{AskedBy, ByStatus, Moments, Taking}
 use Rattle.serving.specs.Seen.{IsLeftInRun, IsSeenRun}
 use Rattle.tsd_core.specs.Core.{Core, IsCoreAt, IsCoreReady, sessions_of, told_world}
@@ -39,16 +40,22 @@ pub record IsAtStart (start : World) (c : Core) (v : View) : Type 0 where
   pub valid : IsValid start
   pub fits : Fits start (sessions_of c)
 
--- Session 1 was begun, and no other is open. The world stays, and the device wasn't called unless it failed.
-pub record IsSessionBegun {X : Type 0} (told : Type 0) (start : World) (c0 c1 : Core) (v w : View)
+-- this session is open, and those that were, and no other
+pub record IsOneMore (session : ℕ) (v u : Sessions) : Type 0 where
+  pub this : IsTrue (is_open u session)
+  pub others : (n : ℕ) → IsTrue (is_open v n) → IsTrue (is_open u n)
+  pub only : (n : ℕ) → IsTrue (is_open u n) → (n ≡ session) ⊎ IsTrue (is_open v n)
+  pub count : length u ≡ length v
+
+-- This session was begun, beside those that were open. The world stays, and the device wasn't called unless it failed.
+pub record IsSessionBegun {X : Type 0} (told : Type 0) (session : ℕ) (c0 c1 : Core) (v w : View)
     (result : Result X Status) : Type 0 where
   pub ready : OnOk result (IsCoreReady c1)
-  pub begun : OnOk result (IsTrue (is_open (sessions_of c1) 1))
-  pub others : OnOk result ((s : ℕ) → s ≢ 1 → is_open (sessions_of c1) s ≡ false)
+  pub begun : OnOk result (IsOneMore session (sessions_of c0) (sessions_of c1))
   pub like : OnOk result (AreLike (told_world c1) (told_world c0))
-  pub at : told → OnOk result (IsAtStart start c1 w)
+  pub at : told → OnOk result (IsAtStart (world_of v.reads) c1 w)
   pub sent : told → w.sent ≡ v.sent
-  pub any_moment : told → LeavesOnly v w (λ x f. Stands x start × (f ≡ v.sent))
+  pub any_moment : told → LeavesOnly v w (λ x f. Stands x (world_of v.reads) × (f ≡ v.sent))
   pub behind : KeepsBehind told c0 c1 v w
   pub stops : IfErr result (λ why. (why ≡ status.DeviceFault) ⊎ (why ≡ status.NoMemory))
   pub clock : v.clock ≤ w.clock
@@ -76,9 +83,9 @@ is_below_write level.Write = false
 is_below_write l = true
 
 -- the disk failed
-abbrev pub is_device : FsRefusal → Bool
-is_device no.Device = true
-is_device e = false
+abbrev pub is_device : {X : Type 0} → Result X FsRefusal → Bool
+is_device (Err no.Device) = true
+is_device r = false
 
 -- ---- the run
 
@@ -89,13 +96,6 @@ IsAdmitted root cap start (status.NotImage why) = ⊥
 IsAdmitted root cap start status.DeviceFault = ⊤
 IsAdmitted root cap start status.NoMemory = ⊤
 IsAdmitted root cap start r = level_at start root cap ≡ level.Write
-
--- it was let in, and the session was begun
-abbrev pub IsLetIn : Status → Type 0
-IsLetIn (status.RootDenied attained) = ⊥
-IsLetIn (status.NotImage why) = ⊥
-IsLetIn status.NoMemory = ⊥
-IsLetIn r = ⊤
 
 -- the image stands for the world at the start, or where the device failed, for one that mounting may leave of it
 abbrev pub IsAsAtStart : Status → FilesView → World → Image → Type 0
@@ -125,6 +125,7 @@ pub record EndsFrom (r : Status) (f : FilesView) (start : World) (old new : View
   pub seen : (t : ℕ) → t ≤ old.clock → IsSeenRun (shell_service start) (new.left t) first old.sent asked new.sent
   pub all_seen : r ≢ status.DeviceFault → (t : ℕ) (le : t ≤ old.clock)
       → (shell_service start).acked (seen t le).front ≡ 0
+  pub still : StopsBySending r old new
   pub done : r ≡ status.Done → IsAtEase new final.world
 
 -- Bytes that came in, the asks that they spell, and how the run over these ended, where the port tells.

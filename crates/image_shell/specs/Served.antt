@@ -20,7 +20,7 @@ use Rattle.fs_trees.specs.declared.ask.ShellKind.{ShellKind}
 use Rattle.fs_port.specs.Files.{FilesView, OnlyDeletes}
 use Rattle.shell_text.specs.declared.file_ask.FileAsk.{FileAsk}
 use Rattle.serving.specs.Input.{Spelling}
-use Rattle.serving.specs.Prompt.{Mark, Promptly}
+use Rattle.serving.specs.Prompt.{Mark, Promptly, StopsBySending}
 use Rattle.serving.specs.Ran.{AskedBy, ByStatus, Moments, Taking}
 use Rattle.serving.specs.Seen.{IsLeftInRun, IsSeenRun}
 use Rattle.image_runs.specs.Opened.{IsJudged}
@@ -91,7 +91,8 @@ pub record NoAskServed (r : Status) (f : FilesView) (source : Taking) (port : Mo
 -- How a run over these asks ended that began in that state, over an image that stood for a world: what was sent; where
 -- the disk was firm, what a crash at any moment may have left, opening and mounting included: within an ask, the tree
 -- before it or the one that its very answer tells, by a state that was seen, so that an ask that is refused changes
--- nothing at any moment; in which images the states of the run rested; and after Done, what the disk is.
+-- nothing at any moment; in which images the states of the run rested; that nothing is done behind the last answer of
+-- an input that was cut short; and after Done, what the disk is.
 pub record ShellEnds (r : Status) (f : FilesView) (old new : View) (asked : List FileAsk) : Type 0 where
   pub good : IsGood old.reads
   pub first : ShellState
@@ -104,6 +105,7 @@ pub record ShellEnds (r : Status) (f : FilesView) (old new : View) (asked : List
       (IsLeftInRun (shell_service (world_of old.reads)) (new.left old.clock) first old.sent asked)
   pub seen : IsSeenRun (shell_service (world_of old.reads)) (new.left old.clock) first old.sent asked new.sent
   pub all_seen : r ≢ status.DeviceFault → (shell_service (world_of old.reads)).acked seen.front ≡ 0
+  pub still : IsFirm old → StopsBySending r old new
   pub done : r ≡ status.Done → IsAtEase new final.world
 
 -- Bytes that came in, the asks that they spell, and how the run over these ended, where the port tells.

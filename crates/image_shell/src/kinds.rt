@@ -14,6 +14,7 @@ ghost use Rattle.image_shell.specs.Served.{IsNotServed, IsOpeningAlone, IsPrompt
 ghost use Rattle.image_shell.specs.Served.{ShellRan};
 
 use crate::image::serve_shell_image;
+use crate::opened::SESSION;
 use chain_fs::ChainFs;
 use image_device::{Port, Source};
 use inode_fs::InodeFs;
@@ -25,11 +26,9 @@ use std::alloc::Global;
 use tsd_model::Cap;
 use tsd_words::Status;
 
-/// The session as which the shell asks: the only one.
-const SESSION: u32 = 1;
-
 /// Opens an image and serves the tree of inodes until the input ends, as `serve_shell_image` does. A protocol says how
 /// asks are spelled: as lines or as frames.
+#[tactic(auto, using(crate::proofs::StartLaws::idle))]
 pub fn serve_inode_image<M: Protocol<Request = FileAsk>, S: Source, P: Port>(
     alloc: Global,
     root: u32,
@@ -60,11 +59,13 @@ pub fn serve_inode_image<M: Protocol<Request = FileAsk>, S: Source, P: Port>(
     /// tree doesn't name it says nothing.
     /// promise: **Where no tree is there**, a crash leaves the world as it is then, but while an empty tree is made in
     /// place of what is there: a tree of another layout stays as it is.
-    /// promise: Each state of the run, but for the last one where the device failed, rested in an image that a crash may
-    /// have left with exactly the answers before it sent: there the world is valid and tidy. So the numbers of free
+    /// promise: Each state of the run, but for the last one where the device failed, rested in an image that a crash
+    /// may have left with exactly the answers before it sent: there the world is valid and tidy. So the numbers of free
     /// blocks and of held pointers in the answers are those of a world that was there.
     /// promise: Where no ask was served, nothing was sent, and a crash leaves the world as it was; where the device
     /// failed while a tree was mounted, the tree under the root.
+    /// promise: Where the input was cut short and an answer was sent, nothing is done behind the last one: once all was
+    /// sent that is sent in the end, a crash leaves the disk as it reads in the end.
     /// promise: After Done nothing is loose, the disk stands for the last world, and nothing is left to be done.
     ensures ran { ShellRan result kind.Inode M.spelling root cap.now limit
         (taking S.told S.taken S.left_bytes S.ended source.old source.new) (moments P.told P.view port.old port.new) }
@@ -102,6 +103,7 @@ pub fn serve_inode_image<M: Protocol<Request = FileAsk>, S: Source, P: Port>(
 }
 
 /// Opens an image and serves the tree of chains until the input ends, as `serve_shell_image` does.
+#[tactic(auto, using(crate::proofs::StartLaws::idle))]
 pub fn serve_chain_image<M: Protocol<Request = FileAsk>, S: Source, P: Port>(
     alloc: Global,
     root: u32,

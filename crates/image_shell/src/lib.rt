@@ -25,4 +25,4 @@ mod opened;
 pub use image::serve_shell_image;
 pub use kinds::{serve_chain_image, serve_inode_image};
 pub use laws::what_a_crash_left_is_mounted;
-pub use opened::{begin_on, mount_on, root_level, serve_begun, serve_opened};
+pub use opened::{begin_session, is_below_write, mount_on, root_level, serve_opened};

@@ -1,7 +1,8 @@
 -- The least of what passes a test, or that nothing does.
-use Rattle.std.proofs.Common.{◌≡◌, ℕ, zero, suc, ◌<◌, true, false, inl, inr, Bool, ◌⊎◌, ◌&&◌, ◌||◌, nat_lt, List, [], ◌∷◌, refl, sym, ◌∙◌, ap, subst, arith}
+use Rattle.std.proofs.Common.{◌≡◌, ℕ, zero, suc, ◌<◌, true, false, inl, inr, Bool, ◌⊎◌, ◌&&◌, ◌||◌, nat_lt, List, [], ◌∷◌, sym, ◌∙◌, ap, subst, arith}
 use Rattle.std.proofs.Common.{Option}
 use Rattle.image_world.proofs.Common.{cases_Bool, cases_eq, cases_lt, and_parts, and_from, both_ways, false_from_ne_true, nat_tests, is_pair, holds, pair_lt, is_below_first, is_rising, is_pair_ext, lt_trans, lt_itself, above_first, holds_first, is_at, IsRepeated, is_at_same, is_at_some}
+use Rattle.tsd_model.proofs.ValueLaws.{or_true}
 
 -- ---- numbers
 pub record Least (test : ℕ → Bool) (n : ℕ) : Type 0 where
@@ -50,7 +51,7 @@ least_pair P decides (e ∷ es) rising = elim (decides e) [
     ])
     | inr found ↦ inr (record {
       pair = found.pair;
-      held = rw found.held (either (is_pair found.pair.0 found.pair.1 e));
+      held = rw found.held (or_true (is_pair found.pair.0 found.pair.1 e));
       has = found.has;
       least = λ f held bad. elim (cases_Bool (is_pair f.0 f.1 e)) [
         | inl same ↦ absurd (fails (subst P (sym (is_pair_ext f.0 f.1 e same)) bad))
@@ -65,10 +66,6 @@ least_pair P decides (e ∷ es) rising = elim (decides e) [
 
     later : (f : ℕ × ℕ) → holds (e ∷ es) f.0 f.1 ≡ true → is_pair f.0 f.1 e ≡ false → holds es f.0 f.1 ≡ true
     later f held other = rw other at held
-
-    either : (t : Bool) → (t || true) ≡ true
-    either true = refl
-    either false = refl
 
 -- ---- a pair in two slots
 pub repeated_or_not : (n : ℕ) (slot : ℕ → Option (ℕ × ℕ)) (e : ℕ × ℕ) → IsRepeated n slot e ⊎ (IsRepeated n slot e → ⊥)

@@ -6,9 +6,7 @@ use Rattle.graph_laws.specs.Counts.{stays}
 use Rattle.graph_laws.proofs.DoomedLaws.{doomed_least, doomed_from}
 use Rattle.graph_laws.proofs.SettleLaws.{settle_same, valid_is_settled, none_doomed}
 use Rattle.inode_changes.proofs.MakingLaws.{fan_is}
-
-clash : (t : Bool) → t ≡ true → t ≡ false → ⊥
-clash t p q = cc
+use Rattle.tsd_model.proofs.ValueLaws.{clash}
 
 module _ (root : ℕ) (first : World) (valid : IsValid first) (d i : ℕ) (shared fresh : List ℕ) (w : World) (m : Making root first d i shared fresh w) where
   abbrev left : World

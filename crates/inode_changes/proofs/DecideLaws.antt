@@ -10,9 +10,7 @@ use Rattle.inode_changes.proofs.ListingLaws.{ascending_with, named_with, small_w
 use Rattle.inode_changes.proofs.SpotLaws.{Spot, live, within, order, small, small_block, reads_as, child_held}
 use Rattle.inode_changes.proofs.RemovalLaws.{there_with, own_pair, own_inode}
 use Rattle.inode_changes.proofs.MakingLaws.{fan_has, tree_same, new_unnamed, primary_now, dir_now}
-
-clash : (t : Bool) → t ≡ true → t ≡ false → ⊥
-clash t p q = cc
+use Rattle.tsd_model.proofs.ValueLaws.{clash}
 
 has_times : (b : ℕ) (xs : List ℕ) → 1 ≤ times b xs → has_number xs b ≡ true
 has_times b xs h = elim (has_number xs b) as (λ t. has_number xs b ≡ t → t ≡ true) [

@@ -1,9 +1,7 @@
 -- An entry of a directory in a tree is put in another's place: which blocks and pairs the tree names then.
 use Rattle.std.proofs.Common.{◌≡◌, ℕ, zero, suc, ◌+◌, ◌≤◌, Bool, true, false, not, cond, ◌==◌, List, [], ◌∷◌, ◌++◌, refl, sym, ◌∙◌, ap, arith, inl, inr, ◌⊎◌}
 use Rattle.inode_changes.proofs.Common.{and_parts, or_cases, or_left, or_right, eqb-true, not-true, map, list_all, has_number, are_apart, holds, is_pair, Name, Path, none, file, dir, nothing, a_file, a_dir, entry, at, is_there, with_entry, with_child, with_at, InodeNode, InodeEntries, inode_blocks, data_blocks, named_pairs, number_left, number_right, held_append, in_append, node_blocks, from_inode, with_last, times, times_none, none_times, times-with_entry, times-with_at, node_data, data-with_entry, data-with_at, node_pairs, namer, pair_times, pair_times_none, none_pair_times, pairs-with_entry, pairs-with_at}
-
-clash : (t : Bool) → t ≡ true → t ≡ false → ⊥
-clash t p q = cc
+use Rattle.tsd_model.proofs.ValueLaws.{clash}
 
 pub some_times : (b : ℕ) (ys : List ℕ) → has_number ys b ≡ true → 1 ≤ times b ys
 some_times b ys m = at_least (times b ys) (λ e. clash (has_number ys b) m (none_times b ys e))

@@ -1,12 +1,10 @@
 -- A file whose blocks were written: its inode is written, and it is read back.
-use Rattle.std.proofs.Common.{◌≡◌, ℕ, zero, suc, ◌+◌, ◌-◌, ◌*◌, ◌^◌, ◌<◌, ◌≤◌, Bool, true, false, not, ◌==◌, nat_lt, List, [], ◌∷◌, ◌++◌, length, refl, sym, ◌∙◌, ap, subst, arith, inl, inr, ◌⊎◌, length-append, Option, Some, None, Result, Ok}
+use Rattle.std.proofs.Common.{◌≡◌, ℕ, zero, suc, ◌+◌, ◌-◌, ◌*◌, ◌^◌, ◌<◌, ◌≤◌, true, false, not, ◌==◌, nat_lt, List, [], ◌∷◌, ◌++◌, length, refl, sym, ◌∙◌, ap, subst, arith, inl, inr, ◌⊎◌, length-append, Option, Some, None, Result, Ok}
 use Rattle.inode_changes.proofs.Common.{and_parts, and_from, or_cases, or_left, or_right, eq-eqb, not-true, false_from_ne_true, cases_lt, nat_tests, length-take, length-drop, take_all, take-append-drop, take-append-le, append_assoc, div_ceil_times, flat_map-append, mul-le-mul_right, take-append_seam, take, drop, flat_map, replicate, unwrap_or, is_some, is_none, count_by, IfSome, div_ceil, option_and_then, little_bytes, block_len, World, contents, is_live, free_count, has_number, are_apart, IsValid, filled, written, contents-other, live-with_contents, live_below, regular, data_room, inode_in, inode_bytes, inode_at, file_bytes, flat_map_same, in_append, DiskView, FsRefusal, IsValidNow, Stays, Runs, Client, write_by, MayWrite, refusal_before, Steps, Leads, Went, no_room_in, clash_free_live, runs_more, runs_step, then_runs, written_here, may_after, bytes_at, are_small, reads_back, Making, Content, RootReaches, shared_of, shared_count, new_bytes, new_count, all_count, FitsInode, IsFor, Stage, HoldBytes, AsideWith, Wrote, AsideOf, AsideTaking, Took, Shared, joined, IsFilledFile, Filled}
 use Rattle.inode_changes.proofs.FillLaws.{made_by_one, stop_at_one}
 use Rattle.inode_changes.proofs.RoomLaws.{refused_then, room_then}
 use Rattle.inode_changes.proofs.PartLaws.{shares_many, small_size}
-
-clash : (t : Bool) → t ≡ true → t ≡ false → ⊥
-clash t p q = cc
+use Rattle.tsd_model.proofs.ValueLaws.{clash}
 
 -- ---- the bytes of its blocks
 

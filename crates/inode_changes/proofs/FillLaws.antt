@@ -1,15 +1,9 @@
 -- The functions that make a file, a request at a time.
-use Rattle.std.proofs.Common.{◌≡◌, ℕ, zero, suc, ◌+◌, ◌-◌, ◌*◌, arith, ◌<◌, ◌≤◌, Bool, true, false, not, ◌||◌, ◌==◌, List, [], ◌∷◌, length, refl, sym, ◌∙◌, ap, subst, inl, inr, ◌⊎◌, Some, Result, Ok}
+use Rattle.std.proofs.Common.{◌≡◌, ℕ, zero, suc, ◌+◌, ◌-◌, ◌*◌, arith, ◌<◌, ◌≤◌, true, false, not, ◌||◌, ◌==◌, List, [], ◌∷◌, length, refl, sym, ◌∙◌, ap, subst, inl, inr, ◌⊎◌, Some, Result, Ok}
 use Rattle.inode_changes.proofs.Common.{and_parts, or_left, or_right, eq-eqb, not-true, take, drop, slice_index_or, length-drop, block_len, World, contents, is_live, has_number, are_apart, holds, chosen, filled, written, At, contents-other, live-with_contents, free_may, live-new_blocks, holds-new_blocks, FsRefusal, DiskView, IsDiskSound, state_of, IsValidNow, Stays, Client, shown_at, write_by, alloc_by, MayWrite, no_look, Leads, Went, Steps, taken, Runs, runs_look, runs_step, then_runs, chosen_apart, chosen_free, lives_new, holds_new, version_new, records_new, may_after, written_here, Making, Stage, IsAside, HoldBytes, AsideWith, MadeWith, WroteIn, Wrote, AsideTaking, Took}
 use Rattle.fs_laws.proofs.WayLaws.{ways_lead_on}
 use Rattle.inode_changes.proofs.MakingLaws.{fan_has, tree_same, making_written, making_taken}
-
-clash : (t : Bool) → t ≡ true → t ≡ false → ⊥
-clash t p q = cc
-
-neither : (s t : Bool) → (s || t) ≡ false → (s ≡ false) × (t ≡ false)
-neither true t e = absurd (cc)
-neither false t e = (refl, e)
+use Rattle.tsd_model.proofs.ValueLaws.{clash, neither}
 
 -- ---- a file in the making stays aside
 

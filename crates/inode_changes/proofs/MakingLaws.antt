@@ -3,13 +3,7 @@ use Rattle.std.proofs.Common.{◌≡◌, ℕ, ◌<◌, Bool, true, false, not, �
 use Rattle.inode_changes.proofs.Common.{and_parts, and_from, or_cases, or_left, or_right, eq-eqb, eqb-true, false_from_ne_true, is_some, is_none, map, block_len, World, contents, is_live, is_free, has_number, are_apart, holds, is_pair, IsValid, filled, with_new_blocks, written, holds-with_pair, contents-other, live-with_contents, free_may, live-new_blocks, is_there, inode_tree, Named, named_at, is_under, is_inside, IsUnder, SameTree, read_from_named, inodes_under_root, outside_twice, each_under, root_under, target_under, number_right, Client, write_by, alloc_by, link_by, Leads, pointed, clash_free_live, contents_off, lives_new, holds_new, version_new, records_new, Making}
 use Rattle.fs_trees.specs.declared.ask.ShellKind.TheVariants as kind
 use Rattle.fs_client.proofs.TrimLaws.{named_live, keeps_both}
-
-clash : (t : Bool) → t ≡ true → t ≡ false → ⊥
-clash t p q = cc
-
-neither : (s t : Bool) → (s || t) ≡ false → (s ≡ false) × (t ≡ false)
-neither true t e = absurd (cc)
-neither false t e = (refl, e)
+use Rattle.tsd_model.proofs.ValueLaws.{clash, neither}
 
 -- ---- pairs from one block
 

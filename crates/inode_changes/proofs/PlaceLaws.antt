@@ -1,12 +1,9 @@
 -- What stands at the lookup of a path.
 use Rattle.std.proofs.Common.{◌≡◌, ℕ, suc, true, false, ◌&&◌, nat_lt, List, [], ◌∷◌, ◌++◌, length, refl, sym, ◌∙◌, ap, Some, None, Ok}
-use Rattle.inode_changes.proofs.Common.{map, is_some, Name, Path, nothing, a_file, a_dir, child, at, is_there, names_in, Entry, entry_names, Inode, directory, regular, InodeNode, inode_at, node_at, inodes_under, tree_entries, inode_tree, directory_of, read_named, DiskView, IsValidNow, Client, MayWrite, inode_of, is_directory, blocks_said, entries_said, Lookup, tree_under, IsLookup, named_block, block_said, file_node, dir_node, child_node, a_level, may_read, has_inode, child_there, dir_said, first_names, tree_names}
+use Rattle.inode_changes.proofs.Common.{map, is_some, Path, nothing, a_file, a_dir, child, at, is_there, names_in, Entry, entry_names, Inode, directory, regular, InodeNode, inode_at, node_at, inodes_under, tree_entries, inode_tree, directory_of, read_named, DiskView, IsValidNow, Client, MayWrite, inode_of, is_directory, blocks_said, entries_said, Lookup, tree_under, IsLookup, named_block, block_said, file_node, dir_node, child_node, a_level, may_read, has_inode, child_there, dir_said, first_names, tree_names}
 use Rattle.fs_trees.specs.InodeTree as inodes
 use Rattle.fs_laws.proofs.MapLaws.{tree-at}
-
-at_last : (p : Path) (n : Name) (x : InodeNode) → at x (p ++ n ∷ []) ≡ child n (at x p)
-at_last [] n x = refl
-at_last (m ∷ ms) n x = at_last ms n (child m x)
+use Rattle.fs_laws.proofs.AtLaws.{at_last}
 
 module _ (c : Client) (v : DiskView) (path : Path) (lookup : Lookup) (is_dir : is_directory (inode_of lookup.directory.inode) ≡ true) (i : IsLookup c v path lookup) where
   abbrev es : List Entry

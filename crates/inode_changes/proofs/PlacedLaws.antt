@@ -1,6 +1,6 @@
 -- A file that was read at the lookup of a path.
 use Rattle.std.proofs.Common.{◌≡◌, ℕ, ◌+◌, ◌<◌, true, [], List, ◌∷◌, ◌++◌, length, refl, sym, ◌∙◌, ap, subst, arith, false, Option, Some, None, Ok, length-append}
-use Rattle.inode_changes.proofs.Common.{block_len, Name, Path, is_path, free_count, child, at, is_there, is_dir, need_of, block_named, InodeNode, inode_at, inodes_under, inode_tree, RoomNeed, directory_of, FsRefusal, HoldsWrite, DiskView, IsDiskSound, state_of, IsValidNow, Stays, Client, Looked, OnlyLooks, may_again, looks_as, then_looks, inode_of, block_len_of, is_directory, entries_said, entry_said, Found, Lookup, MayAsk, tree_under, mounted_by, StandsAtPath, IsLookup, IsFurther, lookup_refusal, refused_on, further, DirectoryHasRoom, IsEntryRead, Grows}
+use Rattle.inode_changes.proofs.Common.{block_len, Name, Path, is_path, free_count, child, at, is_there, is_dir, need_of, block_named, inode_at, inodes_under, inode_tree, RoomNeed, directory_of, FsRefusal, HoldsWrite, DiskView, IsDiskSound, state_of, IsValidNow, Stays, Client, Looked, OnlyLooks, may_again, looks_as, then_looks, inode_of, block_len_of, is_directory, entries_said, entry_said, Found, Lookup, MayAsk, tree_under, mounted_by, StandsAtPath, IsLookup, IsFurther, lookup_refusal, refused_on, further, DirectoryHasRoom, IsEntryRead, Grows}
 use Rattle.fs_trees.specs.Inode as tree
 use Rattle.fs_trees.specs.declared.ask.ShellAsk.TheVariants as ask
 use Rattle.fs_trees.specs.declared.ask.ShellKind.TheVariants as kind
@@ -10,6 +10,7 @@ use Rattle.inode_layout.specs.declared.inode.Inode as layout
 use Rattle.inode_changes.proofs.EntryLaws.{entry_of}
 use Rattle.inode_changes.proofs.AppendLaws.{append_lost, append_missing, append_dir}
 use Rattle.inode_changes.proofs.GrowLaws.{root_is_dir}
+use Rattle.fs_laws.proofs.AtLaws.{at_last}
 
 entry_is : (n : Name) (i : tree.Inode) → is_directory i ≡ true → entry_said n i ≡ block_named n (entries_said i)
 entry_is n (tree.directory es) h = refl
@@ -21,10 +22,6 @@ room_for_old i n b is_dir some none = absurd (never (block_named n (entries_said
   where
     never : (o : Option ℕ) → o ≡ Some b → o ≡ None → ⊥
     never o p q = cc
-
-at_last : (p : Path) (n : Name) (x : InodeNode) → at x (p ++ n ∷ []) ≡ child n (at x p)
-at_last [] n x = refl
-at_last (m ∷ ms) n x = at_last ms n (child m x)
 
 module _ (c : Client) (mid : DiskView) (path : Path) (lookup : Lookup) (is_dir : is_directory (inode_of lookup.directory.inode) ≡ true) (i : IsLookup c mid path lookup) where
   -- what stands there is what the directory names so

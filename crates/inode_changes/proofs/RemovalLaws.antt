@@ -1,5 +1,5 @@
 -- A directory's entry is taken out, and what it named let go of.
-use Rattle.std.proofs.Common.{◌≡◌, ℕ, suc, ◌<◌, Bool, true, false, not, ◌&&◌, ◌==◌, List, [], ◌∷◌, ◌++◌, refl, sym, ◌∙◌, ap, subst, arith, inl, inr, ◌⊎◌, Some}
+use Rattle.std.proofs.Common.{◌≡◌, ℕ, suc, ◌<◌, true, false, not, ◌&&◌, ◌==◌, List, [], ◌∷◌, ◌++◌, refl, sym, ◌∙◌, ap, subst, arith, inl, inr, ◌⊎◌, Some}
 use Rattle.inode_changes.proofs.Common.{and_parts, and_from, or_left, eq-eqb, list_all, option_and_then, block_len, World, contents, is_live, is_free, has_number, are_apart, holds, is_pair, IsValid, filled, written, Name, Path, path_max, Tree, nothing, a_file, a_dir, entry, is_there, with_entry, with_child, with_at, Entry, directory, block_named, inode_in, inode_bytes, without_listed, InodeNode, InodeEntries, tree_of, inode_at, node_at, inode_blocks, data_blocks, named_pairs, inode_tree, named_at, IsTidy, is_under, Keeps, SameTree, read_from_named, number_left, node_blocks, HasRoot, found, under_is, read_named, entry_is_read, entry_is_dropped, with_last, block_at, apart_times, each_under, root_under, target_under, dropped, fewer_pairs, fewer_live, other_pair, written_elsewhere, written_here, written_free, block_is, node_block, named_is_there, entry_pair}
 use Rattle.fs_trees.specs.declared.ask.ShellKind.TheVariants as kind
 use Rattle.fs_laws.proofs.EntryLaws as deciding
@@ -7,9 +7,7 @@ use Rattle.inode_changes.proofs.ExchangeLaws.{Exchange, block_is_at, dir_stays, 
 use Rattle.inode_changes.proofs.TidyLaws.{named_of, named_under, tidy_by_pairs}
 use Rattle.inode_changes.proofs.ListingLaws.{ascending_without, named_without, small_without, length_without}
 use Rattle.inode_changes.proofs.SpotLaws.{Spot, live, within, order, small, reads_as, child_held}
-
-clash : (t : Bool) → t ≡ true → t ≡ false → ⊥
-clash t p q = cc
+use Rattle.tsd_model.proofs.ValueLaws.{clash}
 
 -- the root stays
 pub there_with : (p : Path) (n : Name) (y t : Tree) → is_there t ≡ true → is_there (with_at (p ++ n ∷ []) y t) ≡ true

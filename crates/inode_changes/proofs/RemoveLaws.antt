@@ -1,6 +1,6 @@
 -- A removal, from the entry that was found to the last request.
-use Rattle.std.proofs.Common.{◌≡◌, ℕ, ◌+◌, ◌*◌, ◌<◌, ◌≤◌, true, false, not, ◌&&◌, nat_lt, nat_le, List, [], ◌∷◌, length, refl, sym, ◌∙◌, ap, subst, arith, inl, inr, ◌⊎◌, Option, Some, None, Result, Ok, length-append}
-use Rattle.inode_changes.proofs.Common.{and_from, and_parts, nat_tests, flat_map, list_all, block_len, World, is_live, is_free, free_count, holds, IsValid, is_inside, Keeps, live-with_contents, Name, Path, name_max, is_name_byte, is_reserved, is_name, nothing, at, is_there, names_in, with_at, Entry, entry_bytes, all_named, Inode, directory, block_named, without_listed, inode_bytes, inode_at, inode_tree, named_at, IsTidy, need, need_of, is_under, OthersStay, RoomNeed, directory_of, done, FsRefusal, inodes_under_root, outside_twice, DiskView, IsDiskSound, Stays, Answers, IsEitherTree, LeavesTidyWorld, KeepsRoom, Runs, Client, write_by, unlink_by, MayWrite, Looked, OnlyLooks, may_again, looks_as, then_looks, written, Steps, Leads, Went, dropped, inode_of, is_directory, entries_said, blocks_said, Found, Lookup, MayAsk, tree_under, mounted_by, IsLookup, lookup_refusal, refused_on, runs_look, runs_step, then_runs, as_before, same_room, no_more_room, write_takes, drop_takes, after_is, ask_done, rm_lost, rm_missing, rm_full, rm_none, may_still, held_live, block_long}
+use Rattle.std.proofs.Common.{◌≡◌, ℕ, ◌+◌, ◌*◌, ◌<◌, ◌≤◌, true, false, not, ◌&&◌, nat_lt, List, [], ◌∷◌, length, refl, sym, ◌∙◌, ap, subst, arith, inl, inr, ◌⊎◌, Option, Some, None, Result, Ok, length-append}
+use Rattle.inode_changes.proofs.Common.{and_from, and_parts, flat_map, block_len, World, is_live, is_free, free_count, holds, IsValid, is_inside, Keeps, live-with_contents, Name, Path, is_name, nothing, at, is_there, names_in, with_at, Entry, entry_bytes, all_named, Inode, directory, block_named, without_listed, inode_bytes, inode_at, inode_tree, named_at, IsTidy, need, need_of, is_under, OthersStay, RoomNeed, directory_of, done, FsRefusal, inodes_under_root, outside_twice, DiskView, IsDiskSound, Stays, Answers, IsEitherTree, LeavesTidyWorld, KeepsRoom, Runs, Client, write_by, unlink_by, MayWrite, Looked, OnlyLooks, may_again, looks_as, then_looks, written, Steps, Leads, Went, dropped, inode_of, is_directory, entries_said, blocks_said, Found, Lookup, MayAsk, tree_under, mounted_by, IsLookup, lookup_refusal, refused_on, runs_look, runs_step, then_runs, as_before, same_room, no_more_room, write_takes, drop_takes, after_is, ask_done, rm_lost, rm_missing, rm_full, rm_none, may_still, held_live, block_long}
 use Rattle.fs_trees.specs.declared.ask.ShellAsk.TheVariants as ask
 use Rattle.fs_trees.specs.declared.ask.ShellKind.TheVariants as kind
 use Rattle.fs_trees.specs.declared.refusal.FsRefusal.TheVariants as no
@@ -9,16 +9,9 @@ use Rattle.inode_changes.proofs.SpotLaws.{Spot, spot_of, live, order}
 use Rattle.inode_changes.proofs.ListingLaws.{named_without, length_without}
 use Rattle.inode_changes.proofs.RemovalLaws as removal
 use Rattle.inode_changes.proofs.PlaceLaws.{there_at, entries_at}
+use Rattle.fs_laws.proofs.AtLaws.{name_fits}
 
 -- ---- how long a directory's bytes are
-
-name_fits : (n : Name) → is_name n ≡ true → length n ≤ 28
-name_fits n h =
-    let a = nat_le 1 (length n) in
-    let b = nat_le (length n) name_max in
-    let front = (and_parts (a && b && list_all is_name_byte n) (not (is_reserved n)) h).0 in
-    let short : b ≡ true = (and_parts a b (and_parts (a && b) (list_all is_name_byte n) front).0).1 in
-    grind (arith, nat_tests)
 
 listed_length : (es : List Entry) → all_named es ≡ true → length (flat_map entry_bytes es) ≡ 32 * length es
 listed_length [] h = refl

@@ -2,9 +2,7 @@
 use Rattle.std.proofs.Common.{◌≡◌, ℕ, zero, suc, ◌*◌, ◌≤◌, Bool, true, false, not, List, [], ◌∷◌, length, refl, ◌∙◌, ap, arith}
 use Rattle.inode_changes.proofs.Common.{and_parts, and_from, not-true, take, little_number, has_number, are_apart, numbers}
 use Rattle.inode_changes.proofs.GrownLaws.{in_take}
-
-clash : (t : Bool) → t ≡ true → t ≡ false → ⊥
-clash t p q = cc
+use Rattle.tsd_model.proofs.ValueLaws.{clash}
 
 -- ---- as they stand there
 

@@ -1,7 +1,7 @@
 //! Copies of files.
 
 ghost use Rattle.std.specs.Prelude.{◌≡◌, ◌≤◌, length, false, IsTrue};
-ghost use Rattle.fs_trees.specs.Names.{Path, name_max, is_path};
+ghost use Rattle.fs_trees.specs.Names.{Path, name_max};
 ghost use Rattle.fs_trees.specs.Answer.{done};
 ghost use Rattle.fs_trees.specs.declared.ask.ShellAsk.TheVariants as ask;
 ghost use Rattle.fs_port.specs.Calls.{IsValidNow};
@@ -80,8 +80,6 @@ pub fn copy<K: Blocks>(
     new: &Path,
 ) -> Result<(), FsRefusal>
     requires may { MayAsk K.told client.now (K.view disk.old) }
-    requires named { IsTrue (is_path path.now) }
-    requires new_named { IsTrue (is_path new.now) }
     /// promise (with changes): The answer is the tree's step, and every stop leaves the tree before or after.
     ensures answer { K.told → Answers (mounted_by client.now) (K.view disk.old) (K.view disk.new)
         (ask.Copy path.now new.now) result (λ _ answer. answer ≡ done) }

@@ -1,7 +1,7 @@
 //! New directories.
 
 ghost use Rattle.std.specs.Prelude.{◌≡◌, ◌≢◌, ◌≤◌, ℕ, length, false, None, Some, IsTrue, IfOk, IfErr, OnOk};
-ghost use Rattle.fs_trees.specs.Names.{Path, name_max, is_path};
+ghost use Rattle.fs_trees.specs.Names.{Path, name_max};
 ghost use Rattle.fs_trees.specs.Answer.{done};
 ghost use Rattle.fs_trees.specs.Needs.{need};
 ghost use Rattle.fs_trees.specs.Step.{empty_tree};
@@ -93,7 +93,6 @@ fn add_directory<K: Blocks>(
 #[tactic(none)]
 pub fn make_dir<K: Blocks>(client: &Client, disk: &mut K, path: &Path) -> Result<(), FsRefusal>
     requires may { MayAsk K.told client.now (K.view disk.old) }
-    requires named { IsTrue (is_path path.now) }
     /// promise (with changes): The answer is the tree's step, and every stop leaves the tree before or after.
     ensures answer { K.told → Answers (mounted_by client.now) (K.view disk.old) (K.view disk.new)
         (ask.MakeDir path.now) result (λ _ answer. answer ≡ done) }

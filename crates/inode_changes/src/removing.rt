@@ -1,7 +1,6 @@
 //! Entries that are taken away.
 
-ghost use Rattle.std.specs.Prelude.{◌≡◌, ◌&&◌, nat_lt, length, IsTrue};
-ghost use Rattle.fs_trees.specs.Names.{is_path};
+ghost use Rattle.std.specs.Prelude.{◌≡◌, ◌&&◌, nat_lt, length};
 ghost use Rattle.fs_trees.specs.Answer.{done};
 ghost use Rattle.fs_trees.specs.declared.ask.ShellAsk.TheVariants as ask;
 ghost use Rattle.fs_port.specs.Files.{Answers};
@@ -28,7 +27,6 @@ fn has_entries(inode: &Inode) -> bool
 #[tactic(none)]
 pub fn remove<K: Blocks>(client: &Client, disk: &mut K, path: &Path) -> Result<(), FsRefusal>
     requires may { MayAsk K.told client.now (K.view disk.old) }
-    requires named { IsTrue (is_path path.now) }
     /// promise (with changes): The answer is the tree's step, and every stop leaves the tree before or after.
     ensures answer { K.told → Answers (mounted_by client.now) (K.view disk.old) (K.view disk.new) (ask.Rm path.now)
         result (λ _ answer. answer ≡ done) }

@@ -1,6 +1,6 @@
 -- A look comes to what the tree names, where all is right, and to nothing else.
 use Rattle.std.proofs.Common.{◌≡◌, ℕ, zero, suc, Bool, true, false, cond, ◌||◌, ◌==◌, List, [], ◌∷◌, ◌++◌, refl, sym, ◌∙◌, ap, subst, inl, inr, Option, Some, None}
-use Rattle.inode_fs.proofs.Common.{and_parts, or_cases, or_left, or_right, eq-eqb, eqb-true, map, list_all, option_and_then, block_len, World, contents, has_number, are_apart, holds, is_pair, Name, none, file, dir, nothing, a_file, a_dir, is_there, Entry, only_if, Inode, directory, regular, inode_in, InodeNode, InodeEntries, inode_at, with_first, entries_by, as_dir, node_by, node_at, inode_blocks, data_blocks, named_pairs, said_in, in_order, is_in_order, blocks_said, in_two_steps, node_pairs, block_is, node_blocks, held_append, yes_no, are_held, Come, is_come, with_inode, with_data, come_data, come_each, come_on, come_by, come_from, if_held, held_at}
+use Rattle.inode_fs.proofs.Common.{and_parts, or_cases, or_left, or_right, eq-eqb, eqb-true, map, list_all, option_and_then, block_len, World, contents, has_number, are_apart, holds, is_pair, Name, none, file, dir, nothing, a_file, a_dir, is_there, Entry, only_if, Inode, directory, regular, inode_in, InodeNode, InodeEntries, inode_at, with_first, entries_by, as_dir, node_by, node_at, inode_blocks, data_blocks, named_pairs, said_in, in_order, is_in_order, blocks_said, in_two_steps, node_pairs, block_is, node_blocks, held_append, clash, are_held, Come, is_come, with_inode, with_data, come_data, come_each, come_on, come_by, come_from, if_held, held_at}
 use Rattle.inode_fs.proofs.FitLaws.{Fits, Adds, fits_none, adds_none, fits_one, adds_one, fits_both, adds_both}
 
 abbrev pub node_data : InodeNode → List ℕ
@@ -75,7 +75,7 @@ data_wrong [] s h fits = cc
 data_wrong (b ∷ bs) s h fits = by_test (λ k f. data_wrong bs (with_data s b) k f) (has_number s.inodes b) refl h
   where
     by_test : (◌≡◌ {A = Option Come} (come_data bs (with_data s b)) None → Fits (with_data s b) [] bs → ⊥) → (u : Bool) → has_number s.inodes b ≡ u → ◌≡◌ {A = Option Come} (cond u None (come_data bs (with_data s b))) None → ⊥
-    by_test ih true e k = yes_no (has_number s.inodes b) e (fits.other b (or_left (b == b) _ (eq-eqb b b refl))).0
+    by_test ih true e k = clash (has_number s.inodes b) e (fits.other b (or_left (b == b) _ (eq-eqb b b refl))).0
     by_test ih false e k = ih k (record { apart = refl; new = λ c m. absurd (cc); other = λ c m. fits.other c (or_right (b == c) _ m) })
 
 -- ---- a node

@@ -1,5 +1,5 @@
 -- The names that most proofs of this crate cite, passed on from one place. Declares nothing.
-pub use Rattle.fs_client.proofs.ApartLaws.{all_in, apart_first, apart_with, each_in, is_false, no_or, not_yes, or_no, yes_no, yes_not}
+pub use Rattle.fs_client.proofs.ApartLaws.{all_in, apart_first, apart_with, each_in, is_false, no_or, not_yes, yes_not}
 pub use Rattle.fs_client.proofs.FilesLaws.{finds_as, looks_at, made_as, make_as, mount_as, mounted_changes, unasked_changes, unasked_looks}
 pub use Rattle.fs_client.proofs.LookLaws.{looks_as, looks_but_refuses, looks_refused, may_again, no_look, then_looks}
 pub use Rattle.fs_client.proofs.MountLaws.{looked_left, looked_runs, mount_runs, no_tree_is, not_refused, only_deleted, other_fault, tidy_now, tree_stays, world_left}
@@ -51,3 +51,4 @@ pub use Rattle.tsd_model.specs.Pairs.{holds, is_pair}
 pub use Rattle.tsd_model.specs.Step.{written}
 pub use Rattle.tsd_model.specs.Valid.{IsValid}
 pub use Rattle.tsd_model.specs.World.{World, are_apart, contents, has_number}
+pub use Rattle.tsd_model.proofs.ValueLaws.{clash, neither}

@@ -1,11 +1,11 @@
 -- What fits to what a look has come to, and what is then come to.
 use Rattle.std.proofs.Common.{◌≡◌, ℕ, Bool, true, false, ◌||◌, ◌==◌, List, [], ◌∷◌, ◌++◌, refl, sym, ◌∙◌, ap, inl, inr}
-use Rattle.inode_fs.proofs.Common.{or_cases, or_left, or_right, eq-eqb, eqb-true, has_number, are_apart, any-append, number_left, number_right, in_append, yes_no, is_false, or_no, no_or, apart_first, apart_with, Come, is_come, with_inode}
+use Rattle.inode_fs.proofs.Common.{or_cases, or_left, or_right, eq-eqb, eqb-true, has_number, are_apart, any-append, number_left, number_right, in_append, clash, is_false, neither, no_or, apart_first, apart_with, Come, is_come, with_inode}
 
 -- ---- lists none of whose blocks stands twice
 
 not_in_append : (xs ys : List ℕ) (c : ℕ) → has_number (xs ++ ys) c ≡ false → (has_number xs c ≡ false) × (has_number ys c ≡ false)
-not_in_append xs ys c h = or_no (has_number xs c) (has_number ys c) (sym (any-append (λ x. x == c) xs ys) ∙ h)
+not_in_append xs ys c h = neither (has_number xs c) (has_number ys c) (sym (any-append (λ x. x == c) xs ys) ∙ h)
 
 not_in_both : (xs ys : List ℕ) (c : ℕ) → has_number xs c ≡ false → has_number ys c ≡ false → has_number (xs ++ ys) c ≡ false
 not_in_both xs ys c p q = any-append (λ x. x == c) xs ys ∙ no_or (has_number xs c) (has_number ys c) p q
@@ -30,7 +30,7 @@ apart_across [] ys h c m = refl
 apart_across (x ∷ xs) ys h c m =
     let parts = apart_first x (xs ++ ys) h in
     no_or (x == c) (has_number xs c)
-    (is_false (x == c) (λ e. yes_no (has_number ys c) m (ap (has_number ys) (sym (eqb-true x c e)) ∙ (not_in_append xs ys x parts.0).1)))
+    (is_false (x == c) (λ e. clash (has_number ys c) m (ap (has_number ys) (sym (eqb-true x c e)) ∙ (not_in_append xs ys x parts.0).1)))
     (apart_across xs ys parts.1 c m)
 
 -- ---- what fits
@@ -76,25 +76,25 @@ module _ (s t : Come) (bs ds cs es : List ℕ) where
   pub fits_both : Fits s bs ds → Adds s t bs ds → Fits t cs es → Fits s (bs ++ cs) (ds ++ es)
   fits_both first adds second =
       let not_later : (c : ℕ) → has_number bs c ≡ true → has_number cs c ≡ false =
-      λ c m. is_false (has_number cs c) (λ k. yes_no (has_number t.inodes c) (adds.inodes c ∙ or_left (has_number bs c) _ m) (or_no (has_number t.inodes c) (has_number t.bytes c) (second.new c k)).0) in
+      λ c m. is_false (has_number cs c) (λ k. clash (has_number t.inodes c) (adds.inodes c ∙ or_left (has_number bs c) _ m) (neither (has_number t.inodes c) (has_number t.bytes c) (second.new c k)).0) in
       record {
         apart = apart_append bs cs first.apart second.apart not_later;
         new = λ c m. elim (in_append bs cs c m) [
           | inl one ↦ first.new c one
           | inr two ↦
-              let later = or_no (has_number t.inodes c) (has_number t.bytes c) (second.new c two) in
+              let later = neither (has_number t.inodes c) (has_number t.bytes c) (second.new c two) in
               no_or (has_number s.inodes c) (has_number s.bytes c)
-              (or_no (has_number bs c) (has_number s.inodes c) (sym (adds.inodes c) ∙ later.0)).1
-              (or_no (has_number ds c) (has_number s.bytes c) (sym (adds.bytes c) ∙ later.1)).1
+              (neither (has_number bs c) (has_number s.inodes c) (sym (adds.inodes c) ∙ later.0)).1
+              (neither (has_number ds c) (has_number s.bytes c) (sym (adds.bytes c) ∙ later.1)).1
         ];
         other = λ c m. elim (in_append ds es c m) [
           | inl one ↦ (
             (first.other c one).0,
-            not_in_both bs cs c (first.other c one).1 (is_false (has_number cs c) (λ k. yes_no (has_number t.bytes c) (adds.bytes c ∙ or_left (has_number ds c) _ one) (or_no (has_number t.inodes c) (has_number t.bytes c) (second.new c k)).1)),
+            not_in_both bs cs c (first.other c one).1 (is_false (has_number cs c) (λ k. clash (has_number t.bytes c) (adds.bytes c ∙ or_left (has_number ds c) _ one) (neither (has_number t.inodes c) (has_number t.bytes c) (second.new c k)).1)),
           )
           | inr two ↦
               let both = second.other c two in
-              let before = or_no (has_number bs c) (has_number s.inodes c) (sym (adds.inodes c) ∙ both.0) in
+              let before = neither (has_number bs c) (has_number s.inodes c) (sym (adds.inodes c) ∙ both.0) in
               (before.1, not_in_both bs cs c before.0 both.1)
         ];
       }
@@ -116,11 +116,11 @@ module _ (s t : Come) (bs ds cs es : List ℕ) where
   second_fits both adds = record {
     apart = apart_right bs cs both.apart;
     new = λ c m.
-        let seen = or_no (has_number s.inodes c) (has_number s.bytes c) (both.new c (number_right bs cs c m)) in
+        let seen = neither (has_number s.inodes c) (has_number s.bytes c) (both.new c (number_right bs cs c m)) in
         no_or (has_number t.inodes c) (has_number t.bytes c)
         (adds.inodes c ∙ no_or (has_number bs c) (has_number s.inodes c) (apart_across bs cs both.apart c m) seen.0)
         (adds.bytes c ∙ no_or (has_number ds c) (has_number s.bytes c)
-        (is_false (has_number ds c) (λ k. yes_no (has_number (bs ++ cs) c) (number_right bs cs c m) (both.other c (number_left ds es c k)).1)) seen.1);
+        (is_false (has_number ds c) (λ k. clash (has_number (bs ++ cs) c) (number_right bs cs c m) (both.other c (number_left ds es c k)).1)) seen.1);
     other = λ c m.
         let o = both.other c (number_right ds es c m) in
         let parts = not_in_append bs cs c o.1 in

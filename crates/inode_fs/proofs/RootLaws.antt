@@ -5,6 +5,7 @@ use Rattle.tsd_model.proofs.PairLaws.{all_of_held}
 use Rattle.inode_fs.proofs.ComeLaws.{node_data, NodeRight, node_right}
 use Rattle.inode_fs.proofs.WrongLaws.{dir_of, NodeGood, node_wrong}
 use Rattle.inode_fs.proofs.SaysLaws.{Says, node_says}
+use Rattle.tsd_model.proofs.ValueLaws.{or_false}
 
 -- ---- where all is right
 
@@ -52,16 +53,12 @@ module _ (w : World) (root : ℕ) (t : Come) (h : come_under w root ≡ Some t) 
   under : inodes_under w root ≡ a_dir root xs
   under = under_is w root xs has_root
 
-  no_more : (p : Bool) → (p || false) ≡ p
-  no_more true = refl
-  no_more false = refl
-
   module _ (m : Marks) (agrees : IsMarkedAs m t) where
     inodes_are : (b : ℕ) → is_inode m b ≡ has_number (root ∷ inode_blocks xs) b
-    inodes_are b = agrees.inodes b ∙ (here.adds.inodes b ∙ no_more (has_number (root ∷ inode_blocks xs) b))
+    inodes_are b = agrees.inodes b ∙ (here.adds.inodes b ∙ or_false (has_number (root ∷ inode_blocks xs) b))
 
     data_are : (b : ℕ) → is_data_block m b ≡ has_number (data_blocks xs) b
-    data_are b = agrees.bytes b ∙ (here.adds.bytes b ∙ no_more (has_number (data_blocks xs) b))
+    data_are b = agrees.bytes b ∙ (here.adds.bytes b ∙ or_false (has_number (data_blocks xs) b))
 
     same_test : (p q : Bool) → (p ≡ true → q ≡ true) → (q ≡ true → p ≡ true) → p ≡ q
     same_test true q f g = sym (f refl)

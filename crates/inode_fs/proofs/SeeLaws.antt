@@ -1,6 +1,6 @@
 -- What a look at one block more comes to.
 use Rattle.std.proofs.Common.{◌≡◌, ℕ, zero, suc, ◌<◌, Bool, true, false, cond, ◌&&◌, ◌||◌, ◌==◌, List, length, refl, sym, ◌∙◌, ap, subst, arith, inl, inr, Option, Some, None}
-use Rattle.inode_fs.proofs.Common.{and_parts, and_from, or_cases, or_left, eq-eqb, eqb-true, option_and_then, option_map, World, has_number, are_apart, holds, only_if, Inode, directory, regular, inode_in, inode_at, inode_of, said_in, in_order, is_in_order, blocks_said, is_directory, in_two_steps, HoldsWrite, ways_lead_on, DiskView, state_of, IsValidNow, Stays, Client, shown_at, MayWrite, Looked, yes_no, is_false, no_or, all_in, is_inode, is_data_block, has_leftovers, MarksInode, MarksData, NoMarks, Marks, held_at, names_at, Come, is_come, with_inode, with_data, come_data, come_each, come_on, come_by, come_from, come_as, is_dir_in, nothing_yet, IsMarkedAs, Comes, NamesData, Noted}
+use Rattle.inode_fs.proofs.Common.{and_parts, and_from, or_cases, or_left, eq-eqb, eqb-true, option_and_then, option_map, World, has_number, are_apart, holds, only_if, Inode, directory, regular, inode_in, inode_at, inode_of, said_in, in_order, is_in_order, blocks_said, is_directory, in_two_steps, HoldsWrite, ways_lead_on, DiskView, state_of, IsValidNow, Stays, Client, shown_at, MayWrite, Looked, clash, is_false, no_or, all_in, is_inode, is_data_block, has_leftovers, MarksInode, MarksData, NoMarks, Marks, held_at, names_at, Come, is_come, with_inode, with_data, come_data, come_each, come_on, come_by, come_from, come_as, is_dir_in, nothing_yet, IsMarkedAs, Comes, NamesData, Noted}
 use Rattle.inode_layout.specs.declared.inode.Inode as block
 use Rattle.inode_fs.proofs.ComeLaws.{held_is}
 
@@ -131,9 +131,9 @@ noted_on c old new m seen noted = record {
 
 pub noted_none : (c : Client) (v : DiskView) (m : Marks) → NoMarks m → Noted c v m
 noted_none c v m none = record {
-  ways = λ b h. absurd (yes_no (is_inode m b) h (none.inodes b));
-  inodes = λ b d h k held. absurd (yes_no (is_inode m b) h (none.inodes b));
-  bytes = λ b d h k. absurd (yes_no (is_data_block m b) h (none.bytes b));
+  ways = λ b h. absurd (clash (is_inode m b) h (none.inodes b));
+  inodes = λ b d h k held. absurd (clash (is_inode m b) h (none.inodes b));
+  bytes = λ b d h k. absurd (clash (is_data_block m b) h (none.bytes b));
 }
 
 later_no : (p q : Bool) → (p || q) ≡ false → q ≡ false
@@ -141,7 +141,7 @@ later_no true q h = absurd (cc)
 later_no false q h = h
 
 first_no : (b a : ℕ) (others q : Bool) → b ≡ a → (((b == a) && others) || q) ≡ false → others ≡ false
-first_no b a others q e h = is_false others (λ o. yes_no (((b == a) && others) || q) (or_left ((b == a) && others) q (and_from (b == a) others (eq-eqb b a e) o)) h)
+first_no b a others q e h = is_false others (λ o. clash (((b == a) && others) || q) (or_left ((b == a) && others) q (and_from (b == a) others (eq-eqb b a e) o)) h)
 
 module _ (c : Client) (v : DiskView) (m next : Marks) (b : ℕ) (others : Bool) (small : b < 1048576) (noted : Noted c v m) where
   pub noted_inode : MarksInode m next b others → HoldsWrite (state_of v) c.session b → (others ≡ false → (d : ℕ) → holds v.world.pairs b d ≡ true → has_number (names_at v.world b) d ≡ true) → Noted c v next

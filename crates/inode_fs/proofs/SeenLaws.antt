@@ -1,6 +1,6 @@
 -- An inode that is right by itself.
 use Rattle.std.proofs.Common.{◌≡◌, ◌≢◌, ℕ, zero, suc, ◌≤◌, Bool, true, false, not, cond, ◌==◌, List, [], ◌∷◌, length, refl, sym, ◌∙◌, ap, arith, ◌⊎◌, inl, inr, Option, Some, None, Ok, Err, nat_lt}
-use Rattle.inode_fs.proofs.Common.{or_cases, eqb-true, filter, option_and_then, block_len, World, contents, has_number, holds, IsValid, only_if, Inode, inode_in, inode_at, inode_of, blocks_said, HoldsWrite, DiskView, state_of, Client, targets_of, named_targets, other_targets, is_false, yes_no, Seen, are_held, if_held, held_at, blocks_in, IsInodeSeen, FsRefusal, OnlyLooks, looks_as, looks_refused, then_looks}
+use Rattle.inode_fs.proofs.Common.{or_cases, eqb-true, filter, option_and_then, block_len, World, contents, has_number, holds, IsValid, only_if, Inode, inode_in, inode_at, inode_of, blocks_said, HoldsWrite, DiskView, state_of, Client, targets_of, named_targets, other_targets, is_false, clash, Seen, are_held, if_held, held_at, blocks_in, IsInodeSeen, FsRefusal, OnlyLooks, looks_as, looks_refused, then_looks}
 use Rattle.std.proofs.lemmas.Bool.Decides.{nat_tests}
 use Rattle.inode_walks.proofs.ReadLaws.{block_full, block_long}
 use Rattle.fs_client.proofs.CountLaws.{in_targets, counted_held, held_counted}
@@ -42,10 +42,10 @@ module _ (w : World) (b : ℕ) (i : Inode) (valid : IsValid w) (is : inode_at w 
 
 none_if : (n : ℕ) → nat_lt 0 n ≡ false → n ≡ 0
 none_if zero h = refl
-none_if (suc n) h = let more : nat_lt 0 (suc n) ≡ true = grind (arith, nat_tests) in absurd (yes_no (nat_lt 0 (suc n)) more h)
+none_if (suc n) h = let more : nat_lt 0 (suc n) ≡ true = grind (arith, nat_tests) in absurd (clash (nat_lt 0 (suc n)) more h)
 
 pub no_pairs : (w : World) (b n : ℕ) → n ≡ length (other_targets w b []) → nat_lt 0 n ≡ false → (d : ℕ) → holds w.pairs b d ≡ false
-no_pairs w b n counts none d = is_false (holds w.pairs b d) (λ h. yes_no false (no_others w b [] (sym counts ∙ none_if n none) d h) refl)
+no_pairs w b n counts none d = is_false (holds w.pairs b d) (λ h. clash false (no_others w b [] (sym counts ∙ none_if n none) d h) refl)
 
 pub is_seen : (c : Client) (old new : DiskView) (b : ℕ) (seen : Seen) (n : ℕ) → inode_at old.world b ≡ Some (inode_of seen.found.inode) → held_at old.world b ≡ Some (inode_of seen.found.inode) → HoldsWrite (state_of new) c.session b
     → n ≡ length (other_targets old.world b (blocks_said (inode_of seen.found.inode))) → seen.has_others ≡ nat_lt 0 n → IsInodeSeen c old new b seen

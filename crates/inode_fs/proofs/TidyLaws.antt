@@ -1,6 +1,6 @@
 -- Marked blocks let go of what they don't name.
 use Rattle.std.proofs.Common.{◌≡◌, ◌⊎◌, ℕ, ◌+◌, ◌<◌, ◌≤◌, true, false, List, [], refl, sym, ◌∙◌, ap, subst, arith, inl, inr, Some, Result, Ok, Err}
-use Rattle.inode_fs.proofs.Common.{and_parts, and_from, or_cases, or_left, or_right, cases_lt, is_some, option_and_then, block_len, World, contents, has_number, holds, IsValid, is_there, inode_in, inode_at, Named, named_at, ways_lead_on, DiskView, state_of, IsDiskSound, Client, shown_at, MayWrite, IsWay, MayTrim, Trimmed, Trims, IsClean, ready_still, mounted_by, is_false, yes_no, root_may, is_inode, is_data_block, has_leftovers, Marks, blocks_in, names_at, Noted, MarksTree, IfErr, OnOk, FsRefusal, OnlyLooks, MayDelete, OnlyNamed, Found, inode_of, blocks_said, no_look, on_ok, trims_by_looks, trims_refused, then_trims, delete_still}
+use Rattle.inode_fs.proofs.Common.{and_parts, and_from, or_cases, or_left, or_right, cases_lt, is_some, option_and_then, block_len, World, contents, has_number, holds, IsValid, is_there, inode_in, inode_at, Named, named_at, ways_lead_on, DiskView, state_of, IsDiskSound, Client, shown_at, MayWrite, IsWay, MayTrim, Trimmed, Trims, IsClean, ready_still, mounted_by, is_false, clash, root_may, is_inode, is_data_block, has_leftovers, Marks, blocks_in, names_at, Noted, MarksTree, IfErr, OnOk, FsRefusal, OnlyLooks, MayDelete, OnlyNamed, Found, inode_of, blocks_said, no_look, on_ok, trims_by_looks, trims_refused, then_trims, delete_still}
 use Rattle.disk_laws.proofs.DoomLaws.{live_below}
 use Rattle.fs_trees.specs.declared.ask.ShellKind.TheVariants as kind
 use Rattle.fs_trees.specs.declared.refusal.FsRefusal.TheVariants as no
@@ -45,7 +45,7 @@ module _ (c : Client) (old new : DiskView) (n : Named) (named : n ≡ named_at k
   noted_still noted = record {
     ways = λ b h. trimmed.ways c.session b (noted.ways b h) (trimmed.keeps.live b (inode_named b h));
     inodes = λ b d h k held. ap (λ xs. has_number xs d) (names_same b h) ∙ noted.inodes b d h k (trimmed.fewer b d held);
-    bytes = λ b d h k. is_false (holds new.world.pairs b d) (λ held. yes_no (holds old.world.pairs b d) (trimmed.fewer b d held) (noted.bytes b d h k));
+    bytes = λ b d h k. is_false (holds new.world.pairs b d) (λ held. clash (holds old.world.pairs b d) (trimmed.fewer b d held) (noted.bytes b d h k));
   }
 
 pub tidy_still : {X : Type 0} (told : Type 0) (c : Client) (n : Named) (old new : DiskView) (m : Marks) (x : X) → MayTidy told c n old m → Trims told c n old new (Ok x) → MayTidy told c n new m
@@ -94,7 +94,7 @@ module _ (told : Type 0) (c : Client) (n : Named) (v : DiskView) (m : Marks) (t 
 
   pub trim_data : (a : ℕ) → is_inode m a ≡ false → is_data_block m a ≡ true → MayTrim c n v a []
   trim_data a off h = trim_named a [] (ap (λ x. has_number x.blocks a) (may.named t) ∙ ((may.marked t).blocks a ∙ or_right (is_inode m a) _ h))
-      (λ b k. absurd (yes_no (is_inode m a) (namers a b k) off))
+      (λ b k. absurd (clash (is_inode m a) (namers a b k) off))
 
 -- ---- a block that is clean
 
@@ -109,21 +109,21 @@ module _ (c : Client) (n : Named) (v : DiskView) (m : Marks) (named : n ≡ name
   pub clean_before : has_leftovers m a ≡ false → IsClean n v.world a
   clean_before none k b held = elim (by_mark k) [
     | inl one ↦ pair_of b one (noted.inodes a b one none held)
-    | inr two ↦ absurd (yes_no (holds v.world.pairs a b) held (noted.bytes a b two none))
+    | inr two ↦ absurd (clash (holds v.world.pairs a b) held (noted.bytes a b two none))
   ]
 
   -- it isn't named
   pub clean_unmarked : is_inode m a ≡ false → is_data_block m a ≡ false → (w : World) → IsClean n w a
   clean_unmarked p q w k = absurd (elim (by_mark k) [
-    | inl one ↦ yes_no (is_inode m a) one p
-    | inr two ↦ yes_no (is_data_block m a) two q
+    | inl one ↦ clash (is_inode m a) one p
+    | inr two ↦ clash (is_data_block m a) two q
   ])
 
   pub clean_inode : is_inode m a ≡ true → (names : List ℕ) → names_at v.world a ≡ names → (w : World) → ((b : ℕ) → holds w.pairs a b ≡ true → has_number names b ≡ true) → IsClean n w a
   clean_inode h names are w only k b held = pair_of b h (ap (λ xs. has_number xs b) are ∙ only b held)
 
 pub clean_data : (n : Named) (w : World) (a : ℕ) → ((b : ℕ) → holds w.pairs a b ≡ true → has_number [] b ≡ true) → IsClean n w a
-clean_data n w a only k b held = absurd (yes_no false (only b held) refl)
+clean_data n w a only k b held = absurd (clash false (only b held) refl)
 
 -- ---- a block lets go
 

@@ -1,6 +1,6 @@
 -- Where a look comes to nothing, there is no tree.
 use Rattle.std.proofs.Common.{◌≡◌, ℕ, zero, suc, Bool, true, false, cond, ◌==◌, List, [], ◌∷◌, ◌++◌, refl, sym, ◌∙◌, ap, subst, inl, inr, Option, Some, None}
-use Rattle.inode_fs.proofs.Common.{and_from, or_cases, or_left, or_right, eq-eqb, eqb-true, map, option_and_then, World, has_number, are_apart, holds, is_pair, Name, file, dir, nothing, a_file, a_dir, is_there, Entry, Inode, directory, regular, InodeNode, InodeEntries, inode_at, with_first, entries_by, as_dir, node_by, node_at, inode_blocks, data_blocks, named_pairs, blocks_said, node_pairs, block_is, node_block, node_blocks, number_right, held_left, held_right, yes_no, is_false, apart_first, apart_with, each_in, are_held, Come, is_come, with_inode, come_each, come_on, come_by, come_from, held_at}
+use Rattle.inode_fs.proofs.Common.{and_from, or_cases, or_left, or_right, eq-eqb, eqb-true, map, option_and_then, World, has_number, are_apart, holds, is_pair, Name, file, dir, nothing, a_file, a_dir, is_there, Entry, Inode, directory, regular, InodeNode, InodeEntries, inode_at, with_first, entries_by, as_dir, node_by, node_at, inode_blocks, data_blocks, named_pairs, blocks_said, node_pairs, block_is, node_block, node_blocks, number_right, held_left, held_right, clash, is_false, apart_first, apart_with, each_in, are_held, Come, is_come, with_inode, come_each, come_on, come_by, come_from, held_at}
 use Rattle.inode_fs.proofs.FitLaws.{apart_right, Fits, Adds, adds_one, first_fits, second_fits}
 use Rattle.inode_fs.proofs.ComeLaws.{node_data, file_apart, held_is, is_held, data_wrong, NodeRight, node_right}
 
@@ -91,7 +91,7 @@ listed_first d k n (a_file f) bs (Some zs) xs own e rest = subst (Listed d (k �
     here : Listed d (f.block ∷ bs) (file n f zs)
     here = (
       λ h. let parts = apart_first f.block (inode_blocks zs) h in
-          apart_with f.block bs (is_false (has_number bs f.block) (λ m. yes_no (has_number (inode_blocks zs) f.block) ((rest zs refl).1 f.block m).0 parts.0)) ((rest zs refl).0 parts.1),
+          apart_with f.block bs (is_false (has_number bs f.block) (λ m. clash (has_number (inode_blocks zs) f.block) ((rest zs refl).1 f.block m).0 parts.0)) ((rest zs refl).0 parts.1),
       λ c m. elim (or_cases (f.block == c) (has_number bs c) m) [
         | inl q ↦ (or_left (f.block == c) _ q, subst (λ j. holds (named_pairs d (file n f zs)) d j ≡ true) (eqb-true f.block c q) (pair_first d f.block _))
         | inr more ↦ let r = (rest zs refl).1 c more in (or_right (f.block == c) _ r.0, or_right (is_pair d c (d, f.block)) _ (held_right (map (λ j. (f.block, j)) f.blocks) (named_pairs d zs) d c r.1))
@@ -105,7 +105,7 @@ listed_first d k n (a_dir b es) bs (Some zs) xs own e rest = subst (Listed d (k 
     here : Listed d (b ∷ bs) (dir n b es zs)
     here = (
       λ h. let parts = apart_first b (inode_blocks es ++ inode_blocks zs) h in
-          apart_with b bs (is_false (has_number bs b) (λ m. yes_no (has_number (inode_blocks es ++ inode_blocks zs) b) (number_right (inode_blocks es) (inode_blocks zs) b ((rest zs refl).1 b m).0) parts.0)) ((rest zs refl).0 (apart_right (inode_blocks es) (inode_blocks zs) parts.1)),
+          apart_with b bs (is_false (has_number bs b) (λ m. clash (has_number (inode_blocks es ++ inode_blocks zs) b) (number_right (inode_blocks es) (inode_blocks zs) b ((rest zs refl).1 b m).0) parts.0)) ((rest zs refl).0 (apart_right (inode_blocks es) (inode_blocks zs) parts.1)),
       λ c m. elim (or_cases (b == c) (has_number bs c) m) [
         | inl q ↦ (or_left (b == c) _ q, subst (λ j. holds (named_pairs d (dir n b es zs)) d j ≡ true) (eqb-true b c q) (pair_first d b _))
         | inr more ↦ let r = (rest zs refl).1 c more in (or_right (b == c) _ (number_right (inode_blocks es) (inode_blocks zs) c r.0), or_right (is_pair d c (d, b)) _ (held_right (named_pairs b es) (named_pairs d zs) d c r.1))
@@ -195,7 +195,7 @@ module _ (w : World) (levels : ℕ) (ih : (c : ℕ) (u : Come) → ◌≡◌ {A 
   own_block (a_dir c es) e = or_left (c == b) _ (eq-eqb c b e)
 
   by_come : (u : Bool) → is_come s b ≡ u → ◌≡◌ {A = Option Come} (cond u None (come_by (come_from w levels) b (held_at w b) s)) None → NodeGood w s (node_at w (suc levels) b) → ⊥
-  by_come true e h good = yes_no (is_come s b) e (good.fits.new b (own_block (node_at w (suc levels) b) (node_block w (suc levels) b good.there)))
+  by_come true e h good = clash (is_come s b) e (good.fits.new b (own_block (node_at w (suc levels) b) (node_block w (suc levels) b good.there)))
   by_come false e h good = by_held (held_at w b) e refl h good
 
 pub node_wrong : (w : World) (levels b : ℕ) (s : Come) → ◌≡◌ {A = Option Come} (come_from w levels b s) None → NodeGood w s (node_at w levels b) → ⊥

@@ -15,6 +15,9 @@
 //! pairs are deleted. Of a disk that is no tree nothing is deleted.
 //!
 //! What it promises: `InodeFs` keeps the clauses of `Files`. Only `new` takes memory.
+//!
+//! A refusal is handed on by `match` in this crate: each answer is proved case by case, and `?` would put a conversion
+//! between what was called and what is answered.
 #![tactic(auto)]
 
 mod file_system;

@@ -1,5 +1,5 @@
 -- A directory's list with an entry changed, in its parts.
-use Rattle.std.proofs.Common.{◌≡◌, ℕ, zero, suc, ◌+◌, ◌*◌, ◌-◌, ◌≤◌, Bool, true, false, cond, ◌&&◌, ◌||◌, ◌==◌, nat_lt, List, [], ◌∷◌, ◌++◌, length, refl, sym, ◌∙◌, ap, subst, arith, append_assoc, length-append, inl, inr, Result, Ok, Err}
+use Rattle.std.proofs.Common.{◌≡◌, ℕ, zero, suc, ◌+◌, ◌*◌, ◌-◌, ◌≤◌, true, false, cond, ◌&&◌, ◌||◌, ◌==◌, nat_lt, List, [], ◌∷◌, ◌++◌, length, refl, sym, ◌∙◌, ap, subst, arith, append_assoc, length-append, inl, inr, Result, Ok, Err}
 use Rattle.std.proofs.lemmas.Bool.{or_cases, and_parts, eqb-true}
 use Rattle.std.proofs.lemmas.Bool.Decides.{nat_tests}
 use Rattle.std.proofs.lemmas.Grind.{flat_map-append}
@@ -15,6 +15,7 @@ use Rattle.inode_layout.specs.Block.{said}
 use Rattle.inode_layout.specs.declared.kind.InodeKind.{InodeKind}
 use Rattle.inode_layout.specs.declared.kind.InodeKind.TheVariants.{Directory, Regular}
 use Rattle.inode_layout.proofs.HeadLaws.{length-blocks, list_fits}
+use Rattle.tsd_model.proofs.ValueLaws.{and_false}
 
 -- a name below another isn't above it
 pub below_only : (m n : Name) → name_lt m n ≡ true → name_lt n m ≡ false
@@ -29,12 +30,8 @@ below_only (c ∷ m) (d ∷ n) h = elim (or_cases (nat_lt c d) ((c == d) && name
       let parts = and_parts (c == d) (name_lt m n) same in
       let is : c ≡ d = eqb-true c d parts.0 in
       let no : nat_lt d c ≡ false = grind (arith, nat_tests) in
-      ap (λ t. t || ((d == c) && name_lt n m)) no ∙ (ap (λ t. (d == c) && t) (below_only m n parts.1) ∙ and_no (d == c))
+      ap (λ t. t || ((d == c) && name_lt n m)) no ∙ (ap (λ t. (d == c) && t) (below_only m n parts.1) ∙ and_false (d == c))
 ]
-  where
-    and_no : (t : Bool) → (t && false) ≡ false
-    and_no true = refl
-    and_no false = refl
 
 with_parts : (e : Entry) (es : List Entry) → with_listed e es ≡ listed_before e.name es ++ e ∷ listed_behind e.name es
 with_parts e [] = refl

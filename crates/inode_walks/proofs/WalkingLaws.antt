@@ -11,12 +11,9 @@ use Rattle.disk_laws.proofs.AttainedLaws.{attained_where}
 use Rattle.fs_trees.specs.InodeTree as inodes
 use Rattle.inode_walks.proofs.WalkLaws.{tree_child, is_found, root_stands}
 use Rattle.inode_walks.proofs.FurtherLaws.{there_is_inode}
+use Rattle.fs_laws.proofs.AtLaws.{at_last}
 
 -- ---- paths, name by name
-
-at_last : (p : Path) (n : Name) (x : InodeNode) → at x (p ++ n ∷ []) ≡ child n (at x p)
-at_last [] n x = refl
-at_last (m ∷ ms) n x = at_last ms n (child m x)
 
 take_last : (xs : List Name) (i : ℕ) (x : Name) → i < length xs → x ≡ slice_index_or xs i x → take (i + 1) xs ≡ take i xs ++ x ∷ []
 take_last [] i x h e = absurd (omega arith)

@@ -3,7 +3,7 @@
 ghost use Rattle.std.specs.Prelude.{◌≡◌, ◌≢◌, ◌≤◌, ℕ, ◌∷◌, length, false, None, Some};
 ghost use Rattle.std.specs.Prelude.{is_some, IsTrue, IfOk, IfErr, OnOk, OnErr};
 ghost use Rattle.tsd_model.specs.Geometry.{block_len};
-ghost use Rattle.fs_trees.specs.Names.{Path, name_max};
+ghost use Rattle.fs_trees.specs.Names.{Path, name_max, is_path};
 ghost use Rattle.fs_trees.specs.InodeTree.{inode_at};
 ghost use Rattle.fs_trees.specs.declared.refusal.FsRefusal.TheVariants as no;
 ghost use Rattle.fs_laws.specs.Ways.{HoldsWrite};
@@ -213,6 +213,7 @@ pub fn look_up<'a, K: Blocks>(
 ) -> Result<Lookup<'a>, FsRefusal>
     requires may { MayAsk K.told client.now (K.view disk.old) }
     requires refusal { at_root ≢ no.Device }
+    ensures named { IsTrue (is_path path.now) }
     ensures dir { IfOk result (λ lookup. IsTrue (is_directory (inode_of lookup.directory.inode))) }
     ensures short { IfOk result (λ lookup. length lookup.name.now ≤ name_max) }
     /// promise (with none, refused): What stands under a name in the directory of a path, with the first refusal that

@@ -1,8 +1,7 @@
 //! What files and directories hold.
 
-ghost use Rattle.std.specs.Prelude.{◌≡◌, ◌≤◌, ◌<◌, ◌+◌, ◌++◌, [], length, false, IsTrue, IfOk};
+ghost use Rattle.std.specs.Prelude.{◌≡◌, ◌≤◌, ◌<◌, ◌+◌, ◌++◌, [], length, false, IfOk};
 ghost use Rattle.std.specs.Prelude.{IfErr, OnOk};
-ghost use Rattle.fs_trees.specs.Names.{is_path};
 ghost use Rattle.fs_trees.specs.declared.ask.ShellAsk.TheVariants as ask;
 ghost use Rattle.fs_trees.specs.declared.refusal.FsRefusal.TheVariants as no;
 ghost use Rattle.fs_port.specs.Calls.{IsValidNow};
@@ -24,7 +23,6 @@ use tsd_model::lists::DATA_MAX;
 /// How many bytes a file has.
 pub fn size<K: Blocks>(client: &Client, disk: &mut K, path: &Path) -> Result<u64, FsRefusal>
     requires may { MayAsk K.told client.now (K.view disk.old) }
-    requires named { IsTrue (is_path path.now) }
     /// promise (with looks): A file's size, by the tree; no world is changed.
     ensures answer { K.told → Answers (mounted_by client.now) (K.view disk.old) (K.view disk.new) (ask.Cat path.now)
         result TellsSize }
@@ -128,7 +126,6 @@ pub fn read_part<K: Blocks>(
     into: &mut Data,
 ) -> Result<(), FsRefusal>
     requires may { MayAsk K.told client.now (K.view disk.old) }
-    requires named { IsTrue (is_path path.now) }
     /// promise (with looks): A file's bytes from an offset, by the tree; no world is changed.
     ensures answer { K.told → Answers (mounted_by client.now) (K.view disk.old) (K.view disk.new) (ask.Cat path.now)
         result (λ _. TellsPart start into.new) }
@@ -157,7 +154,6 @@ pub fn name_after<K: Blocks>(
     after: &Name,
 ) -> Result<Option<Name>, FsRefusal>
     requires may { MayAsk K.told client.now (K.view disk.old) }
-    requires named { IsTrue (is_path path.now) }
     /// promise (with looks): A directory's next name, by the tree; no world is changed.
     ensures answer { K.told → Answers (mounted_by client.now) (K.view disk.old) (K.view disk.new) (ask.Ls path.now)
         result (TellsNext after.now) }

@@ -2,10 +2,6 @@
 use Rattle.std.proofs.Common.{◌≡◌, ℕ, ◌<◌, ◌≤◌, ◌==◌, ◌&&◌, ◌||◌, not, Bool, true, false, refl, arith}
 use Rattle.intent_journal.proofs.Common.{nat_tests}
 
-pub or_false_parts : (a b : Bool) → (a || b) ≡ false → (a ≡ false) × (b ≡ false)
-or_false_parts true b h = absurd (cc)
-or_false_parts false b h = (refl, h)
-
 pub and_true_parts : (a b : Bool) → (a && b) ≡ true → (a ≡ true) × (b ≡ true)
 and_true_parts true b h = (refl, h)
 and_true_parts false b h = absurd (cc)

@@ -1,7 +1,8 @@
 -- Images with patches put into place.
 use Rattle.std.proofs.Common.{◌≡◌, inl, inr, ℕ, ◌+◌, ◌<◌, ◌==◌, ◌||◌, true, false, cond, IsTrue, List, [], ◌∷◌, ◌++◌, length, drop, get_or, refl, sym, ◌∙◌, ap, arith, add-one}
 use Rattle.intent_journal.proofs.Common.{list_all, drop-cons, cases_Bool, nat_tests, Image, put_at, Patch, are_apart, is_lawful_home, homes_of, has_home, overlaid, is_journal, last_patches}
-use Rattle.intent_journal.proofs.Bools.{or_false_parts, and_true_parts, other_way, equal_numbers}
+use Rattle.intent_journal.proofs.Bools.{and_true_parts, other_way, equal_numbers}
+use Rattle.tsd_model.proofs.ValueLaws.{neither}
 
 -- ---- one sector
 pub put_here : (n : ℕ) (bytes : List ℕ) (x : Image) (m : ℕ) → (m == n) ≡ true → put_at n bytes x m ≡ bytes
@@ -19,7 +20,7 @@ overlaid_append (p ∷ ps) qs x = overlaid_append ps qs (put_at p.sector p.bytes
 pub overlaid_missed : (ps : List Patch) (x : Image) (n : ℕ) → has_home ps n ≡ false → overlaid ps x n ≡ x n
 overlaid_missed [] x n h = refl
 overlaid_missed (p ∷ ps) x n h =
-    let parts = or_false_parts (p.sector == n) (has_home ps n) h in
+    let parts = neither (p.sector == n) (has_home ps n) h in
     overlaid_missed ps (put_at p.sector p.bytes x) n parts.1 ∙ put_elsewhere p.sector p.bytes x n (other_way p.sector n parts.0)
 
 -- at a home only the patches count

@@ -3,7 +3,8 @@ use Rattle.std.proofs.Common.{◌≡◌, inl, inr, ℕ, zero, suc, ◌+◌, ◌<
 use Rattle.intent_journal.proofs.Common.{list_all, slice_get, position_or_len, cases_Bool, nat_tests, list_any-append, IsSector, Patch, bodies, has_number, are_apart, is_lawful_home, homes_of, has_home, with_patch, IsBatch}
 use Rattle.std.specs.List.{position}
 use Rattle.intent_journal.proofs.HomesOf.{homes_append}
-use Rattle.intent_journal.proofs.Bools.{or_false_parts, and_true_parts, not_true, other_way, equal_numbers}
+use Rattle.intent_journal.proofs.Bools.{and_true_parts, not_true, other_way, equal_numbers}
+use Rattle.tsd_model.proofs.ValueLaws.{neither}
 
 -- ---- where a patch goes
 abbrev pub has_its_home : Patch → Patch → Bool
@@ -53,7 +54,7 @@ distinct_push [] n d h = refl
 distinct_push (m ∷ ms) n d h =
     let parts = and_true_parts (not (has_number ms m)) (are_apart ms) d in
     let absent : has_number ms m ≡ false = not_true _ parts.0 in
-    let apart = or_false_parts (m == n) (has_number ms n) h in
+    let apart = neither (m == n) (has_number ms n) h in
     let far : (n == m) ≡ false = other_way m n apart.0 in
     let still : has_number (ms ++ n ∷ []) m ≡ false = list_any-append (λ k. k == m) ms (n ∷ []) ∙ rw (absent, far) refl in
     rw still (distinct_push ms n parts.1 apart.1)

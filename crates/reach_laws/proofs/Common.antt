@@ -24,7 +24,7 @@ pub use Rattle.std.proofs.lemmas.List.Elements.{All-cons, All-head, All-nil, All
 pub use Rattle.std.specs.List.{list_all, list_any}
 pub use Rattle.std.specs.Option.{option_map_or}
 pub use Rattle.std.specs.Prelude.{All, IsTrue, filter, is_none, is_some, map, replicate, slice_get, slice_index_or, slice_set, unwrap_or, ◌-◌}
-pub use Rattle.tsd_model.proofs.PairLaws.{and_false}
+pub use Rattle.tsd_model.proofs.ValueLaws.{and_false}
 pub use Rattle.tsd_model.specs.Attained.{attained, attained_from, led_level, record_level, shown_level}
 pub use Rattle.tsd_model.specs.Geometry.{IsLawful, block_len}
 pub use Rattle.tsd_model.specs.History.{attains_at, gives_grant, is_of_session, is_set_cap_of, keeps_grant}

@@ -6,9 +6,7 @@ use Rattle.tsd_model.specs.declared.requests.Request.TheVariants as ask
 use Rattle.reach_laws.proofs.ConfinementLaws.{closed_holds_nothing, none_is_open_at_rest, holds_what_was_shown}
 use Rattle.reach_laws.proofs.Counterexamples.{read_and_write, start, W}
 use Rattle.reach_laws.proofs.RegionLaws.{region_is_hidden}
-
-clash : (t : Bool) → t ≡ true → t ≡ false → ⊥
-clash t p q = cc
+use Rattle.tsd_model.proofs.ValueLaws.{clash}
 
 -- session 1 has written x to block 2, to which block 0 points
 abbrev requests : ℕ → List Request

@@ -9,6 +9,7 @@ use Rattle.reach_laws.proofs.ConfidentialityLaws.{replies_hide_bytes, hidden_byt
 use Rattle.reach_laws.proofs.ConfinementLaws.{closed_holds_nothing, none_is_open_at_rest}
 use Rattle.reach_laws.proofs.IntegrityLaws.{bytes_have_a_writer, pointers_have_a_writer, records_have_a_writer}
 use Rattle.reach_laws.proofs.RegionLaws.{never_writes, never_reads, stays_shut}
+use Rattle.tsd_model.proofs.ValueLaws.{clash}
 
 -- all sessions
 abbrev all : ℕ → Bool
@@ -175,13 +176,7 @@ module _ (kind : PlaceKind) (w : World) (region : ℕ → Bool) (reached : (b : 
       both_false true true t f g e = refl
       both_false false false t f g e = refl
       both_false true false t f g e = absurd (clash t (f refl) e)
-        where
-          clash : (u : Bool) → u ≡ true → u ≡ false → ⊥
-          clash u i j = cc
       both_false false true t f g e = absurd (clash t (g refl) e)
-        where
-          clash : (u : Bool) → u ≡ true → u ≡ false → ⊥
-          clash u i j = cc
 
   kept_next : IsKept w region next
   kept_next = record {

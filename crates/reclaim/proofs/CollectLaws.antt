@@ -6,6 +6,7 @@ use Rattle.block_alloc.specs.LiveMap.{is_live as is_live_in}
 use Rattle.graph_laws.proofs.ToldLaws.{live-world_with}
 use Rattle.graph_laws.proofs.LostLaws.{alone_count, count_alone}
 use Rattle.reclaim.proofs.HeldLaws.{has-push}
+use Rattle.tsd_model.proofs.ValueLaws.{and_false, or_false, or_true}
 
 below_next : (b i : ℕ) → (b ≡ i → ⊥) → nat_lt b (i + 1) ≡ nat_lt b i
 below_next b i other = grind (arith, nat_tests)
@@ -24,26 +25,14 @@ pub collected_more : (xs : List ℕ) (i : ℕ) (p : ℕ → Bool) → ((b : ℕ)
 collected_more xs i p held is b = has-push xs i b ∙ (ap (λ t. t || (i == b)) (held b) ∙ elim (cases_eq b i) as (λ _. ((nat_lt b i && p b) || (i == b)) ≡ (nat_lt b (i + 1) && p b)) [
   | inl same ↦ subst (λ k. ((nat_lt k i && p k) || (i == k)) ≡ (nat_lt k (i + 1) && p k)) (sym same)
       (ap (λ t. (nat_lt i i && p i) || t) (eq-eqb i i refl) ∙ (or_true (nat_lt i i && p i) ∙ sym (and_from (nat_lt i (i + 1)) (p i) (at_next i) is)))
-  | inr other ↦ ap (λ t. (nat_lt b i && p b) || t) (ne_eqb i b (λ e. other (sym e))) ∙ (or_none (nat_lt b i && p b) ∙ ap (λ t. t && p b) (sym (below_next b i other)))
+  | inr other ↦ ap (λ t. (nat_lt b i && p b) || t) (ne_eqb i b (λ e. other (sym e))) ∙ (or_false (nat_lt b i && p b) ∙ ap (λ t. t && p b) (sym (below_next b i other)))
 ])
-  where
-    or_true : (t : Bool) → (t || true) ≡ true
-    or_true true = refl
-    or_true false = refl
-
-    or_none : (t : Bool) → (t || false) ≡ t
-    or_none true = refl
-    or_none false = refl
 
 pub collected_same : (xs : List ℕ) (i : ℕ) (p : ℕ → Bool) → ((b : ℕ) → has_number xs b ≡ (nat_lt b i && p b)) → p i ≡ false → (b : ℕ) → has_number xs b ≡ (nat_lt b (i + 1) && p b)
 collected_same xs i p held is b = held b ∙ elim (cases_eq b i) as (λ _. (nat_lt b i && p b) ≡ (nat_lt b (i + 1) && p b)) [
-  | inl same ↦ subst (λ k. (nat_lt k i && p k) ≡ (nat_lt k (i + 1) && p k)) (sym same) (ap (λ t. nat_lt i i && t) is ∙ (none (nat_lt i i) ∙ sym (ap (λ t. nat_lt i (i + 1) && t) is ∙ none (nat_lt i (i + 1)))))
+  | inl same ↦ subst (λ k. (nat_lt k i && p k) ≡ (nat_lt k (i + 1) && p k)) (sym same) (ap (λ t. nat_lt i i && t) is ∙ (and_false (nat_lt i i) ∙ sym (ap (λ t. nat_lt i (i + 1) && t) is ∙ and_false (nat_lt i (i + 1)))))
   | inr other ↦ ap (λ t. t && p b) (sym (below_next b i other))
 ]
-  where
-    none : (t : Bool) → (t && false) ≡ false
-    none true = refl
-    none false = refl
 
 -- a block of the disk is live in the graph exactly where its bit says so
 pub live_told : (t : Table) (live : LiveMap) (b : ℕ) → b < t.geometry.blocks → is_live (graph_of t live) b ≡ is_live_in live.live b

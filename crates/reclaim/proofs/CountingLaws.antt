@@ -1,6 +1,7 @@
 -- Counting off the pairs from doomed blocks, one at a time.
 use Rattle.std.proofs.Common.{◌≡◌, ℕ, ◌+◌, ◌-◌, ◌<◌, Bool, true, false, not, cond, ◌&&◌, ◌||◌, ◌==◌, List, length, refl, sym, ◌∙◌, ap, subst, arith, inl, inr}
 use Rattle.reclaim.proofs.Common.{eq-eqb, eqb-true, ne_eqb, or_cases, or_left, or_right, both_ways, cases_eq, cases_Bool, get_or-set_same, get_or-set_other, filter_agree, filter, slice_set, slice_index, range_with_len, holds, World, is_live, is_primary, has_number, live_below, count_where, IsMarking, IsMarkingBut, IsRawGraph, filter_held, marking_still_led, marking_found, marking_as, count_zero, some_left, marked_more, is_gone, IsCounting}
+use Rattle.tsd_model.proofs.ValueLaws.{and_false, and_true, or_false}
 
 -- ---- another account of the same
 
@@ -65,21 +66,9 @@ module _ (w : World) (raw : IsRawGraph w) (counts new_counts : List ℕ) (gone n
     | inr more ↦
         let left = some_left mid w.pairs t (λ none. both_ways (slice_index counts t == 1) more (eq-eqb (slice_index counts t) 1 (omega (arith, at_t, none)))) in
         marking_gone w (is_gone gone) (is_gone new_gone) mid
-        (λ b. sym (lowered.gone b ∙ (ap (λ s. is_gone gone b || ((b == t) && s)) more ∙ (ap (λ s. is_gone gone b || s) (and_none (b == t)) ∙ or_none (is_gone gone b)))))
+        (λ b. sym (lowered.gone b ∙ (ap (λ s. is_gone gone b || ((b == t) && s)) more ∙ (ap (λ s. is_gone gone b || s) (and_false (b == t)) ∙ or_false (is_gone gone b)))))
         (marking_still_led w (is_gone gone) mid t left.0 marking left.1 left.2)
   ]
-    where
-      and_true : (s : Bool) → (s && true) ≡ s
-      and_true true = refl
-      and_true false = refl
-
-      and_none : (s : Bool) → (s && false) ≡ false
-      and_none true = refl
-      and_none false = refl
-
-      or_none : (s : Bool) → (s || false) ≡ s
-      or_none true = refl
-      or_none false = refl
 
   numbered_after : new_number ≡ length (filter (is_gone new_gone) (range_with_len 0 w.geometry.blocks))
   numbered_after = lowered.number ∙ elim (cases_Bool (slice_index counts t == 1)) [
@@ -90,23 +79,11 @@ module _ (w : World) (raw : IsRawGraph w) (counts new_counts : List ℕ) (gone n
         ap (λ s. number + cond s 1 0) one ∙ omega (arith, numbered, more, same)
     | inr none ↦
         ap (λ s. number + cond s 1 0) none ∙ (plus_zero number ∙ (numbered ∙ ap length (sym (filter_agree (is_gone new_gone) (is_gone gone)
-        (λ b. lowered.gone b ∙ (ap (λ s. is_gone gone b || ((b == t) && s)) none ∙ (ap (λ s. is_gone gone b || s) (and_none (b == t)) ∙ or_none (is_gone gone b)))) (range_with_len 0 w.geometry.blocks)))))
+        (λ b. lowered.gone b ∙ (ap (λ s. is_gone gone b || ((b == t) && s)) none ∙ (ap (λ s. is_gone gone b || s) (and_false (b == t)) ∙ or_false (is_gone gone b)))) (range_with_len 0 w.geometry.blocks)))))
   ]
     where
       plus_zero : (n : ℕ) → n + 0 ≡ n
       plus_zero n = omega arith
-
-      and_true : (s : Bool) → (s && true) ≡ s
-      and_true true = refl
-      and_true false = refl
-
-      and_none : (s : Bool) → (s && false) ≡ false
-      and_none true = refl
-      and_none false = refl
-
-      or_none : (s : Bool) → (s || false) ≡ s
-      or_none true = refl
-      or_none false = refl
 
   -- with the pairs that are left now
   pub counted_off : (pairs : ℕ) (left : (ℕ × ℕ) → Bool) → pairs ≡ length (filter (λ e. not (mid e)) w.pairs) → ((a b : ℕ) → holds w.pairs a b ≡ true → mid (a, b) ≡ left (a, b))

@@ -5,13 +5,10 @@ use Rattle.std.proofs.lemmas.List.{append-nil}
 use Rattle.std.proofs.Common.{Option, Some, None}
 use Rattle.std.specs.Prelude.{get_or, ◌↔◌}
 use Rattle.graph_laws.proofs.CountLaws.{apart_fits}
+use Rattle.tsd_model.proofs.ValueLaws.{or_false}
 
 pub has-push : (xs : List ℕ) (b c : ℕ) → has_number (xs ++ b ∷ []) c ≡ (has_number xs c || (b == c))
-has-push [] b c = or_nothing (b == c)
-  where
-    or_nothing : (t : Bool) → (t || false) ≡ t
-    or_nothing true = refl
-    or_nothing false = refl
+has-push [] b c = or_false (b == c)
 has-push (x ∷ xs) b c = ap (λ t. (x == c) || t) (has-push xs b c) ∙ assoc (x == c) (has_number xs c) (b == c)
   where
     assoc : (s t u : Bool) → (s || (t || u)) ≡ ((s || t) || u)

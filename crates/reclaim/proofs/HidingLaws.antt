@@ -5,6 +5,7 @@ use Rattle.block_alloc.specs.LiveMap.{is_live}
 use Rattle.graph_laws.proofs.SettleLaws.{live-settle}
 use Rattle.reclaim.proofs.CollectLaws.{live_told}
 use Rattle.reclaim.proofs.HeldLaws.{has-push}
+use Rattle.tsd_model.proofs.ValueLaws.{and_false, and_true, or_false}
 
 abbrev pub with_unhidden : LiveMap → List Bool → LiveMap
 with_unhidden live bits = record live { unhidden = bits }
@@ -27,24 +28,12 @@ cleared [] k = refl
 cleared (t ∷ ts) zero = refl
 cleared (t ∷ ts) (suc k) = cleared ts k
 
-and_true : (s : Bool) → (s && true) ≡ s
-and_true true = refl
-and_true false = refl
-
-and_none : (s : Bool) → (s && false) ≡ false
-and_none true = refl
-and_none false = refl
-
-or_none : (s : Bool) → (s || false) ≡ s
-or_none true = refl
-or_none false = refl
-
 -- the block that is popped is live and isn't hidden yet
 pub popped_unhidden : (t : Table) (live : LiveMap) (gone : List Bool) (old new : List ℕ) (o : ℕ) → AreTables t live → is_live_in (graph_of t live) o ≡ true
     → Hides live (λ b. is_gone gone b && not (has_number old b)) → old ≡ new ++ o ∷ [] → is_live live.unhidden o ≡ true
 popped_unhidden t live gone old new o tables is hides last = hides o ∙ and_from (is_live live.live o) (not (is_gone gone o && not (has_number old o)))
     (sym (live_told t live o within) ∙ is)
-    (ap (λ s. not (is_gone gone o && not s)) (ap (λ xs. has_number xs o) last ∙ (has-push new o o ∙ or_right (has_number new o) (o == o) (eq-eqb o o refl))) ∙ ap not (and_none (is_gone gone o)))
+    (ap (λ s. not (is_gone gone o && not s)) (ap (λ xs. has_number xs o) last ∙ (has-push new o o ∙ or_right (has_number new o) (o == o) (eq-eqb o o refl))) ∙ ap not (and_false (is_gone gone o)))
   where
     within : o < t.geometry.blocks
     within = subst (λ n. o < n) tables.raw.laid_out.each_block (live_below (graph_of t live).blocks o is)
@@ -59,9 +48,9 @@ hidden_one live after gone old new o marked out hides last is = subst (λ (m : L
     each b = elim (cases_eq b o) [
       | inl same ↦ ap (is_live (slice_set live.unhidden o false)) same ∙ (cleared live.unhidden o
           ∙ sym (ap (λ k. is_live live.live k && not (is_gone gone k && not (has_number new k))) same
-          ∙ (ap (λ s. is_live live.live o && not (is_gone gone o && not s)) out ∙ (ap (λ s. is_live live.live o && not (s && true)) marked ∙ and_none (is_live live.live o)))))
+          ∙ (ap (λ s. is_live live.live o && not (is_gone gone o && not s)) out ∙ (ap (λ s. is_live live.live o && not (s && true)) marked ∙ and_false (is_live live.live o)))))
       | inr other ↦ get_or-set_other live.unhidden o b false false other ∙ (hides b
-          ∙ ap (λ s. is_live live.live b && not (is_gone gone b && not s)) (ap (λ xs. has_number xs b) last ∙ (has-push new o b ∙ (ap (λ s. has_number new b || s) (ne_eqb o b (λ e. other (sym e))) ∙ or_none (has_number new b)))))
+          ∙ ap (λ s. is_live live.live b && not (is_gone gone b && not s)) (ap (λ xs. has_number xs b) last ∙ (has-push new o b ∙ (ap (λ s. has_number new b || s) (ne_eqb o b (λ e. other (sym e))) ∙ or_false (has_number new b)))))
     ]
 
 -- ---- which blocks are hidden

@@ -1,15 +1,8 @@
 -- Counts that are raised at some places, and marks that are cleared.
-use Rattle.std.proofs.Common.{◌≡◌, ℕ, zero, suc, ◌+◌, ◌<◌, Bool, true, false, cond, ◌||◌, List, length, get_or, sym, ◌∙◌, ap, arith, take, inl, inr, refl}
+use Rattle.std.proofs.Common.{◌≡◌, ℕ, zero, suc, ◌+◌, ◌<◌, true, false, cond, ◌||◌, List, length, get_or, sym, ◌∙◌, ap, arith, take, inl, inr, refl}
 use Rattle.reclaim.proofs.Common.{eq-eqb, ne_eqb, cases_eq, get_or-set_same, get_or-set_other, slice_index, slice_set, replicate, has_number, are_apart, is_gone}
 use Rattle.reclaim.proofs.HeldLaws.{not_before, has-take_more}
-
-or_true : (s : Bool) → (s || true) ≡ true
-or_true true = refl
-or_true false = refl
-
-or_none : (s : Bool) → (s || false) ≡ s
-or_none true = refl
-or_none false = refl
+use Rattle.tsd_model.proofs.ValueLaws.{or_false, or_true}
 
 -- one place more is raised
 pub raised_next : (xs : List ℕ) (i : ℕ) (old now new : List ℕ) → are_apart xs ≡ true → i < length xs → get_or xs i 0 < length now
@@ -21,7 +14,7 @@ raised_next xs i old now new once h within before is b = ap (λ ys. slice_index 
       ∙ (let one : slice_index now t + 1 ≡ 1 + slice_index old t = omega (arith, here) in one
       ∙ sym (ap (λ k. cond (has_number (take (i + 1) xs) k) 1 0 + slice_index old k) same ∙ ap (λ s. cond s 1 0 + slice_index old t) held)))
   | inr other ↦ get_or-set_other now t b (slice_index now t + 1) 0 other ∙ (before b ∙ sym (ap (λ s. cond s 1 0 + slice_index old b) (has-take_more xs i b h
-      ∙ (ap (λ s. has_number (take i xs) b || s) (ne_eqb t b (λ e. other (sym e))) ∙ or_none (has_number (take i xs) b)))))
+      ∙ (ap (λ s. has_number (take i xs) b || s) (ne_eqb t b (λ e. other (sym e))) ∙ or_false (has_number (take i xs) b)))))
 ]
   where
     t : ℕ

@@ -4,6 +4,7 @@ use Rattle.reclaim.proofs.Common.{eq-eqb, eqb-true, ne_eqb, and_parts, and_from,
 use Rattle.disk_laws.proofs.GraphLaws.{length-range}
 use Rattle.reclaim.proofs.CountingLaws.{IsLowered, counting_as, counted_off}
 use Rattle.reclaim.proofs.HeldLaws.{has-push}
+use Rattle.tsd_model.proofs.ValueLaws.{and_false, and_true, or_false, or_true}
 
 -- no pair comes from past the last block
 past : (w : World) → IsRawGraph w → (a b : ℕ) → holds w.pairs a b ≡ true → (a == w.geometry.blocks) ≡ false
@@ -12,16 +13,8 @@ past w raw a b held = let below : a < length w.blocks = live_below w.blocks a (r
 -- the same, of a block that is lowered
 same_left : (g v s : Bool) → (s ≡ true → g ≡ false) → (not g || v) ≡ (not (g || s) || (v || s))
 same_left true v true f = let never = f refl in absurd (cc)
-same_left true v false f = sym (or_none v)
-  where
-    or_none : (t : Bool) → (t || false) ≡ t
-    or_none true = refl
-    or_none false = refl
+same_left true v false f = sym (or_false v)
 same_left false v true f = sym (or_true v)
-  where
-    or_true : (t : Bool) → (t || true) ≡ true
-    or_true true = refl
-    or_true false = refl
 same_left false v false f = refl
 
 -- ---- the next target of the open block
@@ -85,13 +78,9 @@ module _ (w : World) (raw : IsRawGraph w) (counts new_counts : List ℕ) (gone n
           numbers : (b < from) ⊎ (from ≤ b) → (nat_le from b && not (b == t)) ≡ nat_le (t + 1) b
           numbers (inl below) = ap (λ s. s && not (b == t)) (lt-leb from b below) ∙ sym (lt-leb (t + 1) b (omega arith))
           numbers (inr up) = elim (cases_eq b t) [
-            | inl same ↦ ap (λ s. nat_le from b && not s) (eq-eqb b t same) ∙ (and_none (nat_le from b) ∙ sym (lt-leb (t + 1) b (omega arith)))
+            | inl same ↦ ap (λ s. nat_le from b && not s) (eq-eqb b t same) ∙ (and_false (nat_le from b) ∙ sym (lt-leb (t + 1) b (omega arith)))
             | inr other ↦ let up_t = least b on up in ap (λ s. nat_le from b && not s) (ne_eqb b t other) ∙ (ap (λ s. s && true) (le-leb from b up) ∙ sym (le-leb (t + 1) b (omega arith)))
           ]
-            where
-              and_none : (s : Bool) → (s && false) ≡ false
-              and_none true = refl
-              and_none false = refl
 
   pub target_off : IsCounting w new_counts new_gone after new_number (pairs + 1) (left_at new_gone after o (t + 1))
   target_off = counted_off w raw counts new_counts gone new_gone before after number new_number t lowered long
@@ -115,15 +104,7 @@ counting_opened w counts gone old new number pairs o raw last counting = countin
 
     joined : (g v s k l : Bool) → k ≡ false → l ≡ true → ((not g || (v || s)) || (k && l)) ≡ ((not g || v) || (s && l))
     joined true true s k l e f = refl
-    joined true false s k l e f = ap (λ t. s || (t && l)) e ∙ (or_none s ∙ sym (ap (λ t. s && t) f ∙ and_true s))
-      where
-        or_none : (t : Bool) → (t || false) ≡ t
-        or_none true = refl
-        or_none false = refl
-
-        and_true : (t : Bool) → (t && true) ≡ t
-        and_true true = refl
-        and_true false = refl
+    joined true false s k l e f = ap (λ t. s || (t && l)) e ∙ (or_false s ∙ sym (ap (λ t. s && t) f ∙ and_true s))
     joined false v s k l e f = refl
 
     same : (a b : ℕ) → holds w.pairs a b ≡ true → left_at gone old w.geometry.blocks 0 (a, b) ≡ left_at gone new o 0 (a, b)
@@ -138,13 +119,9 @@ pub counting_closed : (w : World) (counts : List ℕ) (gone : List Bool) (waitin
 counting_closed w counts gone waiting number pairs o from raw all counting = counting_as w counts gone waiting waiting number pairs (left_at gone waiting o from) (left_at gone waiting w.geometry.blocks 0)
     (λ b h. h) same counting
   where
-    and_none : (s : Bool) → (s && false) ≡ false
-    and_none true = refl
-    and_none false = refl
-
     off : (a b : ℕ) → holds w.pairs a b ≡ true → ((a == o) && nat_le from b) ≡ false
     off a b held = elim (cases_eq a o) [
-      | inl same ↦ ap (λ s. (a == o) && s) (lt-leb from b (all b (subst (λ k. holds w.pairs k b ≡ true) same held))) ∙ and_none (a == o)
+      | inl same ↦ ap (λ s. (a == o) && s) (lt-leb from b (all b (subst (λ k. holds w.pairs k b ≡ true) same held))) ∙ and_false (a == o)
       | inr other ↦ ap (λ s. s && nat_le from b) (ne_eqb a o other)
     ]
 
@@ -214,16 +191,12 @@ module _ (w v : World) (a t : ℕ) (counts new_counts : List ℕ) (gone new_gone
   same : (x y : ℕ) → holds w.pairs x y ≡ true → not (has_number (doomed v) x) ≡ left_at new_gone after w.geometry.blocks 0 (x, y)
   same x y held =
       ap not (sym (deleting.ahead.told x))
-      ∙ (sym (or_none (not (is_gone gone x)))
+      ∙ (sym (or_false (not (is_gone gone x)))
       ∙ (same_left (is_gone gone x) false ((x == t) && (slice_index counts t == 1)) (λ h. subst (λ k. is_gone gone k ≡ false) (sym (eqb-true x t (and_parts (x == t) (slice_index counts t == 1) h).0)) deleting.target)
       ∙ (ap (λ g. not g || ((x == t) && (slice_index counts t == 1))) (sym (lowered.gone x))
       ∙ (ap (λ s. not (is_gone new_gone x) || s) (sym (lowered.waiting x))
-      ∙ (sym (or_none (not (is_gone new_gone x) || has_number after x))
+      ∙ (sym (or_false (not (is_gone new_gone x) || has_number after x))
       ∙ ap (λ s. (not (is_gone new_gone x) || has_number after x) || (s && nat_le 0 y)) (sym (past w raw x y held)))))))
-    where
-      or_none : (s : Bool) → (s || false) ≡ s
-      or_none true = refl
-      or_none false = refl
 
   -- What was right before the pair was deleted, and then the count of its target lowered, is the middle of bringing it up to date.
   pub counting_begun : IsCounting w new_counts new_gone after new_number pairs (left_at new_gone after w.geometry.blocks 0)
@@ -269,16 +242,8 @@ popped_gone gone old new o last waits = waits o (ap (λ xs. has_number xs o) las
 -- marking a block that waits then leaves as it was which marked blocks don't wait
 pub done_same : (g v s : Bool) → (s ≡ true → g ≡ false) → ((g || s) && not (v || s)) ≡ (g && not v)
 done_same true v true f = let never = f refl in absurd (cc)
-done_same true v false f = ap not (or_none v)
-  where
-    or_none : (t : Bool) → (t || false) ≡ t
-    or_none true = refl
-    or_none false = refl
+done_same true v false f = ap not (or_false v)
 done_same false v true f = ap not (or_true v)
-  where
-    or_true : (t : Bool) → (t || true) ≡ true
-    or_true true = refl
-    or_true false = refl
 done_same false v false f = refl
 
 -- a block that isn't marked yet

@@ -1,8 +1,9 @@
 -- What is told of a change keeps what is kept ahead right.
 use Rattle.std.proofs.Common.{◌≡◌, ℕ, ◌+◌, ◌<◌, ◌≤◌, Bool, true, false, not, cond, ◌&&◌, ◌==◌, List, [], ◌∷◌, length, nat_lt, is_none, refl, sym, ◌∙◌, ap, subst, arith, inl, inr}
-use Rattle.reclaim.proofs.Common.{eq-eqb, ne_eqb, cases_eq, and_parts, ltb-true, get_or-set_same, get_or-set_other, length-set, slice_index, slice_set, World, contents, has_number, doomed, with_contents, with_pointer, zeros, with_new_blocks, Geometry, none_pass, length-filter_le, OutStep, live_below, AreCounts, kept_count, HasGraphOf, IsRawGraph, stepped, kept_of_none, kept-with_pointer, doomed_list-with_pointer, doomed_pairs-with_pointer, kept-new_blocks, doomed_by_graph, doomed_pairs_by_graph, kept_by_graph, geometry-without_pointers, step_lowers, step_keeps_counts, doomed_after_step, Kept, is_gone, IsAheadOf, IsAdding, IsGrowing, IsStepping, kept_ahead, after_step, HasSameMarks}
+use Rattle.reclaim.proofs.Common.{eq-eqb, ne_eqb, cases_eq, and_parts, ltb-true, get_or-set_same, get_or-set_other, length-set, slice_index, slice_set, World, contents, has_number, doomed, with_pointer, with_new_blocks, Geometry, none_pass, length-filter_le, OutStep, live_below, AreCounts, kept_count, HasGraphOf, IsRawGraph, stepped, kept_of_none, kept-with_pointer, doomed_list-with_pointer, doomed_pairs-with_pointer, kept-new_blocks, doomed_by_graph, doomed_pairs_by_graph, kept_by_graph, geometry-without_pointers, step_lowers, step_keeps_counts, doomed_after_step, Kept, is_gone, IsAheadOf, IsAdding, IsGrowing, IsStepping, kept_ahead, after_step, HasSameMarks}
 use Rattle.graph_laws.proofs.CommuteLaws.{doomed-with_pointer}
 use Rattle.reclaim.specs.declared.tally.Tally.{Tally}
+use Rattle.disk_laws.proofs.FitLaws.{geometry-new_blocks}
 
 -- what is right of a world is right of each world of its graph
 pub ahead_by_graph : (v w : World) (k : Kept) → HasGraphOf v w → IsAheadOf v k → IsAheadOf w k
@@ -73,10 +74,6 @@ raise_ahead w a t k counts adding is =
     zero_more n = omega arith
 
 -- ---- new blocks
-
-geometry-new_blocks : (a : ℕ) (bs : List ℕ) (w : World) → (with_new_blocks w a bs).geometry ≡ w.geometry
-geometry-new_blocks a [] w = refl
-geometry-new_blocks a (b ∷ bs) w = geometry-new_blocks a bs (with_pointer (with_contents w b (zeros w)) a b)
 
 -- a block that becomes live is one of the disk
 pub growing_within : (w : World) (bs : List ℕ) (k : Kept) → IsGrowing w bs k → (b : ℕ) → has_number bs b ≡ true → b < w.geometry.blocks

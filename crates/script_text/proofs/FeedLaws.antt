@@ -38,11 +38,11 @@ digits_none (c ∷ cs) h =
 number_none : (n : ℕ) → n < 2 ^ 32 → line_feeds (decimal n) ≡ 0
 number_none n h = digits_none (decimal n) (are_digits (decimal n) (number_spelled n h).digits.1)
 
-first_none : (t : Bool) (n : ℕ) → cond t 1 0 + n ≡ 0 → (t ≡ false) × (n ≡ 0)
+pub first_none : (t : Bool) (n : ℕ) → cond t 1 0 + n ≡ 0 → (t ≡ false) × (n ≡ 0)
 first_none true n e = absurd (omega (arith, e))
 first_none false n e = (refl, omega (arith, e))
 
-index_none : (t : List ℕ) (d : ℕ) → line_feeds t ≡ 0 → (slice_index t d == 10) ≡ false
+pub index_none : (t : List ℕ) (d : ℕ) → line_feeds t ≡ 0 → (slice_index t d == 10) ≡ false
 index_none [] d h = refl
 index_none (c ∷ cs) zero h = (first_none (c == 10) (line_feeds cs) h).0
 index_none (c ∷ cs) (suc d) h = index_none cs d (first_none (c == 10) (line_feeds cs) h).1

@@ -7,6 +7,7 @@ use Rattle.std.proofs.lemmas.List.{take_more, take-append-drop}
 use Rattle.hex.specs.Hex.{decode_of, encode_lower}
 use Rattle.script_text.specs.Grammar.{IsNumber, IsData}
 use Rattle.script_text.specs.Texts.{data_text, target_words, up_to_last}
+use Rattle.tsd_model.proofs.ValueLaws.{and_false}
 
 -- ---- words
 
@@ -48,11 +49,7 @@ zeros_less bs front zeros n at_front behind zero_there =
 
 other_more : (bs : List ℕ) (x : ℕ) → x ≢ 0 → list_all (λ y. y == 0) (bs ++ x ∷ []) ≡ false
 other_more [] x h = ap (λ t. t && true) (ne_eqb x 0 h)
-other_more (b ∷ bs) x h = ap (λ t. (b == 0) && t) (other_more bs x h) ∙ never (b == 0)
-  where
-    never : (t : Bool) → (t && false) ≡ false
-    never true = refl
-    never false = refl
+other_more (b ∷ bs) x h = ap (λ t. (b == 0) && t) (other_more bs x h) ∙ and_false (b == 0)
 
 -- any other byte keeps all before it
 pub keep_other : (bs : List ℕ) (x : ℕ) → x ≢ 0 → up_to_last (bs ++ x ∷ []) ≡ bs ++ x ∷ []

@@ -23,7 +23,7 @@ use Rattle.serving.proofs.Prompt.{prompt_next}
 use Rattle.serving.proofs.Debts.{debt_next, owing_answer, owing_rest, owing_longer}
 
 -- of what stops a request, none is that the input was cut short
-not_cut : (why : Status) → (why ≡ status.DeviceFault) ⊎ (why ≡ status.PutFault) → IsCutShort why → ⊥
+pub not_cut : (why : Status) → (why ≡ status.DeviceFault) ⊎ (why ≡ status.PutFault) → IsCutShort why → ⊥
 not_cut why (inl e) cut = subst IsCutShort e cut
 not_cut why (inr e) cut = subst IsCutShort e cut
 

@@ -1,6 +1,7 @@
 -- How promptly requests are answered: how often is written before an answer is sent, and behind it.
-use Rattle.std.specs.Prelude.{◌≡◌, ◌≢◌, ℕ, ◌+◌, ◌≤◌, List, [], ◌∷◌, ◌++◌, ⊤}
+use Rattle.std.specs.Prelude.{◌≡◌, ◌≢◌, ℕ, ◌+◌, ◌≤◌, List, [], ◌∷◌, ◌++◌, length, ⊤}
 use Rattle.image_device.specs.Image.{Image}
+use Rattle.image_device.specs.Runs.{LeavesOnly}
 use Rattle.image_device.specs.View.{View}
 use Rattle.tsd_words.specs.declared.status.Status.{Status}
 use Rattle.tsd_words.specs.declared.status.Status.TheVariants as status
@@ -55,6 +56,20 @@ IsCutShort status.SourceFault = ⊤
 IsCutShort status.TooLong = ⊤
 IsCutShort status.Truncated = ⊤
 IsCutShort r = ⊥
+
+-- What a crash leaves where nothing is done behind an answer: no more was sent than is in the end, and once all of that
+-- was, the disk is as it reads in the end.
+pub record IsStill (new : View) (x : Image) (f : List ℕ) : Type 0 where
+  pub few : length f ≤ length new.sent
+  pub whole : f ≡ new.sent → x ≡ new.reads
+
+-- Nothing is done between two moments behind what was sent last.
+abbrev pub EndsBySending : View → View → Type 0
+EndsBySending old new = LeavesOnly old new (IsStill new)
+
+-- Where the input was cut short behind an answer that was sent, nothing is done behind the last one.
+abbrev pub StopsBySending : Status → View → View → Type 0
+StopsBySending r old new = IsCutShort r → new.sent ≢ old.sent → EndsBySending old new
 
 -- How promptly a run answered that ended so. Bytes came in, and the first of the requests that they hold were answered,
 -- each promptly: all of them, unless the device or the sending failed. Behind their answers a front of one more may be

@@ -3,7 +3,8 @@
 ghost use Rattle.std.specs.Prelude.{◌≡◌, ◌≢◌, ◌≤◌, ◌<◌, ◌+◌, ◌-◌, ◌^◌, ◌++◌, []};
 ghost use Rattle.std.specs.Prelude.{ℕ, true, false, List, length, min, take, ◌↔◌, IfOk, OnErr};
 ghost use Rattle.image_device.specs.Counts.{CountsEnd, CountsFault, Rose};
-ghost use Rattle.serving.specs.Goes.{IsFresh, SameCounts, unread, remaining, ends_left, IsNextAtEnd, Handed, Reads, IsFoundNext};
+ghost use Rattle.serving.specs.Goes.{Handed, IsFoundNext, IsFresh, IsNextAtEnd, Reads, SameCounts};
+ghost use Rattle.serving.specs.Goes.{ends_left, remaining, unread};
 ghost use Rattle.serving.specs.Input.{completed};
 ghost use Rattle.serving.specs.Ran.{IsAtEnd, taking};
 ghost use Rattle.serving.specs.declared.protocol.Ending.{Ending as EndingOf};

@@ -5,7 +5,7 @@ ghost use Rattle.image_device.specs.Runs.{LeavesPart};
 ghost use Rattle.serving.specs.Faults.{TellsFaults};
 ghost use Rattle.serving.specs.Goes.{IsFresh};
 ghost use Rattle.serving.specs.Handling.{FitsDevice};
-ghost use Rattle.serving.specs.Prompt.{IsOfPort, Promptly, mark};
+ghost use Rattle.serving.specs.Prompt.{EndsBySending, IsCutShort, IsOfPort, Promptly, mark};
 ghost use Rattle.serving.specs.Ran.{EndsOnce, Ran, moments, taking};
 
 use crate::intake::{INPUT_MAX, Intake, Next};
@@ -52,6 +52,10 @@ pub fn serve<S: Source, P: Port, R: Protocol, H: Server<R>>(
         (H.state server.old (P.view port.old).reads)
         (taking S.told S.taken S.left_bytes S.ended source.old source.new) (mark (P.view port.old))
         (mark (P.view port.new)) }
+    /// promise: Where nothing is done behind an answer and the input was cut short, a crash leaves the disk as it reads
+    /// in the end once all was sent: nothing is settled behind the last answer.
+    ensures still { P.told → H.ends_by_sending → IsCutShort result → EndsBySending (P.view port.old) (P.view
+        port.new) }
     /// promise: However the run ends, a crash at any moment leaves what no request touches as it was.
     ensures aside_kept { P.told → LeavesPart (H.aside server.old) (P.view port.old) (P.view port.new) }
     ensures aside { H.aside server.new ≡ H.aside server.old }
@@ -96,6 +100,8 @@ pub fn serve_in<S: Source, P: Port, R: Protocol, H: Server<R>>(
         (H.state server.old (P.view port.old).reads)
         (taking S.told S.taken S.left_bytes S.ended source.old source.new) (mark (P.view port.old))
         (mark (P.view port.new)) }
+    ensures still { P.told → H.ends_by_sending → IsCutShort result → EndsBySending (P.view port.old) (P.view
+        port.new) }
     ensures aside_kept { P.told → LeavesPart (H.aside server.old) (P.view port.old) (P.view port.new) }
     ensures aside { H.aside server.new ≡ H.aside server.old }
     ensures lender { H.lender server.new ≡ H.lender server.old }

@@ -6,7 +6,7 @@ ghost use Rattle.image_device.specs.Counts.{CountsFault, CountsFaultOf};
 ghost use Rattle.image_device.specs.Image.{Image};
 ghost use Rattle.image_device.specs.Runs.{LeavesOnly, LeavesPart};
 ghost use Rattle.serving.specs.Handling.{FitsDevice, CountsRise};
-ghost use Rattle.serving.specs.Prompt.{IsOfPort, IsPrompt, mark};
+ghost use Rattle.serving.specs.Prompt.{EndsBySending, IsOfPort, IsPrompt, mark};
 ghost use Rattle.serving.specs.Service.{Service, IsCounted, IsInAnswer, LeftBy};
 ghost use Rattle.serving.specs.Work.{WorkCount, used};
 
@@ -40,6 +40,9 @@ pub trait Server<R: Protocol> {
 
     /// Nothing is left to be done on a disk that reads so.
     ghost is_closed: { Image → Type 0 };
+
+    /// Nothing is done behind an answer.
+    ghost ends_by_sending: { Type 0 };
 
     /// What of an image no request touches.
     ghost aside: { Self → Image → Image };
@@ -87,6 +90,8 @@ pub trait Server<R: Protocol> {
         // What is done before the answer is sent has a bound, and what is done behind it.
         ensures prompt { P.told → OnOk result (IsPrompt service work (IsOfPort P.view)
             (state self.old (P.view port.old).reads) request.now (mark (P.view port.old)) (mark (P.view port.new))) }
+        // Where nothing is done behind an answer, a crash leaves the disk as it reads in the end once all was sent.
+        ensures still { P.told → ends_by_sending → OnOk result (EndsBySending (P.view port.old) (P.view port.new)) }
         // However it ended, a crash at any moment leaves what no request touches as it was.
         ensures aside_kept { P.told → LeavesPart (aside self.old) (P.view port.old) (P.view port.new) }
         ensures stops { IfErr result (λ why. (why ≡ Status.DeviceFault) ⊎ (why ≡ Status.PutFault)) }

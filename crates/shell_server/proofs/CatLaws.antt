@@ -1,10 +1,11 @@
 -- The line of a file's bytes, part by part.
-use Rattle.std.proofs.Common.{◌≡◌, ◌⊎◌, inl, inr, ⊎_elim, ℕ, zero, suc, ◌+◌, ◌/◌, ◌%◌, ◌<◌, ◌≤◌, ◌==◌, Bool, true, false, cond, List, [], ◌∷◌, ◌++◌, length, take, drop, refl, sym, ◌∙◌, ap, arith, append-nil, append_assoc, take-append-drop}
-use Rattle.shell_server.proofs.Common.{Image, slice_index, nat_tests, encode_with, encode_lower, lower_digits, World, free_count, line_feeds, feeds-append, Path, Tree, Answer, bytes, refused, need_of, refusal, judged, step_in, ShellAsk, FsRefusal, TellsPart, is_empty, answer_text, data_head, ShellState, AnswersByLine, IsInParts, RestsIn, files_after, heard, shell_step, tree_in}
-use Rattle.std.specs.Prelude.{Option, Some, None}
+use Rattle.std.proofs.Common.{◌≡◌, ◌⊎◌, inl, inr, ⊎_elim, ℕ, zero, suc, ◌+◌, ◌/◌, ◌%◌, ◌<◌, ◌≤◌, ◌==◌, false, List, [], ◌∷◌, ◌++◌, length, take, drop, refl, sym, ◌∙◌, ap, arith, append-nil, append_assoc, take-append-drop}
+use Rattle.shell_server.proofs.Common.{Image, slice_index, nat_tests, encode_with, encode_lower, lower_digits, World, Path, is_path, Answer, bytes, refused, ShellAsk, FsRefusal, TellsPart, is_empty, answer_text, data_head, ShellState, AnswersByLine, IsInParts, RestsIn, shell_step, part_of}
 use Rattle.std.proofs.Math.Seq.{take-add}
 use Rattle.std.proofs.lemmas.List.{take_all}
-use Rattle.shell_server.proofs.KeptLaws.{none_taken}
+use Rattle.shell_text.proofs.LookedLaws.{looked_none}
+use Rattle.shell_server.proofs.KeptLaws.{look_answered}
+use Rattle.shell_server.proofs.StepLaws.{heard_looks}
 use Rattle.fs_trees.specs.declared.ask.ShellAsk.TheVariants as ask
 
 -- ---- digits
@@ -18,30 +19,6 @@ headed : (x : List ℕ) → data_head (is_empty x) ++ encode_lower x ≡ answer_
 unfolding encode_with
 headed [] = refl
 headed (b ∷ bs) = refl
-
-first_none : (t : Bool) (n : ℕ) → cond t 1 0 + n ≡ 0 → (t ≡ false) × (n ≡ 0)
-first_none true n e = absurd (omega (arith, e))
-first_none false n e = (refl, omega (arith, e))
-
-index_none : (t : List ℕ) (d : ℕ) → line_feeds t ≡ 0 → (slice_index t d == 10) ≡ false
-index_none [] d h = refl
-index_none (c ∷ cs) zero h = (first_none (c == 10) (line_feeds cs) h).0
-index_none (c ∷ cs) (suc d) h = index_none cs d (first_none (c == 10) (line_feeds cs) h).1
-
-hex_none : (x : List ℕ) → line_feeds (encode_lower x) ≡ 0
-unfolding encode_with
-hex_none [] = refl
-hex_none (b ∷ bs) =
-    ap (λ t. cond t 1 0 + line_feeds (slice_index lower_digits (b % 16) ∷ encode_with lower_digits bs)) (index_none lower_digits (b / 16) refl)
-    ∙ ap (λ t. 0 + (cond t 1 0 + line_feeds (encode_with lower_digits bs))) (index_none lower_digits (b % 16) refl)
-    ∙ ap (λ n. 0 + (0 + n)) (hex_none bs)
-
-head_none : (b : Bool) → line_feeds (data_head b) ≡ 0
-head_none true = refl
-head_none false = refl
-
-bytes_line : (x : List ℕ) → line_feeds (answer_text (bytes x)) ≡ 0
-bytes_line x = ap line_feeds (sym (headed x)) ∙ omega (arith, feeds-append (data_head (is_empty x)) (encode_lower x), head_none (is_empty x), hex_none x)
 
 -- ---- the parts
 
@@ -95,22 +72,8 @@ no_size (b ∷ bs) n e = ap data_head (some_not_none n (omega (arith, e)))
 
 -- ---- the answer
 
-cat_tree : (t : Tree) (free : ℕ) (path : Path) (o : Option FsRefusal) → (judged t free (ask.Cat path) o).tree ≡ t
-cat_tree t free path (Some r) = refl
-cat_tree t free path None = refl
-
-pub cat_answers : (start : World) (s : ShellState) (path : Path) (x : List ℕ) → heard s.files.kind (ask.Cat path) ≡ ask.Cat path → (shell_step s (ask.Cat path)).answer ≡ bytes x → (y : Image) → RestsIn start s y → AnswersByLine start s (ask.Cat path) (whole_line x) s
-cat_answers start s path x hears is y rests = record {
-  from = y;
-  at_rest = rests;
-  text = ap (λ a. answer_text a ++ 10 ∷ []) (sym is);
-  one_line = ap (λ a. line_feeds (answer_text a)) is ∙ bytes_line x;
-  tree = sym (ap (λ (b : ShellAsk). (step_in s.files.kind s.world s.files.root (tree_in s) b).tree) hears ∙ cat_tree (tree_in s) (free_count s.world) path (refusal s.files.kind s.world.geometry (tree_in s) (free_count s.world) (length s.world.pairs) (need_of s.files.kind s.world s.files.root (tree_in s) (ask.Cat path)) (ask.Cat path)));
-  same = λ other. refl;
-  files = sym (ap (files_after s.files) hears);
-  kept = rests.kept;
-  taken = none_taken s.files s.world;
-}
+pub cat_answers : (start : World) (s : ShellState) (path : Path) (x : List ℕ) → (shell_step s (ask.Cat path)).answer ≡ bytes x → (y : Image) → RestsIn start s y → AnswersByLine start s (ask.Cat path) (whole_line x) s
+cat_answers start s path x is y rests = look_answered start s (ask.Cat path) (bytes x) is (looked_none (part_of x) tt) y rests (heard_looks (is_path path) (ask.Cat path) refl)
 
 pub cat_in_parts : (path : Path) (x : List ℕ) → IsInParts (ask.Cat path) (whole_line x)
 cat_in_parts path x = (x, refl)

@@ -20,6 +20,8 @@ pub use Rattle.fs_trees.specs.Tree.{Tree, a_dir, a_file, at, bytes_in, is_there,
 pub use Rattle.fs_trees.specs.declared.ask.ShellAsk.{ShellAsk}
 pub use Rattle.fs_trees.specs.declared.ask.ShellKind.{ShellKind}
 pub use Rattle.fs_trees.specs.declared.refusal.FsRefusal.{FsRefusal}
+pub use Rattle.fs_walks.specs.Nexts.{AreBehind, TellsNames}
+pub use Rattle.gathered_tasks.specs.Blocks.{IsBegun, There, blocks_view, held_world, world_below}
 pub use Rattle.hex.specs.Hex.{encode_lower, lower_digits}
 unfoldable pub use Rattle.hex.specs.Hex.{encode_with}
 pub use Rattle.image_device.proofs.Moments.{firm_image, joined, started, weakened}
@@ -32,15 +34,21 @@ pub use Rattle.image_world.specs.Stands.{Stands, world_of}
 pub use Rattle.script_text.proofs.FeedLaws.{feeds-append}
 pub use Rattle.script_text.specs.Pieces.{line_feeds}
 pub use Rattle.serving.specs.Service.{IsAnswering, IsInAnswer, LeftBy}
-pub use Rattle.shell_server.specs.Carried.{IsCarried, IsLeftBeforeOrAfter, IsLooked, IsOneLine, IsServed, change_line}
-pub use Rattle.shell_server.specs.Kept.{AreReady, FitsShell, IsClient, shell_rests, shell_stands, shell_state}
-pub use Rattle.shell_server.specs.Shell.{Answers as AnswersFile, AnswersByLine, LooksByLine, IsInParts, IsKeptSince, IsLeftOf, IsMaking, IsTakenForTree, RestsIn, ShellState, resting, files_after, heard, shell_service, shell_step, tree_by, tree_in, tree_of, tree_under, unmounted}
-pub use Rattle.shell_server.specs.Speaking.{IsSpeaking}
+pub use Rattle.shell_server.specs.Carried.{IsCalled, IsCarried, IsLeftBeforeOrAfter, IsLooked, IsOneLine, IsServed, IsSpeaking, change_line}
+pub use Rattle.shell_server.specs.Changed.{IsChanged, IsGathered, IsOneCommit, is_change}
+pub use Rattle.shell_server.specs.Kept.{AreReady, FitsShell, IsClient, shell_rests, shell_stands, shell_state, disk_state}
+pub use Rattle.shell_server.specs.Looks.{entry_seen, names_seen, next_seen, part_seen}
+pub use Rattle.shell_server.specs.Shell.{Answers as AnswersFile, AnswersByLine, LooksByLine, IsInParts, IsKeptSince, IsLeftOf, IsMaking, IsTakenForTree, RestsIn, ShellState, resting, files_after, heard, shell_service, shell_step, tree_by, tree_in, tree_of, tree_under, unmounted, is_heard, look_of}
+pub use Rattle.shell_text.specs.Looked.{Looked, dir_here, file_of, looked_text, next_dir, next_file, none_left, not_heard, not_looked, part_of}
 pub use Rattle.shell_text.specs.Texts.{answer_text, data_head, names_head}
 pub use Rattle.shell_text.specs.declared.file_ask.FileAsk.{FileAsk}
 pub use Rattle.std.proofs.lemmas.Bool.Decides.{nat_tests}
-pub use Rattle.std.specs.Prelude.{Err, IfErr, IfOk, IsTrue, MatchResult, Ok, OnOk, Result, codes, find, flat_map, is_some, slice_get, slice_index, slice_index_or}
-pub use Rattle.tsd_core.specs.Core.{Core, FitsReads, IsCoreAt, IsCoreReady}
+pub use Rattle.std.proofs.lemmas.Bool.{and_from, and_parts, eq-eqb, eqb-true, or_cases, or_left, or_right}
+pub use Rattle.std.specs.List.{list_all}
+pub use Rattle.std.specs.Prelude.{Err, IfErr, IfOk, IsTrue, MatchResult, Ok, OnOk, Result, codes, find, flat_map, is_some, slice_get, slice_index, slice_index_or, IsErr, IsErrAnd, None, OnErr, Option, Some, is_err, is_none}
+pub use Rattle.tsd_core.specs.Core.{Core, FitsReads, IsCoreAt, IsCoreReady, sessions_of, state_on, told_state, told_world}
+pub use Rattle.tsd_model.specs.Sessions.{Fits, is_open}
+pub use Rattle.tsd_model.specs.Valid.{IsValid}
 pub use Rattle.tsd_model.specs.Verdict.{is_empty}
 pub use Rattle.tsd_model.specs.World.{World, free_count}
 pub use Rattle.tsd_model.specs.declared.geometry.Geometry.{Geometry}

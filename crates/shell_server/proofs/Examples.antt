@@ -1,10 +1,8 @@
 -- What the definitions say, worked out.
 use Rattle.std.proofs.Common.{◌≡◌, [], ◌∷◌, refl}
-use Rattle.shell_server.proofs.Common.{codes, World, empty_tree, answer_text, ShellState, resting, heard, shell_step, unmounted}
+use Rattle.shell_server.proofs.Common.{codes, World, empty_tree, answer_text, ShellState, resting, heard, shell_step, unmounted, not_heard, not_looked, look_of}
 use Rattle.fs_trees.specs.declared.refusal.FsRefusal.TheVariants as no
-use Rattle.shell_text.specs.Looked.{not_heard, not_looked}
 use Rattle.shell_text.specs.declared.file_ask.FileAsk.TheVariants as file
-use Rattle.shell_server.specs.Shell.{look_of}
 use Rattle.tsd_model.specs.declared.caps.Cap.{Cap}
 use Rattle.fs_trees.specs.declared.ask.ShellAsk.TheVariants as ask
 use Rattle.fs_trees.specs.declared.ask.ShellKind.TheVariants as kind

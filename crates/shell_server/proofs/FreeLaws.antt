@@ -1,13 +1,13 @@
 -- The number of free blocks, read and answered.
-use Rattle.std.proofs.Common.{◌≡◌, ◌≢◌, inl, ℕ, ◌^◌, ◌<◌, List, [], ◌∷◌, ◌++◌, refl, sym, ◌∙◌, ap, subst, arith, decimal}
-use Rattle.shell_server.proofs.Common.{Image, Result, Ok, Err, IfOk, IfErr, codes, World, free_count, View, PutsAll, weakened, line_feeds, feeds-append, Answer, available, refused, FsRefusal, BlocksView, FilesView, step_on, answer_text, Status, Core, ShellState, AnswersByLine, RestsIn, shell_rests, shell_step, shell_state, IsLeftBeforeOrAfter, IsLooked, IsServed}
-use Rattle.shell_server.proofs.KeptLaws.{none_taken}
+use Rattle.std.proofs.Common.{◌≡◌, ◌≢◌, ℕ, ◌^◌, ◌<◌, List, [], ◌∷◌, ◌++◌, refl, sym, ap, arith, decimal}
+use Rattle.shell_server.proofs.Common.{Image, Result, Ok, Err, IfOk, IfErr, codes, World, free_count, View, PutsAll, line_feeds, feeds-append, Answer, available, refused, FsRefusal, BlocksView, FilesView, step_on, answer_text, Status, Core, ShellState, AnswersByLine, RestsIn, shell_step, shell_state, IsLooked, IsServed}
+use Rattle.shell_server.proofs.KeptLaws.{look_answered}
 use Rattle.fs_trees.specs.declared.ask.ShellAsk.TheVariants as ask
 use Rattle.shell_text.specs.declared.file_ask.FileAsk.TheVariants as file
 use Rattle.fs_trees.specs.declared.refusal.FsRefusal.TheVariants as no
 use Rattle.tsd_words.specs.declared.status.Status.TheVariants as status
 use Rattle.shell_text.proofs.RefusalLaws.{number_none}
-use Rattle.shell_server.proofs.SendLaws.{line_served}
+use Rattle.shell_server.proofs.AfterLaws.{rests_there, served_line_after}
 
 abbrev pub free_line : ℕ → List ℕ
 free_line n = answer_text (available n) ++ 10 ∷ []
@@ -29,27 +29,11 @@ free_one_line : (n : ℕ) → n < 2 ^ 32 → line_feeds (answer_text (available 
 free_one_line n few = omega (arith, feeds-append (codes "free") (32 ∷ decimal n), number_none n few)
 
 free_answers : (start : World) (s : ShellState) (n : ℕ) → n < 2 ^ 32 → TellsFree n (shell_step s ask.Df).answer → (x : Image) → RestsIn start s x → AnswersByLine start s ask.Df (free_line n) s
-free_answers start s n few is x rests = record {
-  from = x;
-  at_rest = rests;
-  text = ap (λ a. answer_text a ++ 10 ∷ []) (sym is);
-  one_line = ap (λ a. line_feeds (answer_text a)) is ∙ free_one_line n few;
-  tree = refl;
-  same = λ other. refl;
-  files = refl;
-  kept = rests.kept;
-  taken = none_taken s.files s.world;
-}
+free_answers start s n few is x rests = look_answered start s ask.Df (available n) is (free_one_line n few) x rests refl
 
 -- the number was read, and its line sent
 pub served_free : {Y : Type 0} (told : Type 0) (start : World) (f0 f1 : FilesView) (c0 c1 : Core) (v w z : View) (n : ℕ) → n < 2 ^ 32 → IsLooked told start ask.Df f0 f1 c0 c1 v w TellsFree (Ok n)
     → (result : Result Y Status) → IfErr result (λ why. why ≡ status.PutFault) → PutsAll told (free_line n) w z result → IsServed told start (file.Shell ask.Df) f0 f1 c0 c1 v z result
 served_free told start f0 f1 c0 c1 v w z n few look result stops puts =
-    line_served told start (file.Shell ask.Df) f0 f1 c0 c1 v w z (free_line n) look.ready.0 (λ t. (look.at t).0)
-    (λ t.
-    let same = (look.state t).0 in
-    subst (λ (s : ShellState). AnswersByLine start (shell_state f0 v.reads) ask.Df (free_line n) s) (sym same)
-    (free_answers start (shell_state f0 v.reads) n few (look.read t) w.reads (subst (λ (s : ShellState). RestsIn start s w.reads) same (shell_rests start f1 c1 w.reads (look.at t).0.1))))
-    look.sent
-    (λ t. weakened v w _ (λ x g. IsLeftBeforeOrAfter start (shell_state f0 v.reads) (file.Shell ask.Df) x × (g ≡ v.sent)) (look.any_moment t) (λ x g left. (inl left.0, left.1)))
-    look.faultless.0 look.put_faults look.behind result stops puts
+    served_line_after look (λ e. cc) (file.Shell ask.Df) z (free_line n) result
+    (λ t. free_answers start (shell_state f0 v.reads) n few (look.read t) w.reads (rests_there look (λ e. cc) t)) stops puts

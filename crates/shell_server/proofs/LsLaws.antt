@@ -1,58 +1,16 @@
 -- The line of the names in a directory, name by name.
-use Rattle.std.proofs.Common.{◌≡◌, inl, inr, ℕ, ◌+◌, ◌-◌, ◌<◌, ◌≤◌, ◌==◌, Bool, true, false, not, cond, ◌&&◌, nat_lt, nat_le, List, [], ◌∷◌, ◌++◌, length, refl, sym, ◌∙◌, ap, subst, arith, append-nil, append_assoc, length-append, Option, Some, None}
-use Rattle.std.proofs.lemmas.Bool.{and_parts, and_from, or_cases, or_left, or_right, eq-eqb, eqb-true}
-use Rattle.shell_server.proofs.Common.{Image, nat_tests, find, flat_map, is_some, World, free_count, line_feeds, feeds-append, Name, Path, name_max, name_lt, is_name, is_name_byte, is_reserved, is_below_first_name, are_ascending, Tree, nothing, at, names_in, Answer, listed, refused, need_of, refusal, judged, step_in, ShellAsk, FsRefusal, TellsNext, above, is_empty, answer_text, names_head, ShellState, AnswersByLine, IsInParts, RestsIn, files_after, heard, shell_step, tree_by, tree_in, tree_of, IsNameListing}
+use Rattle.std.proofs.Common.{◌≡◌, ℕ, ◌+◌, ◌-◌, ◌<◌, ◌≤◌, Bool, true, false, not, cond, List, [], ◌∷◌, ◌++◌, length, refl, sym, ◌∙◌, ap, subst, arith, append-nil, append_assoc, length-append, Option, Some, None}
+use Rattle.shell_server.proofs.Common.{Image, codes, find, flat_map, is_some, World, free_count, line_feeds, feeds-append, Name, Path, name_lt, is_name, is_below_first_name, are_ascending, Tree, nothing, at, names_in, Answer, listed, refused, need_of, refusal, judged, step_in, ShellAsk, FsRefusal, TellsNext, above, is_empty, answer_text, names_head, ShellState, AnswersByLine, IsInParts, RestsIn, heard, shell_step, tree_by, tree_in, tree_of, IsNameListing, and_parts, list_all, IsValid, is_change, next_dir}
 use Rattle.std.proofs.lemmas.Grind.{flat_map-append}
-use Rattle.std.specs.List.{list_all}
-use Rattle.tsd_model.specs.Valid.{IsValid}
 use Rattle.fs_trees.specs.ChainTree.{names_max}
-use Rattle.shell_server.proofs.KeptLaws.{none_taken}
+use Rattle.shell_server.proofs.KeptLaws.{look_answered}
 use Rattle.fs_trees.specs.declared.ask.ShellAsk.TheVariants as ask
 use Rattle.shell_text.proofs.AnswerLaws.{names_in_parts}
 use Rattle.fs_laws.proofs.ListingLaws.{tree_lists, nothing_lists}
+use Rattle.fs_laws.proofs.OrderLaws.{below_only, lt_irreflexive, lt_trans}
+use Rattle.shell_text.proofs.LookedLaws.{looked_none}
 
 -- ---- names in order
-
-name_lt_trans : (a b c : Name) → name_lt a b ≡ true → name_lt b c ≡ true → name_lt a c ≡ true
-name_lt_trans a [] c p q = absurd (cc)
-name_lt_trans a (y ∷ b) [] p q = absurd (cc)
-name_lt_trans [] (y ∷ b) (z ∷ c) p q = refl
-name_lt_trans (x ∷ a) (y ∷ b) (z ∷ c) p q =
-    elim (or_cases (nat_lt x y) ((x == y) && name_lt a b) p) [
-      | inl low ↦ elim (or_cases (nat_lt y z) ((y == z) && name_lt b c) q) [
-        | inl high ↦ let far : nat_lt x z ≡ true = grind (arith, nat_tests) in or_left (nat_lt x z) _ far
-        | inr same ↦ let eq = eqb-true y z (and_parts (y == z) (name_lt b c) same).0 in let far : nat_lt x z ≡ true = grind (arith, nat_tests) in or_left (nat_lt x z) _ far
-      ]
-      | inr same ↦
-          let one = and_parts (x == y) (name_lt a b) same in
-          let eq = eqb-true x y one.0 in
-          elim (or_cases (nat_lt y z) ((y == z) && name_lt b c) q) [
-            | inl high ↦ let far : nat_lt x z ≡ true = grind (arith, nat_tests) in or_left (nat_lt x z) _ far
-            | inr more ↦ let two = and_parts (y == z) (name_lt b c) more in
-                or_right (nat_lt x z) _ (and_from (x == z) (name_lt a c) (eq-eqb x z (eq ∙ eqb-true y z two.0)) (name_lt_trans a b c one.1 two.1))
-          ]
-    ]
-
-not_below : (n : Name) → name_lt n n ≡ true → ⊥
-not_below [] h = absurd (cc)
-not_below (c ∷ n) h = elim (or_cases (nat_lt c c) ((c == c) && name_lt n n) h) [
-  | inl less ↦ absurd (grind (arith, nat_tests))
-  | inr same ↦ not_below n (and_parts (c == c) (name_lt n n) same).1
-]
-
-not_both : (m n : Name) → name_lt m n ≡ true → name_lt n m ≡ false
-not_both m n h = by (name_lt n m) refl
-  where
-    by : (t : Bool) → name_lt n m ≡ t → t ≡ false
-    by false e = refl
-    by true e = absurd (not_below m (name_lt_trans m n m h e))
-
-not_itself : (n : Name) → name_lt n n ≡ false
-not_itself n = by (name_lt n n) refl
-  where
-    by : (t : Bool) → name_lt n n ≡ t → t ≡ false
-    by false e = refl
-    by true e = absurd (not_below n e)
 
 -- the first of some names
 abbrev pub first_of : List Name → Option Name
@@ -63,7 +21,7 @@ below_all : (d n : Name) (ds es : List Name) → is_below_first_name d (ds ++ n 
 below_all d n [] es h up = h
 below_all d n (e ∷ ds) es h up =
     let parts = and_parts (is_below_first_name e (ds ++ n ∷ es)) (are_ascending (ds ++ n ∷ es)) up in
-    name_lt_trans d e n h (below_all e n ds es parts.0 parts.1)
+    lt_trans d e n h (below_all e n ds es parts.0 parts.1)
 
 above_itself : (n : Name) (es : List Name) → is_below_first_name n es ≡ true → find (name_lt n) es ≡ first_of es
 above_itself n [] h = refl
@@ -73,10 +31,10 @@ above_itself n (e ∷ es) h = ap (λ t. cond t (Some e) (find (name_lt n) es)) h
 above_next : (ds : List Name) (n : Name) (es : List Name) → are_ascending (ds ++ n ∷ es) ≡ true → above n (ds ++ n ∷ es) ≡ first_of es
 above_next [] n es up =
     let parts = and_parts (is_below_first_name n es) (are_ascending es) up in
-    ap (λ t. cond t (Some n) (find (name_lt n) es)) (not_itself n) ∙ above_itself n es parts.0
+    ap (λ t. cond t (Some n) (find (name_lt n) es)) (lt_irreflexive n) ∙ above_itself n es parts.0
 above_next (d ∷ ds) n es up =
     let parts = and_parts (is_below_first_name d (ds ++ n ∷ es)) (are_ascending (ds ++ n ∷ es)) up in
-    ap (λ t. cond t (Some d) (find (name_lt n) (ds ++ n ∷ es))) (not_both d n (below_all d n ds es parts.0 parts.1)) ∙ above_next ds n es parts.1
+    ap (λ t. cond t (Some d) (find (name_lt n) (ds ++ n ∷ es))) (below_only d n (below_all d n ds es parts.0 parts.1)) ∙ above_next ds n es parts.1
 
 is_some_name : (n : Name) → is_name n ≡ true → name_lt [] n ≡ true
 is_some_name [] h = absurd (cc)
@@ -89,17 +47,8 @@ above_none (n ∷ ns) h = ap (λ t. cond t (Some n) (find (name_lt []) ns)) (is_
 
 -- ---- no line feeds
 
-byte_none : (c : ℕ) → is_name_byte c ≡ true → (c == 10) ≡ false
-byte_none c h = grind (arith, nat_tests)
-
-bytes_none : (n : Name) → list_all is_name_byte n ≡ true → line_feeds n ≡ 0
-bytes_none [] h = refl
-bytes_none (c ∷ n) h =
-    let parts = and_parts (is_name_byte c) (list_all is_name_byte n) h in
-    ap (λ t. cond t 1 0 + line_feeds n) (byte_none c parts.0) ∙ ap (λ k. 0 + k) (bytes_none n parts.1)
-
 name_none : (n : Name) → is_name n ≡ true → line_feeds n ≡ 0
-name_none n h = bytes_none n (and_parts (nat_le 1 (length n) && nat_le (length n) name_max) (list_all is_name_byte n) (and_parts (nat_le 1 (length n) && nat_le (length n) name_max && list_all is_name_byte n) (not (is_reserved n)) h).0).1
+name_none n h = let all = looked_none (next_dir n) h in omega (arith, feeds-append (codes "next ") (n ++ codes " dir"), feeds-append n (codes " dir"), all)
 
 names_none : (ns : List Name) → list_all is_name ns ≡ true → line_feeds (flat_map (λ n. 32 ∷ n) ns) ≡ 0
 names_none [] h = refl
@@ -157,10 +106,6 @@ line_end ns ds is = line_parts ns ds [] is
 
 -- ---- the answer
 
-ls_tree : (t : Tree) (free : ℕ) (path : Path) (o : Option FsRefusal) → (judged t free (ask.Ls path) o).tree ≡ t
-ls_tree t free path (Some r) = refl
-ls_tree t free path None = refl
-
 ls_listed : (t : Tree) (free : ℕ) (path : Path) (o : Option FsRefusal) (ns : List Name) → (judged t free (ask.Ls path) o).answer ≡ listed ns → names_in (at t path) ≡ ns
 ls_listed t free path (Some r) ns e = absurd (cc)
 ls_listed t free path None ns e = cc
@@ -177,17 +122,8 @@ lists s path ns hears still valid is =
     by false = nothing_lists path
 
 pub ls_answers : (start : World) (s : ShellState) (path : Path) (ns : List Name) → heard s.files.kind (ask.Ls path) ≡ ask.Ls path → (shell_step s (ask.Ls path)).answer ≡ listed ns → (x : Image) → RestsIn start s x → AnswersByLine start s (ask.Ls path) (whole_line ns) s
-ls_answers start s path ns hears is x rests = record {
-  from = x;
-  at_rest = rests;
-  text = ap (λ a. answer_text a ++ 10 ∷ []) (sym is);
-  one_line = ap (λ a. line_feeds (answer_text a)) is ∙ names_line ns (lists s path ns hears rests.at_rest rests.kept.valid is);
-  tree = sym (ap (λ (b : ShellAsk). (step_in s.files.kind s.world s.files.root (tree_in s) b).tree) hears ∙ ls_tree (tree_in s) (free_count s.world) path (refusal s.files.kind s.world.geometry (tree_in s) (free_count s.world) (length s.world.pairs) (need_of s.files.kind s.world s.files.root (tree_in s) (ask.Ls path)) (ask.Ls path)));
-  same = λ other. refl;
-  files = sym (ap (files_after s.files) hears);
-  kept = rests.kept;
-  taken = none_taken s.files s.world;
-}
+ls_answers start s path ns hears is x rests =
+    look_answered start s (ask.Ls path) (listed ns) is (names_line ns (lists s path ns hears rests.at_rest rests.kept.valid is)) x rests (ap is_change hears)
 
 pub ls_in_parts : (path : Path) (ns : List Name) → IsInParts (ask.Ls path) (whole_line ns)
 ls_in_parts path ns = (ns, refl)

@@ -1,13 +1,8 @@
 -- Asks that only look see the tree.
-use Rattle.std.proofs.Common.{◌≡◌, ◌⊎◌, inl, inr, ℕ, ◌≤◌, true, false, not, Bool, cond, nat_le, List, [], ◌∷◌, ◌++◌, length, refl, sym, ◌∙◌, ap, subst, arith, Option, Some, None}
-use Rattle.std.proofs.lemmas.Bool.{and_parts, and_from}
-use Rattle.std.specs.List.{list_all}
-use Rattle.shell_server.proofs.Common.{IsTrue, nat_tests, Image, World, free_count, Name, Path, is_name, is_path, name_lt, are_ascending, is_below_first_name, Tree, nothing, a_file, a_dir, at, bytes_in, is_there, names_in, bytes, listed, refused, need_of, RoomNeed, first_of, not_mounted, lost_on_the_way, missing, no_file, judged, step_in, ShellAsk, ShellKind, ShellState, RestsIn, above, shell_step, tree_by, tree_in, tree_of, Geometry, IsNameListing}
-use Rattle.tsd_model.specs.Valid.{IsValid}
+use Rattle.std.proofs.Common.{◌≡◌, inl, inr, ℕ, ◌≤◌, true, false, Bool, cond, nat_le, List, [], ◌∷◌, ◌++◌, length, refl, sym, ◌∙◌, ap, subst, arith, Option, Some, None}
+use Rattle.shell_server.proofs.Common.{IsTrue, nat_tests, Image, World, free_count, Name, Path, is_name, is_path, name_lt, are_ascending, is_below_first_name, Tree, nothing, a_file, a_dir, at, is_there, names_in, bytes, listed, refused, need_of, step_in, ShellAsk, ShellState, RestsIn, above, shell_step, tree_by, tree_in, tree_of, IsNameListing, and_parts, and_from, list_all, IsValid, Looked, file_of, dir_here, next_file, next_dir, entry_seen, part_seen, next_seen, look_of}
 use Rattle.fs_trees.specs.Names.{path_max}
-use Rattle.fs_trees.specs.Refusals.{no_dir, when}
-use Rattle.fs_trees.specs.Step.{tree_step}
-use Rattle.fs_trees.specs.Tree.{Entries, none, child, entry, is_dir, is_file, names}
+use Rattle.fs_trees.specs.Tree.{Entries, none, child, entry, is_dir, names}
 use Rattle.fs_trees.specs.Tree.{file as file_entry, dir as dir_entry}
 use Rattle.fs_trees.specs.declared.ask.ShellAsk.TheVariants as ask
 use Rattle.fs_trees.specs.declared.refusal.FsRefusal.TheVariants as no
@@ -15,81 +10,10 @@ use Rattle.fs_laws.proofs.ListingLaws.{tree_lists, nothing_lists}
 use Rattle.fs_laws.proofs.OrderLaws.{below_only, lt_irreflexive, lt_trans}
 use Rattle.fs_laws.proofs.SizeLaws.{tree_depth}
 use Rattle.shell_text.specs.FileBodies.{is_after}
-use Rattle.shell_text.specs.Looked.{Looked, file_of, dir_here, next_file, next_dir}
 use Rattle.shell_text.specs.declared.file_ask.FileAsk.TheVariants as file
-use Rattle.shell_server.specs.Looks.{entry_seen, part_seen, next_seen}
 use Rattle.shell_server.specs.Seen.{IsNextIn, SeesTree}
-use Rattle.shell_server.specs.Shell.{look_of}
 use Rattle.shell_server.proofs.LookingLaws.{next_told}
-
--- ---- where something stands at a path
-
-nowhere : (p : Path) → is_there (at {D = Unit {0}} {F = List ℕ} nothing p) ≡ true → ⊥
-nowhere [] h = absurd (cc)
-nowhere (n ∷ ns) h = nowhere ns h
-
-way_there : (t : Tree) (p : Path) → is_there (at t p) ≡ true → lost_on_the_way t p ≡ None
-way_there t [] h = refl
-way_there nothing (n ∷ ns) h = absurd (nowhere ns h)
-way_there (a_file x) (n ∷ ns) h = absurd (nowhere ns h)
-way_there (a_dir d es) (n ∷ ns) h = way_there (entry n es) ns h
-
-root_there : (t : Tree) (p : Path) → is_there (at t p) ≡ true → is_there t ≡ true
-root_there nothing p h = absurd (nowhere p h)
-root_there (a_file x) p h = refl
-root_there (a_dir d es) p h = refl
-
-dir_there : (t : Tree) → is_dir t ≡ true → is_there t ≡ true
-dir_there nothing h = absurd (cc)
-dir_there (a_file x) h = absurd (cc)
-dir_there (a_dir d es) h = refl
-
-file_or_dir : (x : Tree) → is_there x ≡ true → ((y : List ℕ) × (x ≡ a_file y)) ⊎ (is_dir x ≡ true)
-file_or_dir nothing h = absurd (cc)
-file_or_dir (a_file y) h = inl (y, refl)
-file_or_dir (a_dir d es) h = inr refl
-
-at_last : (t : Tree) (p : Path) (n : Name) → at t (p ++ n ∷ []) ≡ child n (at t p)
-at_last t [] n = refl
-at_last t (m ∷ ms) n = at_last (child m t) ms n
-
-module _ (t : Tree) (p : Path) (there : is_there (at t p) ≡ true) where
-  none_mounted : not_mounted t ≡ None
-  none_mounted = ap (λ b. when (not b) no.NotThisFs) (root_there t p there)
-
-  none_missing : missing t p ≡ None
-  none_missing = ap (λ b. when (not b) no.NoEntry) there
-
-  cat_first : first_of (not_mounted t ∷ lost_on_the_way t p ∷ missing t p ∷ no_file t p ∷ []) ≡ first_of (no_file t p ∷ [])
-  cat_first =
-      ap (λ o. first_of (o ∷ lost_on_the_way t p ∷ missing t p ∷ no_file t p ∷ [])) none_mounted
-      ∙ (ap (λ o. first_of (o ∷ missing t p ∷ no_file t p ∷ [])) (way_there t p there) ∙ ap (λ o. first_of (o ∷ no_file t p ∷ [])) none_missing)
-
-  ls_first : first_of (not_mounted t ∷ lost_on_the_way t p ∷ missing t p ∷ no_dir t p ∷ []) ≡ first_of (no_dir t p ∷ [])
-  ls_first =
-      ap (λ o. first_of (o ∷ lost_on_the_way t p ∷ missing t p ∷ no_dir t p ∷ [])) none_mounted
-      ∙ (ap (λ o. first_of (o ∷ missing t p ∷ no_dir t p ∷ [])) (way_there t p there) ∙ ap (λ o. first_of (o ∷ no_dir t p ∷ [])) none_missing)
-
-module _ (kind : ShellKind) (g : Geometry) (free held : ℕ) (need : RoomNeed) (t : Tree) (p : Path) where
-  cat_file : (x : List ℕ) → at t p ≡ a_file x → (tree_step kind g t (ask.Cat p) free held need).answer ≡ bytes x
-  cat_file x is =
-      let first = cat_first t p (ap is_there is) ∙ ap (λ y. first_of (when (is_dir y) no.IsDir ∷ [])) is in
-      ap (λ o. (judged t free (ask.Cat p) o).answer) first ∙ ap (λ y. bytes (bytes_in y)) is
-
-  cat_dir : is_dir (at t p) ≡ true → (tree_step kind g t (ask.Cat p) free held need).answer ≡ refused no.IsDir
-  cat_dir is =
-      let first = cat_first t p (dir_there (at t p) is) ∙ ap (λ b. first_of (when b no.IsDir ∷ [])) is in
-      ap (λ o. (judged t free (ask.Cat p) o).answer) first
-
-  ls_dir : is_dir (at t p) ≡ true → (tree_step kind g t (ask.Ls p) free held need).answer ≡ listed (names_in (at t p))
-  ls_dir is =
-      let first = ls_first t p (dir_there (at t p) is) ∙ ap (λ b. first_of (when b no.NotDir ∷ [])) (no_file_there (at t p) is) in
-      ap (λ o. (judged t free (ask.Ls p) o).answer) first
-    where
-      no_file_there : (y : Tree) → is_dir y ≡ true → is_file y ≡ false
-      no_file_there nothing h = absurd (cc)
-      no_file_there (a_file x) h = absurd (cc)
-      no_file_there (a_dir d es) h = refl
+use Rattle.fs_laws.proofs.AtLaws.{nowhere, file_or_dir, at_last, cat_file, cat_dir, ls_dir}
 
 -- ---- the name that is found
 
@@ -182,7 +106,7 @@ module _ (s : ShellState) where
       where
         by : (m : Bool) → is_there (at (cond m (tree_of s) nothing) p) ≡ true → length p ≤ path_max
         by true = subst (λ (o : Option ShellAsk). is_there (at (tree_by s.files s.world o) p) ≡ true → length p ≤ path_max) (sym still) (tree_depth s.files.kind s.world s.files.root p)
-        by false = λ h. absurd (nowhere p h)
+        by false = λ h. absurd (nowhere _ _ p h)
 
     module _ (after : Name) (good : IsTrue (is_after after)) (dir : is_dir (at t path) ≡ true) where
       abbrev seen : Looked
@@ -196,7 +120,7 @@ module _ (s : ShellState) where
         inner = path ++ n ∷ []
 
         there : is_there (at t inner) ≡ true
-        there = ap is_there (at_last t path n) ∙ child_there after n (at t path) listing.1 found
+        there = ap is_there (at_last path n t) ∙ child_there after n (at t path) listing.1 found
 
         inner_named : IsTrue (is_path inner)
         inner_named =

@@ -1,13 +1,13 @@
 -- The answer of an ask that changes the tree, sent after it was carried out.
-use Rattle.std.proofs.Common.{◌≡◌, ◌≢◌, ◌⊎◌, inl, inr, ℕ, ◌<◌, true, false, List, [], ◌∷◌, ◌++◌, length, take, drop, refl, sym, ◌∙◌, ap, subst, arith, append-nil, take-append-drop, length-drop}
-use Rattle.shell_server.proofs.Common.{Result, Ok, Err, IfErr, World, Rose, View, IsLeftInPut, IsSound, LeavesOnly, PutsAll, firm_image, joined, started, weakened, world_of, line_feeds, bad, AskOutcome, step_in, ShellAsk, answer_text, FsRefusal, FilesView, OnAnswer, Status, IsAnswering, IsInAnswer, LeftBy, Core, KeepsBehind, behind_put, behind_stays, behind_then, ShellState, AnswersByLine, AnswersFile, FileAsk, IsLeftOf, files_after, heard, shell_service, shell_step, tree_in, AreReady, FitsShell, shell_state, shell_rests, shell_stands, IsLeftBeforeOrAfter, IsCarried, IsOneLine, IsServed, change_line}
-use Rattle.std.specs.Prelude.{IsErr, IsErrAnd}
+use Rattle.std.proofs.Common.{◌≡◌, ◌≢◌, ◌⊎◌, inl, inr, ℕ, ◌<◌, ◌≤◌, true, false, List, [], ◌∷◌, ◌++◌, length, take, drop, refl, sym, ◌∙◌, ap, subst, arith, append-nil, take-append-drop, length-drop}
+use Rattle.shell_server.proofs.Common.{Result, Ok, Err, IfErr, World, Rose, View, IsLeftInPut, IsSound, LeavesOnly, PutsAll, firm_image, joined, started, weakened, world_of, bad, step_in, ShellAsk, answer_text, FsRefusal, FilesView, OnAnswer, Status, IsAnswering, IsInAnswer, LeftBy, Core, KeepsBehind, behind_put, behind_stays, behind_then, ShellState, AnswersByLine, AnswersFile, FileAsk, IsLeftOf, heard, shell_service, tree_in, AreReady, FitsShell, shell_state, shell_rests, shell_stands, IsLeftBeforeOrAfter, IsCalled, IsCarried, IsOneLine, IsServed, change_line, Image, IsErr, IsErrAnd, is_change}
 use Rattle.fs_trees.specs.declared.ask.ShellAsk.TheVariants as ask
 use Rattle.shell_text.specs.declared.file_ask.FileAsk.TheVariants as file
 use Rattle.fs_trees.specs.declared.refusal.FsRefusal.TheVariants as no
 use Rattle.tsd_words.specs.declared.status.Status.TheVariants as status
 use Rattle.shell_server.specs.ShellLaws.{shell_counted}
-use Rattle.shell_server.proofs.KeptLaws.{none_taken}
+use Rattle.shell_server.proofs.KeptLaws.{look_answered}
+use Rattle.serving.proofs.Still.{less_sent, not_empty, still_late, still_put}
 
 -- what `?` answers is the error that it was given
 pub error_is : {T E : Type 0} (r : Result T E) (why : E) → IsErr r × IsErrAnd r (λ e. e ≡ why) → r ≡ Err why
@@ -70,6 +70,9 @@ module _ (told : Type 0) (start : World) (q : FileAsk) (f0 f1 : FilesView) (c0 c
     answered = λ t. (line, subst (λ x. AnswersFile start (shell_state f0 v.reads) q line (shell_state f1 x)) (sym (puts.reads t)) (answers t), puts.sent t ∙ ap (λ l. l ++ line) (sent t));
     left = λ t. tt;
     any_moment = sent_any (Ok y) puts;
+    still = λ t. still_late v w z (weakened v w _ (λ x f. length f ≤ length w.sent) (any t) (λ x f left. (let same = ap length (left.1 ∙ sym (sent t)) in omega (arith, same))))
+        (less_sent w z line (puts.sent t) (not_empty (shell_service start) (shell_counted start) (shell_state f0 v.reads) q (shell_state f1 w.reads) line (answers t)))
+        (still_put w z line (at t).0 (puts.any_moment t) (puts.sent t) (puts.reads t));
     behind = sent_behind (Ok y) puts;
     stops = tt;
     faults = (λ e. absurd (cc), λ ne. puts.puts.faults ∙ faults);
@@ -85,6 +88,7 @@ module _ (told : Type 0) (start : World) (q : FileAsk) (f0 f1 : FilesView) (c0 c
         subst (λ r. LeftBy r (shell_service start) (shell_state f0 v.reads) q (shell_state f1 z.reads) v.sent z.sent) (sym stops)
         (put_failed start (shell_state f0 v.reads) q v.sent z.sent line (shell_state f1 w.reads) (shell_state f1 z.reads) (answers t) (ap (λ x. shell_state f1 x) (puts.reads t)) part.0 part.1 (part.2 ∙ ap (λ l. l ++ take part.0 line) (sent t)));
     any_moment = sent_any (Err why) puts;
+    still = λ t. tt;
     behind = sent_behind (Err why) puts;
     stops = inr stops;
     faults = (λ e. absurd (apart (cc)), λ ne. puts.puts.faults ∙ faults);
@@ -94,26 +98,6 @@ module _ (told : Type 0) (start : World) (q : FileAsk) (f0 f1 : FilesView) (c0 c
       apart : why ≡ status.DeviceFault → ⊥
       apart e = let both : status.PutFault ≡ status.DeviceFault = sym stops ∙ e in cc
 
--- what isn't heard is answered so, and nothing else is done
-pub served_bad : {Y : Type 0} (told : Type 0) (start : World) (q : ShellAsk) (f : FilesView) (c : Core) (v z : View) → AreReady f c → (told → IsSound v) → (told → ((n : ℕ) → v.loose n ≡ false) × FitsShell start f c v.reads) → heard f.kind q ≡ ask.Bad
-    → (result : Result Y Status) → IfErr result (λ why. why ≡ status.PutFault) → PutsAll told (answer_text bad ++ 10 ∷ []) v z result → IsServed told start (file.Shell q) f f c c v z result
-served_bad told start q f c v z ready sound at is =
-    let step : shell_step (shell_state f v.reads) q ≡ step_in f.kind (world_of v.reads) f.root (tree_in (shell_state f v.reads)) ask.Bad = ap (λ b. step_in f.kind (world_of v.reads) f.root (tree_in (shell_state f v.reads)) b) is in
-    line_served told start (file.Shell q) f f c c v v z (answer_text bad ++ 10 ∷ []) ready at
-    (λ t. record {
-      from = v.reads;
-      at_rest = shell_rests start f c v.reads (at t).1;
-      text = sym (ap (λ (o : AskOutcome). answer_text o.answer ++ 10 ∷ []) step);
-      one_line = ap (λ (o : AskOutcome). line_feeds (answer_text o.answer)) step;
-      tree = sym (ap (λ (o : AskOutcome). o.tree) step);
-      same = λ other. refl;
-      files = sym (ap (files_after f) is);
-      kept = (at t).1.kept;
-      taken = none_taken f (world_of v.reads);
-    })
-    (λ t. refl) (λ t. started v _ (sound t) (λ x g left. (inl (subst (λ y. IsLeftOf start (shell_state f v.reads) y) (sym (firm_image v (at t).0 x g left)) (shell_stands start f c v.reads (at t).1)), left.1))) refl refl
-    (behind_stays told c v sound (λ t. (at t).0))
-
 -- what only looks
 pub served_look : {Y : Type 0} (told : Type 0) (start : World) (q : FileAsk) (f : FilesView) (c : Core) (v z : View) (line : List ℕ) → AreReady f c → (told → IsSound v) → (told → ((n : ℕ) → v.loose n ≡ false) × FitsShell start f c v.reads) → (told → AnswersFile start (shell_state f v.reads) q line (shell_state f v.reads))
     → (result : Result Y Status) → IfErr result (λ why. why ≡ status.PutFault) → PutsAll told line v z result → IsServed told start q f f c c v z result
@@ -122,51 +106,74 @@ served_look told start q f c v z line ready sound at given =
     (λ t. refl) (λ t. started v _ (sound t) (λ x g left. (inl (subst (λ y. IsLeftOf start (shell_state f v.reads) y) (sym (firm_image v (at t).0 x g left)) (shell_stands start f c v.reads (at t).1)), left.1))) refl refl
     (behind_stays told c v sound (λ t. (at t).0))
 
+-- what isn't heard is answered so, and nothing else is done
+pub served_bad : {Y : Type 0} (told : Type 0) (start : World) (q : ShellAsk) (f : FilesView) (c : Core) (v z : View) → AreReady f c → (told → IsSound v) → (told → ((n : ℕ) → v.loose n ≡ false) × FitsShell start f c v.reads) → heard f.kind q ≡ ask.Bad
+    → (result : Result Y Status) → IfErr result (λ why. why ≡ status.PutFault) → PutsAll told (answer_text bad ++ 10 ∷ []) v z result → IsServed told start (file.Shell q) f f c c v z result
+served_bad told start q f c v z ready sound at is =
+    let s = shell_state f v.reads in
+    served_look told start (file.Shell q) f c v z (answer_text bad ++ 10 ∷ []) ready sound at
+    (λ t. look_answered start s q bad (ap (λ b. (step_in f.kind (world_of v.reads) f.root (tree_in s) b).answer) is) refl v.reads (shell_rests start f c v.reads (at t).1) (ap is_change is))
+
 -- ---- refusals
 
 pub device_or_not : (e : FsRefusal) → (e ≡ no.Device) ⊎ (e ≢ no.Device)
 device_or_not no.Device = inl refl
-device_or_not no.NotThisFs = inr (λ e. cc)
-device_or_not no.NoEntry = inr (λ e. cc)
-device_or_not no.Exists = inr (λ e. cc)
-device_or_not no.NotDir = inr (λ e. cc)
-device_or_not no.IsDir = inr (λ e. cc)
-device_or_not no.NotEmpty = inr (λ e. cc)
-device_or_not no.DirFull = inr (λ e. cc)
-device_or_not no.TooBig = inr (λ e. cc)
-device_or_not (no.Full free wanted) = inr (λ e. cc)
-device_or_not (no.PointersFull held most) = inr (λ e. cc)
+device_or_not e = inr (λ is. cc)
 
 -- an answer other than Device
 pub on_answer : {X : Type 0} (P : Type 0) (done : Result X FsRefusal) → done ≢ Err no.Device → OnAnswer done P → P
 on_answer P (Ok x) other on = on.0
 on_answer P (Err e) other on = on.1 (λ is. other (ap Err is))
 
--- ---- the whole
+-- of two answers, one
+pub on_both : {X P Q R : Type 0} (r : Result X FsRefusal) → (P → Q → R) → OnAnswer r P → OnAnswer r Q → OnAnswer r R
+on_both (Ok x) h p q = (h p.0 q.0, tt)
+on_both (Err e) h p q = (tt, λ other. h (p.1 other) (q.1 other))
 
-module _ {X : Type 0} (told : Type 0) (start : World) (q : ShellAsk) (f0 f1 : FilesView) (c0 c1 : Core) (v w : View) (done : Result X FsRefusal) (carried : IsCarried told start q f0 f1 c0 c1 v w done) where
-  -- the device failed
-  served_not : {Y : Type 0} → done ≡ Err no.Device → IsServed {X = Y} told start (file.Shell q) f0 f1 c0 c1 v w (Err status.DeviceFault)
-  served_not is =
-      let spent : c1.volume.is_spent ≡ true = by_device (λ e. e ≡ no.Device → c1.volume.is_spent ≡ true) done is carried.spent refl in
-      let cause : Rose v.faults w.faults = by_device (λ e. e ≡ no.Device → Rose v.faults w.faults) done is carried.cause refl in
-      record {
-        ready = λ ne. absurd (ne refl);
-        at = λ ne. absurd (ne refl);
-        spent = λ e. spent;
-        answered = λ t. tt;
-        left = λ t. inl (carried.sent t);
-        any_moment = λ t. any_carried start (shell_state f0 v.reads) (file.Shell q) v w (carried.any_moment t);
-        behind = carried.behind;
-        stops = inl refl;
-        faults = (λ e. cause, λ ne. absurd (ne refl));
-        put_faults = (λ e. absurd (cc), λ ne. carried.put_faults);
-      }
+-- ---- the disk was called
+
+-- a call that was refused may have been one of another type, and a crash leaves more images at most
+pub called_wider : {X Z : Type 0} {told : Type 0} {start : World} {f1 : FilesView} {c0 c1 : Core} {v w : View} {e : FsRefusal} {P : Image → Type 0} (Q : Image → Type 0) → ((x : Image) → P x → Q x) → IsCalled {X = X} told start P f1 c0 c1 v w (Err e) → IsCalled {X = Z} told start Q f1 c0 c1 v w (Err e)
+called_wider {v = v} {w = w} Q wider e = record {
+  ready = e.ready;
+  at = e.at;
+  sent = e.sent;
+  any_moment = λ t. weakened v w _ (λ x f. Q x × (f ≡ v.sent)) (e.any_moment t) (λ x f left. (wider x left.0, left.1));
+  behind = e.behind;
+  put_faults = e.put_faults;
+  faultless = e.faultless;
+  spent = e.spent;
+  cause = e.cause;
+}
+
+-- the device failed, and it is answered so
+module _ {X Y : Type 0} {told : Type 0} {start : World} (q : FileAsk) (f0 : FilesView) {f1 : FilesView} {c0 c1 : Core} {v w : View} {done : Result X FsRefusal} where
+  pub called_lost : done ≡ Err no.Device → IsCalled told start (IsLeftBeforeOrAfter start (shell_state f0 v.reads) q) f1 c0 c1 v w done → IsServed {X = Y} told start q f0 f1 c0 c1 v w (Err status.DeviceFault)
+  called_lost is e = record {
+    ready = λ ne. absurd (ne refl);
+    at = λ ne. absurd (ne refl);
+    spent = λ _. by_device (λ e. e ≡ no.Device → c1.volume.is_spent ≡ true) done is e.spent refl;
+    answered = λ t. tt;
+    left = λ t. inl (e.sent t);
+    any_moment = λ t. any_carried start (shell_state f0 v.reads) q v w (e.any_moment t);
+    still = λ t. tt;
+    behind = e.behind;
+    stops = inl refl;
+    faults = (λ _. by_device (λ e. e ≡ no.Device → Rose v.faults w.faults) done is e.cause refl, λ ne. absurd (ne refl));
+    put_faults = (λ e. absurd (cc), λ ne. e.put_faults);
+  }
     where
       by_device : (P : FsRefusal → Type 0) (r : Result X FsRefusal) → r ≡ Err no.Device → IfErr r P → P no.Device
       by_device P (Ok x) e h = absurd (cc)
       by_device P (Err e) same h = let is : e ≡ no.Device = cc in subst P is h
 
+-- ---- the whole
+
+-- a result that is this refusal
+abbrev pub failed : (X : Type 0) → FsRefusal → Result X FsRefusal
+failed X e = Err e
+
+module _ {X : Type 0} (told : Type 0) (start : World) (q : ShellAsk) (f0 f1 : FilesView) (c0 c1 : Core) (v w : View) (done : Result X FsRefusal) (carried : IsCarried told start q f0 f1 c0 c1 v w done) where
   module _ (other : done ≢ Err no.Device) (line : IsOneLine done) (z : View) where
     -- its line was sent, or a front of it
     pub served_line : {Y : Type 0} (result : Result Y Status) → IfErr result (λ why. why ≡ status.PutFault) → PutsAll told (change_line done) w z result → IsServed told start (file.Shell q) f0 f1 c0 c1 v z result
@@ -179,7 +186,7 @@ module _ {X : Type 0} (told : Type 0) (start : World) (q : ShellAsk) (f0 f1 : Fi
   pub served : {Y : Type 0} (z : View) (result : Result Y Status) → (done ≡ Err no.Device → (result ≡ Err status.DeviceFault) × (z ≡ w)) → (done ≢ Err no.Device → IsOneLine done) → (done ≢ Err no.Device → IfErr result (λ why. why ≡ status.PutFault)) → (done ≢ Err no.Device → PutsAll told (change_line done) w z result)
       → IsServed told start (file.Shell q) f0 f1 c0 c1 v z result
   served {Y = Y} z result device line stops puts = elim (is_device done) [
-    | inl is ↦ rw ((device is).0, (device is).1) (served_not is)
+    | inl is ↦ rw ((device is).0, (device is).1) (called_lost (file.Shell q) f0 is carried.called)
     | inr other ↦ served_line other (line other) z result (stops other) (puts other)
   ]
     where

@@ -1,10 +1,8 @@
 -- The step of an ask that changes the tree.
 use Rattle.std.proofs.Common.{◌≡◌, ◌≢◌, ◌⊎◌, inl, inr, ℕ, Bool, true, false, cond, List, [], ◌∷◌, ◌++◌, length, refl, sym, ◌∙◌, ap, subst}
-use Rattle.shell_server.proofs.Common.{IsTrue, World, free_count, Geometry, Name, Path, nothing, a_file, a_dir, Tree, at, bytes_in, is_there, with_at, Answer, done, refused, need_of, RoomNeed, refusal, first_of, not_mounted, lost_on_the_way, missing, no_file, dir_full, no_room, AskOutcome, empty_tree, change, judged, step_in, ShellAsk, ShellKind, FsRefusal, FilesView, files_after, tree_under}
-use Rattle.std.specs.Prelude.{Option, Some, None}
+use Rattle.shell_server.proofs.Common.{IsTrue, World, free_count, Geometry, Name, Path, nothing, a_file, a_dir, Tree, at, bytes_in, is_there, with_at, Answer, done, refused, need_of, RoomNeed, refusal, first_of, not_mounted, lost_on_the_way, missing, no_file, dir_full, no_room, AskOutcome, empty_tree, change, judged, step_in, ShellAsk, ShellKind, FsRefusal, FilesView, files_after, tree_under, Option, Some, None, is_change}
 use Rattle.fs_trees.specs.declared.ask.ShellAsk.TheVariants as ask
 use Rattle.fs_trees.specs.declared.refusal.FsRefusal.TheVariants as no
-use Rattle.shell_server.specs.Changed.{is_change}
 
 pub no_done : (r : FsRefusal) → done ≡ refused r → ⊥
 no_done r e = cc
@@ -21,6 +19,20 @@ judged_refused t free (ask.Cat path) None r e = refl
 judged_refused t free (ask.Ls path) None r e = refl
 judged_refused t free ask.Df None r e = refl
 judged_refused t free a None r e = absurd (cc)
+
+-- so does what is no change
+pub looks_stay : (t : Tree) (free : ℕ) (q : ShellAsk) (o : Option FsRefusal) → is_change q ≡ false → (judged t free q o).tree ≡ t
+looks_stay t free q (Some r) none = refl
+looks_stay t free ask.Bad None none = refl
+looks_stay t free (ask.Cat path) None none = refl
+looks_stay t free (ask.Ls path) None none = refl
+looks_stay t free ask.Df None none = refl
+looks_stay t free q None none = absurd (cc)
+
+-- what isn't heard is none
+pub heard_looks : (heard : Bool) (q : ShellAsk) → is_change q ≡ false → is_change (cond heard q ask.Bad) ≡ false
+heard_looks true q none = none
+heard_looks false q none = refl
 
 -- it is done or refused
 abbrev pub IsOfChange : Answer → Type 0

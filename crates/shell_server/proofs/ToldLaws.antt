@@ -1,24 +1,14 @@
 -- The tree after an answer, told by its line.
 use Rattle.std.proofs.Common.{◌≡◌, ℕ, List, [], ◌∷◌, ◌++◌, length, refl, sym, ◌∙◌, ap, subst, arith}
-use Rattle.shell_server.proofs.Common.{slice_index_or, World, free_count, Tree, done, refused, need_of, refusal, judged, change, ShellAsk, FileAsk, FsRefusal, FilesView, answer_text, ShellState, AnswersByLine, AnswersFile, heard, files_after, shell_service, shell_step, tree_in}
-use Rattle.std.specs.Prelude.{Option, Some, None}
+use Rattle.shell_server.proofs.Common.{slice_index_or, World, free_count, Tree, done, refused, need_of, refusal, judged, change, ShellAsk, FileAsk, FsRefusal, FilesView, answer_text, ShellState, AnswersByLine, AnswersFile, heard, files_after, shell_service, shell_step, tree_in, Option, Some, None}
 use Rattle.fs_trees.specs.declared.ask.ShellAsk.TheVariants as ask
 use Rattle.shell_text.specs.declared.file_ask.FileAsk.TheVariants as file
 use Rattle.fs_trees.specs.declared.refusal.FsRefusal.TheVariants as no
 use Rattle.serving.specs.Runs.{Run}
 
 refused_first : (r : FsRefusal) → slice_index_or (answer_text (refused r) ++ 10 ∷ []) 0 0 ≡ 110
-refused_first no.NotThisFs = refl
-refused_first no.NoEntry = refl
-refused_first no.Exists = refl
-refused_first no.NotDir = refl
-refused_first no.IsDir = refl
-refused_first no.NotEmpty = refl
-refused_first no.DirFull = refl
-refused_first no.TooBig = refl
-refused_first (no.Full free wanted) = refl
-refused_first (no.PointersFull held most) = refl
 refused_first no.Device = refl
+refused_first r = refl
 
 no_done : {A : Type 0} (r : FsRefusal) → answer_text (refused r) ++ 10 ∷ [] ≡ answer_text done ++ 10 ∷ [] → A
 no_done r e =
@@ -29,27 +19,14 @@ no_done r e =
 -- where one refuses and the other changes
 one_refused : (t : Tree) (free : ℕ) (a : ShellAsk) (r : FsRefusal) → answer_text (refused r) ++ 10 ∷ [] ≡ answer_text (change t free a).answer ++ 10 ∷ [] → t ≡ (change t free a).tree
 one_refused t free ask.Bad r e = refl
-one_refused t free ask.Make r e = no_done r e
-one_refused t free (ask.Put path x) r e = no_done r e
-one_refused t free (ask.Append path x) r e = no_done r e
 one_refused t free (ask.Cat path) r e = refl
 one_refused t free (ask.Ls path) r e = refl
-one_refused t free (ask.MakeDir path) r e = no_done r e
-one_refused t free (ask.Rm path) r e = no_done r e
-one_refused t free (ask.Copy path new) r e = no_done r e
 one_refused t free ask.Df r e = refl
+one_refused t free a r e = no_done r e
 
 both_change : (t : Tree) (free other : ℕ) (a : ShellAsk) → (change t free a).tree ≡ (change t other a).tree
 both_change t free other ask.Bad = refl
-both_change t free other ask.Make = refl
-both_change t free other (ask.Put path x) = refl
-both_change t free other (ask.Append path x) = refl
-both_change t free other (ask.Cat path) = refl
-both_change t free other (ask.Ls path) = refl
-both_change t free other (ask.MakeDir path) = refl
-both_change t free other (ask.Rm path) = refl
-both_change t free other (ask.Copy path new) = refl
-both_change t free other ask.Df = refl
+both_change t free other a = refl
 
 same_tree : (t : Tree) (free other : ℕ) (a : ShellAsk) (o p : Option FsRefusal) → answer_text (judged t free a o).answer ++ 10 ∷ [] ≡ answer_text (judged t other a p).answer ++ 10 ∷ [] → (judged t free a o).tree ≡ (judged t other a p).tree
 same_tree t free other a (Some r) (Some n) e = refl
@@ -82,9 +59,7 @@ module _ (start : World) where
   -- what only looks leaves the state
   one_file_ask : (s u m n : ShellState) (q : FileAsk) (line : List ℕ) → s.files ≡ u.files → tree_in s ≡ tree_in u → AnswersFile start s q line m → AnswersFile start u q line n → (m.files ≡ n.files) × (tree_in m ≡ tree_in n)
   one_file_ask s u m n (file.Shell q) line files tree a b = one_ask s u m n q line files tree a b
-  one_file_ask s u m n (file.Size path) line files tree a b = looks_same s u m n files tree a.same b.same
-  one_file_ask s u m n (file.Read path from count) line files tree a b = looks_same s u m n files tree a.same b.same
-  one_file_ask s u m n (file.Next path after) line files tree a b = looks_same s u m n files tree a.same b.same
+  one_file_ask s u m n q line files tree a b = looks_same s u m n files tree a.same b.same
 
   pub answers_tell : (s t u w : ShellState) (qs : List FileAsk) (xs : List (List ℕ)) → s.files ≡ u.files → tree_in s ≡ tree_in u → Run (shell_service start) s qs xs t → Run (shell_service start) u qs xs w → (t.files ≡ w.files) × (tree_in t ≡ tree_in w)
   answers_tell s t u w [] [] files tree a b = (ap (λ (x : ShellState). x.files) (sym a) ∙ files ∙ ap (λ (x : ShellState). x.files) b, ap tree_in (sym a) ∙ tree ∙ ap tree_in b)

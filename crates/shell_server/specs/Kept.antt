@@ -2,10 +2,12 @@
 use Rattle.std.proofs.Common.{◌≡◌, true, ◌<◌, ◌≤◌, IsTrue, refl}
 use Rattle.std.specs.Prelude.{slice_get}
 use Rattle.tsd_model.specs.World.{World}
+use Rattle.tsd_model.specs.Step.{State}
 use Rattle.tsd_model.specs.Records.{kept_of}
 use Rattle.tsd_model.specs.Sessions.{sessions_max, is_open, Fits}
 use Rattle.tsd_model.specs.Attained.{record_level}
 use Rattle.tsd_model.specs.declared.requests.Level.TheVariants as level
+use Rattle.image_device.specs.View.{View}
 use Rattle.image_layout.specs.Image.{Image}
 use Rattle.image_world.specs.Stands.{world_of}
 use Rattle.fs_trees.specs.Tree.{is_there}
@@ -36,6 +38,10 @@ pub record IsServerReady (f : FilesView) (c : Core) (a : AskRoom) : Type 0 where
 -- the state, where the device reads so
 abbrev pub shell_state : FilesView → Image → ShellState
 shell_state f x = resting f (world_of x)
+
+-- the state of the disk of a core at its device
+abbrev pub disk_state : Core → View → State
+disk_state c v = record { world = world_of v.reads; sessions = sessions_of c }
 
 -- The core has its tables of an image of a world that is kept, and where a tree is mounted, it is there.
 pub record FitsShell (start : World) (f : FilesView) (c : Core) (x : Image) : Type 0 where

@@ -4,13 +4,7 @@ pub mod ShellLaws
 pub mod Lines
 pub mod Frames
 pub mod LineLaws
-pub mod FrameLaws
 pub mod Kept
-pub mod Start
 pub mod Carried
 pub mod Changed
-pub mod Gathered
-pub mod Speaking
-pub mod Told
 pub mod Seen
-pub mod Places

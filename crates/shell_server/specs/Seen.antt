@@ -1,4 +1,4 @@
--- What asks that only look see, in the words of trees.
+-- What asks that only look see, in the words of trees, and what the answers of a run tell.
 use Rattle.std.specs.Prelude.{◌≡◌, ℕ, ◌⊎◌, true, min, List, [], ◌∷◌, ◌++◌, length, take, drop, IsTrue}
 use Rattle.std.specs.Prelude.{Option, Some, None}
 use Rattle.tsd_model.specs.World.{World}
@@ -8,8 +8,10 @@ use Rattle.fs_trees.specs.Tree.{Tree, a_file, at, is_dir, names_in}
 use Rattle.fs_port.specs.Files.{above}
 use Rattle.shell_text.specs.FileBodies.{is_after}
 use Rattle.shell_text.specs.Looked.{Looked, file_of, dir_here, part_of, next_file, next_dir, none_left}
+use Rattle.shell_text.specs.declared.file_ask.FileAsk.{FileAsk}
 use Rattle.shell_text.specs.declared.file_ask.FileAsk.TheVariants as file
-use Rattle.shell_server.specs.Shell.{ShellState, RestsIn, look_of, tree_in}
+use Rattle.serving.specs.Runs.{Run}
+use Rattle.shell_server.specs.Shell.{ShellState, RestsIn, look_of, shell_service, tree_in}
 
 -- none of the names in a directory is left; or one is, and what stands there is a file, with how many bytes it has, or
 -- a directory
@@ -32,3 +34,12 @@ pub record SeesTree (s : ShellState) (path : Path) : Type 0 where
 abbrev pub LooksSeeTheTree : Type 0
 LooksSeeTheTree = (start : World) (s : ShellState) (x : Image) (path : Path) → RestsIn start s x → IsTrue (is_path path)
     → SeesTree s path
+
+-- Two runs from the same tree with the same asks and the same answers come to the same tree, however full their worlds
+-- are. So the tree after each whole answer is determined by the asks and the bytes sent.
+abbrev pub AnswersTellTheTree : Type 0
+AnswersTellTheTree =
+    (start : World) (s t u w : ShellState) (qs : List FileAsk) (answers : List (List ℕ)) → s.files ≡ u.files
+    → tree_in s ≡ tree_in u
+    → Run (shell_service start) s qs answers t → Run (shell_service start) u qs answers w
+    → (t.files ≡ w.files) × (tree_in t ≡ tree_in w)

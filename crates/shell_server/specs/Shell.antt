@@ -169,6 +169,16 @@ pub record IsMaking (start : World) (s : ShellState) (q : ShellAsk) (x : Image) 
 
 -- ---- the service
 
+-- a world for a start that isn't picked
+abbrev pub no_world : World
+no_world = record {
+  geometry = record { sectors = 1; blocks = 8; primaries = 1; slots = 1 };
+  version = 1;
+  blocks = [];
+  pairs = [];
+  records = [];
+}
+
 -- The bytes of a file and the names in a directory are sent in parts, and the disk is read between them.
 abbrev pub IsInParts : ShellAsk → List ℕ → Type 0
 IsInParts (ask.Cat path) line = (x : List ℕ) × (line ≡ answer_text (bytes x) ++ 10 ∷ [])

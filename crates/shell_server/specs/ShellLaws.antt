@@ -35,12 +35,7 @@ IsLine line = (w : List ℕ) × (line_feeds w ≡ 0) × (line ≡ w ++ 10 ∷ []
 is_line : (start : World) (s : ShellState) (q : FileAsk) (line : List ℕ) (t : ShellState) → Answers start s q line t
     → IsLine line
 is_line start s (file.Shell q) line t given = (_, given.one_line, given.text)
-is_line start s (file.Size path) line t given =
-    (looked_text (look_of s (file.Size path)), given.one_line, given.text)
-is_line start s (file.Read path from count) line t given =
-    (looked_text (look_of s (file.Read path from count)), given.one_line, given.text)
-is_line start s (file.Next path after) line t given =
-    (looked_text (look_of s (file.Next path after)), given.one_line, given.text)
+is_line start s q line t given = (looked_text (look_of s q), given.one_line, given.text)
 
 pub shell_counted : (start : World) → IsCounted (shell_service start)
 shell_counted start = record {

@@ -1,7 +1,6 @@
 //! One ask, answered.
 
 ghost use Rattle.std.specs.Prelude.{◌≡◌, ◌≢◌, IsTrue, Err};
-ghost use Rattle.fs_trees.specs.Names.{is_path};
 ghost use Rattle.fs_trees.specs.declared.ask.ShellAsk.TheVariants as ask;
 ghost use Rattle.shell_text.specs.declared.file_ask.FileAsk.TheVariants as file;
 ghost use Rattle.gathered_tasks.specs.Rooms.{IsFree};
@@ -10,14 +9,13 @@ ghost use Rattle.shell_server.specs.Carried.{IsServed};
 ghost use Rattle.shell_server.specs.Changed.{is_change};
 ghost use Rattle.fs_port.specs.Files.{TellsSize};
 ghost use Rattle.shell_server.specs.Kept.{AreReady, FitsShell, shell_state};
-ghost use Rattle.shell_server.specs.Shell.{heard, is_heard, shell_step};
+ghost use Rattle.shell_server.specs.Shell.{is_heard, shell_step};
 
 use crate::changes::change_on;
 use crate::free::answer_df;
 use crate::listing::answer_ls;
 use crate::look::{part_on, size_on};
 use crate::looking::{answer_next, answer_read, answer_size};
-use crate::paths::is_path;
 use crate::send::{send_bad, send_change, send_end, send_text};
 use crate::started::Started;
 use core_blocks::Placing;
@@ -82,23 +80,6 @@ pub fn answer_change<F: Files, P: Port, L: Placing, K: Started>(
     send_change(port, outcome)
 }
 
-/// Tells that an ask isn't heard: it counts as one that asks nothing.
-pub fn answer_bad<F: Files, P: Port, L: Placing, K: Started>(
-    files: &mut F,
-    core: &mut Core,
-    placement: &L,
-    port: &mut P,
-    request: &ShellAsk,
-) -> Result<(), Status>
-    requires ready { AreReady (F.view files.old) core.old }
-    requires at { P.told → FitsDevice (FitsShell K.start (F.view files.old) core.old) (P.view port.old) }
-    requires unheard { heard (F.view files.old).kind request.now ≡ ask.Bad }
-    ensures { IsServed P.told K.start (file.Shell request.now) (F.view files.old) (F.view files.new) core.old core.new
-        (P.view port.old) (P.view port.new) result }
-{
-    send_bad(port)
-}
-
 /// Sends the bytes of a file, part by part.
 pub fn answer_cat<F: Walks, P: Port, L: Placing, K: Started>(
     files: &mut F,
@@ -109,10 +90,10 @@ pub fn answer_cat<F: Walks, P: Port, L: Placing, K: Started>(
 ) -> Result<(), Status>
     requires ready { AreReady (F.view files.old) core.old }
     requires at { P.told → FitsDevice (FitsShell K.start (F.view files.old) core.old) (P.view port.old) }
-    requires named { IsTrue (is_path path.now) }
     ensures { IsServed P.told K.start (file.Shell (ask.Cat path.now)) (F.view files.old) (F.view files.new) core.old
         core.new (P.view port.old) (P.view port.new) result }
 {
+    path.known();
     match size_on::<F, P, L, K>(files, core, placement, port, path) {
         Ok(size) => send_file::<F, P, L, K>(files, core, placement, port, path, size),
         Err(why) => send_change(port, Err(why)),
@@ -130,12 +111,12 @@ fn send_file<F: Walks, P: Port, L: Placing, K: Started>(
 ) -> Result<(), Status>
     requires ready { AreReady (F.view files.old) core.old }
     requires at { P.told → FitsDevice (FitsShell K.start (F.view files.old) core.old) (P.view port.old) }
-    requires named { IsTrue (is_path path.now) }
     requires told { P.told → TellsSize size (shell_step (shell_state (F.view files.old) (P.view port.old).reads)
         (ask.Cat path.now)).answer }
     ensures { IsServed P.told K.start (file.Shell (ask.Cat path.now)) (F.view files.old) (F.view files.new) core.old
         core.new (P.view port.old) (P.view port.new) result }
 {
+    path.known();
     let mut line = OutBuf::new();
     print_data_head(size == 0, &mut line);
     send_text(port, line.as_slice())?;
@@ -155,7 +136,7 @@ fn send_file<F: Walks, P: Port, L: Placing, K: Started>(
     send_end(port)
 }
 
-/// Carries out an ask of the shell and sends its answer.
+/// Carries out an ask of the shell and sends its answer. One that is not heard counts as one that asks nothing.
 pub fn answer_ask<F: Walks, P: Port, L: Placing, K: Started>(
     files: &mut F,
     core: &mut Core,
@@ -172,10 +153,10 @@ pub fn answer_ask<F: Walks, P: Port, L: Placing, K: Started>(
     ensures room { result ≢ Err Status.DeviceFault → IsFree room.new }
 {
     if !is_heard(files, request) {
-        return answer_bad::<F, P, L, K>(files, core, placement, port, request);
+        return send_bad(port);
     }
     match request {
-        ShellAsk::Bad => answer_bad::<F, P, L, K>(files, core, placement, port, request),
+        ShellAsk::Bad => send_bad(port),
         ShellAsk::Cat { path } => answer_cat::<F, P, L, K>(files, core, placement, port, path),
         ShellAsk::Ls { path } => answer_ls::<F, P, L, K>(files, core, placement, port, path),
         ShellAsk::Df => answer_df::<F, P, L, K>(files, core, placement, port),
@@ -183,7 +164,7 @@ pub fn answer_ask<F: Walks, P: Port, L: Placing, K: Started>(
     }
 }
 
-/// Whether its paths are paths, and the layout has it.
+/// Whether the layout has it.
 fn is_heard<F: Files>(files: &F, request: &ShellAsk) -> bool
     ensures { result ≡ is_heard (F.view files.now).kind request.now }
 {
@@ -192,9 +173,19 @@ fn is_heard<F: Files>(files: &F, request: &ShellAsk) -> bool
         | ShellAsk::Append { path, .. }
         | ShellAsk::Cat { path }
         | ShellAsk::Ls { path }
-        | ShellAsk::Rm { path } => is_path(path),
-        ShellAsk::MakeDir { path } => files.has_dirs() && is_path(path),
-        ShellAsk::Copy { path, new } => files.has_dirs() && is_path(path) && is_path(new),
+        | ShellAsk::Rm { path } => {
+            path.known();
+            true
+        }
+        ShellAsk::MakeDir { path } => {
+            path.known();
+            files.has_dirs()
+        }
+        ShellAsk::Copy { path, new } => {
+            path.known();
+            new.known();
+            files.has_dirs()
+        }
         ShellAsk::Bad | ShellAsk::Make | ShellAsk::Df => true,
     }
 }

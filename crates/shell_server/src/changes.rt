@@ -13,8 +13,7 @@ ghost use Rattle.gathered_tasks.specs.Held.{IsInMemory, IsReadyInMemory};
 ghost use Rattle.gathered_tasks.specs.Rooms.{IsFree, gathered};
 ghost use Rattle.serving.specs.Handling.{FitsDevice};
 ghost use Rattle.shell_server.specs.Carried.{IsCarried};
-ghost use Rattle.shell_server.specs.Changed.{IsChanged, is_change};
-ghost use Rattle.shell_server.specs.Gathered.{IsGathered, IsOneCommit};
+ghost use Rattle.shell_server.specs.Changed.{IsChanged, IsGathered, IsOneCommit, is_change};
 ghost use Rattle.shell_server.specs.Kept.{AreReady, FitsShell, IsClient};
 ghost use Rattle.shell_server.specs.Shell.{is_heard, tree_under};
 

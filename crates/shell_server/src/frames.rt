@@ -3,7 +3,7 @@
 ghost use Rattle.std.specs.Prelude.{[], IfOk};
 ghost use Rattle.request_frames.specs.Cutting.{WasFed};
 ghost use Rattle.shell_server.specs.Frames.{file_spelling};
-ghost use Rattle.shell_server.specs.FrameLaws.{file_lawful};
+ghost use Rattle.shell_server.specs.LineLaws.{file_lawful};
 
 use crate::lines::TreeLayout;
 use fs_trees::ShellAsk;

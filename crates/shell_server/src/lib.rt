@@ -8,7 +8,6 @@
 //! - `answer`, `listing`, `send`: the answers as they are sent; the bytes of a file and the names of a directory go in
 //!   parts.
 //! - `looking`, `seen`: asks that only look, and their answers.
-//! - `paths`: what of an ask is a path.
 //! - `started`: the world in which a run began, which proofs pick.
 //! - `laws`: the answers tell the tree, and looks see it.
 //!
@@ -27,14 +26,13 @@ mod lines;
 mod listing;
 mod look;
 mod looking;
-mod paths;
 mod run;
 mod seen;
 mod send;
 mod server;
 mod started;
 
-pub use answer::{answer_ask, answer_bad, answer_cat, answer_change, answer_file};
+pub use answer::{answer_ask, answer_cat, answer_change, answer_file};
 pub use changes::{change, change_on};
 pub use frames::FileFrames;
 pub use free::{answer_df, free_on};

@@ -1,7 +1,6 @@
 //! The names in a directory, answered name by name.
 
-ghost use Rattle.std.specs.Prelude.{◌≡◌, [], IfSome, IsTrue};
-ghost use Rattle.fs_trees.specs.Names.{is_path};
+ghost use Rattle.std.specs.Prelude.{[], IfSome};
 ghost use Rattle.fs_trees.specs.declared.ask.ShellAsk.TheVariants as ask;
 ghost use Rattle.shell_text.specs.declared.file_ask.FileAsk.TheVariants as file;
 ghost use Rattle.fs_port.specs.Files.{TellsNext};
@@ -17,16 +16,13 @@ use crate::started::Started;
 use arrayvec::ArrayVec;
 use core_blocks::Placing;
 use fs_port::{FsRefusal, Path};
-use fs_trees::Name;
+use fs_trees::{NAMES_MAX, Name};
 use fs_walks::{NAMES_AT_ONCE, Walks};
 use image_device::Port;
 use script_text::OutBuf;
 use shell_text::{print_name, print_names_head};
 use tsd_core::Core;
 use tsd_words::Status;
-
-/// How many names a directory has at most.
-const NAMES_MAX: u32 = 4096;
 
 /// Sends the names in a directory, name by name.
 pub fn answer_ls<F: Walks, P: Port, L: Placing, K: Started>(
@@ -38,10 +34,10 @@ pub fn answer_ls<F: Walks, P: Port, L: Placing, K: Started>(
 ) -> Result<(), Status>
     requires ready { AreReady (F.view files.old) core.old }
     requires at { P.told → FitsDevice (FitsShell K.start (F.view files.old) core.old) (P.view port.old) }
-    requires named { IsTrue (is_path path.now) }
     ensures { IsServed P.told K.start (file.Shell (ask.Ls path.now)) (F.view files.old) (F.view files.new) core.old
         core.new (P.view port.old) (P.view port.new) result }
 {
+    path.known();
     let none = Name::new();
     let mut ahead = ArrayVec::new();
     match next_on::<F, P, L, K>(files, core, placement, port, path, &none, &mut ahead) {
@@ -65,7 +61,6 @@ fn send_names<F: Walks, P: Port, L: Placing, K: Started>(
 ) -> Result<(), Status>
     requires ready { AreReady (F.view files.old) core.old }
     requires at { P.told → FitsDevice (FitsShell K.start (F.view files.old) core.old) (P.view port.old) }
-    requires named { IsTrue (is_path path.now) }
     requires told { P.told → TellsNext [] first (shell_step (shell_state (F.view files.old) (P.view port.old).reads)
         (ask.Ls path.now)).answer }
     requires ahead { P.told → IfSome first (λ name. AreBehind name ahead.old.items (shell_step (shell_state (F.view
@@ -73,6 +68,7 @@ fn send_names<F: Walks, P: Port, L: Placing, K: Started>(
     ensures { IsServed P.told K.start (file.Shell (ask.Ls path.now)) (F.view files.old) (F.view files.new) core.old
         core.new (P.view port.old) (P.view port.new) result }
 {
+    path.known();
     let mut line = OutBuf::new();
     print_names_head(first.is_none(), &mut line);
     send_text(port, line.as_slice())?;

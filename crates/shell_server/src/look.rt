@@ -1,14 +1,12 @@
 //! A file or a directory read, part by part.
 
-ghost use Rattle.std.specs.Prelude.{◌≡◌, ◌+◌, [], IfErr, IfOk, IfSome, IsTrue};
-ghost use Rattle.fs_trees.specs.Names.{is_path};
+ghost use Rattle.std.specs.Prelude.{◌≡◌, ◌+◌, [], IfErr, IfOk, IfSome};
 ghost use Rattle.fs_trees.specs.declared.ask.ShellAsk.TheVariants as ask;
 ghost use Rattle.fs_port.specs.Files.{TellsNext, TellsPart, TellsSize};
 ghost use Rattle.fs_walks.specs.Nexts.{AreBehind, TellsNames};
 ghost use Rattle.serving.specs.Handling.{FitsDevice};
 ghost use Rattle.shell_server.specs.Carried.{IsLooked};
-ghost use Rattle.shell_server.specs.Kept.{AreReady, FitsShell, shell_state};
-ghost use Rattle.shell_server.specs.Places.{disk_state};
+ghost use Rattle.shell_server.specs.Kept.{AreReady, FitsShell, disk_state, shell_state};
 ghost use Rattle.shell_server.specs.Shell.{shell_step};
 
 use crate::started::Started;
@@ -31,10 +29,10 @@ pub fn size_on<F: Files, D: Device, L: Placing, K: Started>(
 ) -> Result<u64, FsRefusal>
     requires ready { AreReady (F.view files.old) core.old }
     requires at { D.told → FitsDevice (FitsShell K.start (F.view files.old) core.old) (D.view dev.old) }
-    requires named { IsTrue (is_path path.now) }
     ensures { IsLooked D.told K.start (ask.Cat path.now) (F.view files.old) (F.view files.new) core.old core.new
         (D.view dev.old) (D.view dev.new) TellsSize result }
 {
+    path.known();
     let mut blocks = CoreBlocks::new(core, placement, dev);
     files.size(&mut blocks, path)
 }
@@ -53,7 +51,6 @@ pub fn part_on<F: Walks, D: Device, L: Placing, K: Started>(
 ) -> Result<Option<Place>, FsRefusal>
     requires ready { AreReady (F.view files.old) core.old }
     requires at { D.told → FitsDevice (FitsShell K.start (F.view files.old) core.old) (D.view dev.old) }
-    requires named { IsTrue (is_path path.now) }
     requires place { D.told → IfSome place (F.leads (F.view files.old) (disk_state core.old (D.view dev.old)) path.now
         start) }
     ensures looked { IsLooked D.told K.start (ask.Cat path.now) (F.view files.old) (F.view files.new) core.old core.new
@@ -63,6 +60,7 @@ pub fn part_on<F: Walks, D: Device, L: Placing, K: Started>(
     /// promise: A part that isn't read is empty.
     ensures nothing { IfErr result (λ _. into.new ≡ []) }
 {
+    path.known();
     let mut blocks = CoreBlocks::new(core, placement, dev);
     files.read_on(&mut blocks, path, start, place, into)
 }
@@ -79,10 +77,10 @@ fn names_on<F: Walks, D: Device, L: Placing, K: Started>(
 ) -> Result<(), FsRefusal>
     requires ready { AreReady (F.view files.old) core.old }
     requires at { D.told → FitsDevice (FitsShell K.start (F.view files.old) core.old) (D.view dev.old) }
-    requires named { IsTrue (is_path path.now) }
     ensures { IsLooked D.told K.start (ask.Ls path.now) (F.view files.old) (F.view files.new) core.old core.new
         (D.view dev.old) (D.view dev.new) (λ _. TellsNames after.now into.new.items) result }
 {
+    path.known();
     let mut blocks = CoreBlocks::new(core, placement, dev);
     files.names_after(&mut blocks, path, after, into)
 }
@@ -100,7 +98,6 @@ pub fn next_on<F: Walks, D: Device, L: Placing, K: Started>(
 ) -> Result<Option<Name>, FsRefusal>
     requires ready { AreReady (F.view files.old) core.old }
     requires at { D.told → FitsDevice (FitsShell K.start (F.view files.old) core.old) (D.view dev.old) }
-    requires named { IsTrue (is_path path.now) }
     requires ahead { D.told → AreBehind after.now ahead.old.items (shell_step (shell_state (F.view files.old) (D.view
         dev.old).reads) (ask.Ls path.now)).answer }
     ensures looked { IsLooked D.told K.start (ask.Ls path.now) (F.view files.old) (F.view files.new) core.old core.new

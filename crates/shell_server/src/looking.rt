@@ -11,14 +11,13 @@ ghost use Rattle.shell_text.specs.FileBodies.{is_after};
 ghost use Rattle.shell_text.specs.declared.file_ask.FileAsk.TheVariants as file;
 
 use crate::look::{next_on, part_on, size_on};
-use crate::paths::{child_path, is_after, is_path};
 use crate::seen::{send_dir, send_next_dir, send_next_file, send_no_name, send_part, send_size};
 use crate::send::{send_bad, send_change};
 use crate::started::Started;
 use arrayvec::ArrayVec;
 use core_blocks::Placing;
 use fs_port::{FsRefusal, Path};
-use fs_trees::Name;
+use fs_trees::{Name, is_name};
 use fs_walks::Walks;
 use image_device::Port;
 use tsd_core::Core;
@@ -38,9 +37,6 @@ pub fn answer_size<F: Walks, P: Port, L: Placing, K: Started>(
     ensures { IsServed P.told K.start (file.Size path.now) (F.view files.old) (F.view files.new) core.old
         core.new (P.view port.old) (P.view port.new) result }
 {
-    if !is_path(path) {
-        return send_bad(port);
-    }
     match size_on::<F, P, L, K>(files, core, placement, port, path) {
         Ok(size) => send_size(port, size),
         Err(FsRefusal::IsDir) => send_dir(port),
@@ -63,9 +59,6 @@ pub fn answer_read<F: Walks, P: Port, L: Placing, K: Started>(
     ensures { IsServed P.told K.start (file.Read path.now start count) (F.view files.old) (F.view files.new) core.old
         core.new (P.view port.old) (P.view port.new) result }
 {
-    if !is_path(path) {
-        return send_bad(port);
-    }
     let mut part = Data::new();
     match part_on::<F, P, L, K>(files, core, placement, port, path, start, None, &mut part) {
         Ok(_) => send_part(port, first_of(part.as_slice(), count)),
@@ -79,6 +72,13 @@ fn first_of(bytes: &[u8], count: u32) -> &[u8]
 {
     let used = bytes.len().min(count as usize);
     &bytes[..used]
+}
+
+/// Whether a name may stand above it: it is empty, or a name.
+fn is_after(name: &Name) -> bool
+    ensures { result ≡ is_after name.now }
+{
+    name.len() == 0 || is_name(name.as_slice())
 }
 
 /// Sends the least name in a directory above another, and what it names.
@@ -95,7 +95,7 @@ pub fn answer_next<F: Walks, P: Port, L: Placing, K: Started>(
     ensures { IsServed P.told K.start (file.Next path.now after.now) (F.view files.old) (F.view files.new) core.old
         core.new (P.view port.old) (P.view port.new) result }
 {
-    if !is_path(path) || !is_after(after) {
+    if !is_after(after) {
         return send_bad(port);
     }
     let mut ahead = ArrayVec::new();
@@ -127,13 +127,10 @@ fn answer_child<F: Walks, P: Port, L: Placing, K: Started>(
     ensures { IsServed P.told K.start (file.Next path.now after.now) (F.view files.old) (F.view files.new) core.old
         core.new (P.view port.old) (P.view port.new) result }
 {
-    let child = match child_path(path, name) {
-        Some(child) => child,
-        None => return send_bad(port),
+    let child = match path.with(name) {
+        Ok(child) => child,
+        Err(_) => return send_bad(port),
     };
-    if !is_path(&child) {
-        return send_bad(port);
-    }
     match size_on::<F, P, L, K>(files, core, placement, port, &child) {
         Ok(size) => send_next_file(port, name, size),
         Err(FsRefusal::IsDir) => send_next_dir(port, name),

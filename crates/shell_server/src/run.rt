@@ -7,7 +7,7 @@ ghost use Rattle.image_world.specs.Behind.{behind};
 ghost use Rattle.image_world.specs.Stands.{world_of};
 ghost use Rattle.serving.specs.Faults.{TellsFaults};
 ghost use Rattle.serving.specs.Handling.{FitsDevice};
-ghost use Rattle.serving.specs.Prompt.{IsOfPort, Promptly, mark};
+ghost use Rattle.serving.specs.Prompt.{EndsBySending, IsCutShort, IsOfPort, Promptly, mark};
 ghost use Rattle.serving.specs.Ran.{EndsOnce, Ran, moments, taking};
 ghost use Rattle.tsd_core.specs.Core.{IsCoreAt, IsCoreReady, told_world};
 ghost use Rattle.volume_laws.specs.Quiet.{IsQuiet};
@@ -69,6 +69,9 @@ pub fn serve_shell<
         (shell_state (F.view files.old) (P.view port.old).reads)
         (taking S.told S.taken S.left_bytes S.ended source.old source.new) (mark (P.view port.old))
         (mark (P.view port.new)) }
+    /// promise: Where the input was cut short, nothing is done behind the last answer: once all was sent that is sent
+    /// in the end, a crash leaves the disk as it reads in the end.
+    ensures still { P.told → IsCutShort result → EndsBySending (P.view port.old) (P.view port.new) }
     // However it ended, a crash at any moment leaves what lies behind the image as it was.
     /// promise: What lies after the image is as it was in each image that a crash leaves.
     ensures behind { P.told → LeavesPart (behind (told_world core.old).geometry) (P.view port.old) (P.view port.new) }

@@ -1,9 +1,8 @@
 //! The answers of asks that only look, as they are sent.
 
-ghost use Rattle.std.specs.Prelude.{◌≡◌, ◌≤◌, [], ◌∷◌, ◌++◌, IfErr, IsTrue, length};
+ghost use Rattle.std.specs.Prelude.{◌≤◌, IsTrue, length};
 ghost use Rattle.fs_trees.specs.Names.{is_name};
-ghost use Rattle.image_device.specs.Runs.{PutsAll};
-ghost use Rattle.script_text.specs.Pieces.{line_feeds};
+ghost use Rattle.shell_server.specs.Carried.{SendsLine};
 ghost use Rattle.shell_text.specs.Looked.{dir_here, file_of, looked_text, next_dir, next_file, none_left, part_of};
 
 use crate::send::send_text;
@@ -18,10 +17,7 @@ use tsd_words::Status;
 
 /// Sends the line of a file, with how many bytes it has.
 pub(crate) fn send_size<P: Port>(port: &mut P, size: u64) -> Result<(), Status>
-    ensures line { line_feeds (looked_text (file_of size)) ≡ 0 }
-    ensures stops { IfErr result (λ why. why ≡ Status.PutFault) }
-    ensures puts { PutsAll P.told (looked_text (file_of size) ++ 10 ∷ []) (P.view port.old) (P.view port.new)
-        result }
+    ensures { SendsLine P.told (looked_text (file_of size)) (P.view port.old) (P.view port.new) result }
 {
     let mut line = OutBuf::new();
     print_file_size(size, &mut line);
@@ -30,10 +26,7 @@ pub(crate) fn send_size<P: Port>(port: &mut P, size: u64) -> Result<(), Status>
 
 /// Sends the line of a directory.
 pub(crate) fn send_dir<P: Port>(port: &mut P) -> Result<(), Status>
-    ensures line { line_feeds (looked_text dir_here) ≡ 0 }
-    ensures stops { IfErr result (λ why. why ≡ Status.PutFault) }
-    ensures puts { PutsAll P.told (looked_text dir_here ++ 10 ∷ []) (P.view port.old) (P.view port.new)
-        result }
+    ensures { SendsLine P.told (looked_text dir_here) (P.view port.old) (P.view port.new) result }
 {
     let mut line = OutBuf::new();
     print_dir(&mut line);
@@ -43,10 +36,7 @@ pub(crate) fn send_dir<P: Port>(port: &mut P) -> Result<(), Status>
 /// Sends the line of some of the bytes of a file.
 pub(crate) fn send_part<P: Port>(port: &mut P, bytes: &[u8]) -> Result<(), Status>
     requires { length bytes.now ≤ DATA_MAX }
-    ensures line { line_feeds (looked_text (part_of bytes.now)) ≡ 0 }
-    ensures stops { IfErr result (λ why. why ≡ Status.PutFault) }
-    ensures puts { PutsAll P.told (looked_text (part_of bytes.now) ++ 10 ∷ []) (P.view port.old) (P.view port.new)
-        result }
+    ensures { SendsLine P.told (looked_text (part_of bytes.now)) (P.view port.old) (P.view port.new) result }
 {
     let mut line = OutBuf::new();
     print_part(bytes, &mut line);
@@ -56,10 +46,7 @@ pub(crate) fn send_part<P: Port>(port: &mut P, bytes: &[u8]) -> Result<(), Statu
 /// Sends the line of the next name, which is that of a file, with how many bytes that has.
 pub(crate) fn send_next_file<P: Port>(port: &mut P, name: &Name, size: u64) -> Result<(), Status>
     requires { IsTrue (is_name name.now) }
-    ensures line { line_feeds (looked_text (next_file name.now size)) ≡ 0 }
-    ensures stops { IfErr result (λ why. why ≡ Status.PutFault) }
-    ensures puts { PutsAll P.told (looked_text (next_file name.now size) ++ 10 ∷ []) (P.view port.old) (P.view port.new)
-        result }
+    ensures { SendsLine P.told (looked_text (next_file name.now size)) (P.view port.old) (P.view port.new) result }
 {
     let mut line = OutBuf::new();
     print_next_file(name, size, &mut line);
@@ -69,10 +56,7 @@ pub(crate) fn send_next_file<P: Port>(port: &mut P, name: &Name, size: u64) -> R
 /// Sends the line of the next name, which is that of a directory.
 pub(crate) fn send_next_dir<P: Port>(port: &mut P, name: &Name) -> Result<(), Status>
     requires { IsTrue (is_name name.now) }
-    ensures line { line_feeds (looked_text (next_dir name.now)) ≡ 0 }
-    ensures stops { IfErr result (λ why. why ≡ Status.PutFault) }
-    ensures puts { PutsAll P.told (looked_text (next_dir name.now) ++ 10 ∷ []) (P.view port.old) (P.view port.new)
-        result }
+    ensures { SendsLine P.told (looked_text (next_dir name.now)) (P.view port.old) (P.view port.new) result }
 {
     let mut line = OutBuf::new();
     print_next_dir(name, &mut line);
@@ -81,10 +65,7 @@ pub(crate) fn send_next_dir<P: Port>(port: &mut P, name: &Name) -> Result<(), St
 
 /// Sends the line of a directory that has no such name left.
 pub(crate) fn send_no_name<P: Port>(port: &mut P) -> Result<(), Status>
-    ensures line { line_feeds (looked_text none_left) ≡ 0 }
-    ensures stops { IfErr result (λ why. why ≡ Status.PutFault) }
-    ensures puts { PutsAll P.told (looked_text none_left ++ 10 ∷ []) (P.view port.old) (P.view port.new)
-        result }
+    ensures { SendsLine P.told (looked_text none_left) (P.view port.old) (P.view port.new) result }
 {
     let mut line = OutBuf::new();
     print_no_name(&mut line);

@@ -2,10 +2,9 @@
 
 ghost use Rattle.std.specs.Prelude.{◌≡◌, ◌≢◌, [], ◌∷◌, ◌++◌, IfErr};
 ghost use Rattle.fs_trees.specs.Answer.{bad, done, available, refused};
-ghost use Rattle.script_text.specs.Pieces.{line_feeds};
 ghost use Rattle.shell_text.specs.Texts.{answer_text};
 ghost use Rattle.image_device.specs.Runs.{PutsAll};
-ghost use Rattle.shell_server.specs.Carried.{IsOneLine, change_line};
+ghost use Rattle.shell_server.specs.Carried.{IsOneLine, SendsLine, change_line};
 
 use fs_port::FsRefusal;
 use image_device::{Port, put_all};
@@ -31,8 +30,7 @@ pub fn send_change<P: Port>(port: &mut P, outcome: Result<(), FsRefusal>) -> Res
 
 /// Sends the line of a change that was made.
 fn send_done<P: Port>(port: &mut P) -> Result<(), Status>
-    ensures stops { IfErr result (λ why. why ≡ Status.PutFault) }
-    ensures puts { PutsAll P.told (answer_text done ++ 10 ∷ []) (P.view port.old) (P.view port.new) result }
+    ensures { SendsLine P.told (answer_text done) (P.view port.old) (P.view port.new) result }
 {
     let mut line = OutBuf::new();
     print_done(&mut line);
@@ -42,10 +40,7 @@ fn send_done<P: Port>(port: &mut P) -> Result<(), Status>
 /// Sends the line of a refusal.
 fn send_refusal<P: Port>(port: &mut P, why: &FsRefusal) -> Result<(), Status>
     requires { why.now ≢ FsRefusal.Device }
-    ensures line { line_feeds (answer_text (refused why.now)) ≡ 0 }
-    ensures stops { IfErr result (λ why. why ≡ Status.PutFault) }
-    ensures puts { PutsAll P.told (answer_text (refused why.now) ++ 10 ∷ []) (P.view port.old) (P.view port.new)
-        result }
+    ensures { SendsLine P.told (answer_text (refused why.now)) (P.view port.old) (P.view port.new) result }
 {
     let mut line = OutBuf::new();
     print_refusal(why, &mut line);
@@ -65,8 +60,7 @@ pub(crate) fn send_free<P: Port>(port: &mut P, count: u32) -> Result<(), Status>
 
 /// Sends the line of what asks nothing.
 pub(crate) fn send_bad<P: Port>(port: &mut P) -> Result<(), Status>
-    ensures stops { IfErr result (λ why. why ≡ Status.PutFault) }
-    ensures puts { PutsAll P.told (answer_text bad ++ 10 ∷ []) (P.view port.old) (P.view port.new) result }
+    ensures { SendsLine P.told (answer_text bad) (P.view port.old) (P.view port.new) result }
 {
     let mut line = OutBuf::new();
     print_bad(&mut line);

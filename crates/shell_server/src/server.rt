@@ -1,6 +1,6 @@
 //! The shell as a server of the loop.
 
-ghost use Rattle.std.specs.Prelude.{◌≡◌, true};
+ghost use Rattle.std.specs.Prelude.{◌≡◌, true, ⊤};
 ghost use Rattle.image_world.specs.Behind.{behind};
 ghost use Rattle.tsd_core.specs.Core.{told_world};
 ghost use Rattle.volume_laws.specs.Quiet.{IsQuiet};
@@ -59,6 +59,8 @@ impl<'a, F: Walks, L: Placing, K: Started, M: Protocol<Request = FileAsk>> Serve
     ghost due = { λ h x. due h.core.now.volume };
 
     ghost is_closed = { IsQuiet };
+
+    ghost ends_by_sending = { ⊤ };
 
     ghost aside = { λ h. behind (told_world h.core.now).geometry };
 

@@ -1,5 +1,5 @@
 -- What is read of one field of a body is its spelling, and what is spelled is read.
-use Rattle.std.proofs.Common.{◌≡◌, ℕ, zero, suc, ◌+◌, ◌*◌, ◌^◌, ◌<◌, ◌≤◌, ◌/◌, ◌%◌, Bool, true, cond, nat_le, List, [], ◌∷◌, ◌++◌, length, take, drop, refl, sym, ◌∙◌, ap, subst, arith, append_assoc, Option, Some, None}
+use Rattle.std.proofs.Common.{◌≡◌, ℕ, zero, suc, ◌+◌, ◌-◌, ◌*◌, ◌^◌, ◌<◌, ◌≤◌, ◌/◌, ◌%◌, Bool, true, false, cond, nat_le, List, [], ◌∷◌, ◌++◌, length, take, drop, refl, sym, ◌∙◌, ap, subst, arith, append_assoc, Option, Some, None}
 use Rattle.std.specs.Prelude.{option_map}
 use Rattle.std.specs.List.{list_all}
 use Rattle.std.specs.Int.{byte_at, bytes_low_first}
@@ -163,3 +163,24 @@ path_back p rest h =
 -- these names stand before those that are read
 abbrev pub before : Path → Path × List ℕ → Path × List ℕ
 before p r = (p ++ r.0, r.1)
+
+-- the next word, where names are to be read
+module _ (w bs rest : List ℕ) (word : word_of bs ≡ Some (w, rest)) where
+  name_in : (t : Bool) → is_name w ≡ t → name_at bs ≡ cond t (Some (w, rest)) None
+  unfolding name_at
+  name_in t is = ap (λ o. o >>= kept is_name) word ∙ ap (λ b. cond b (Some (w, rest)) None) is
+
+  -- it is one, and goes to the end of those that stand before
+  pub name_goes : (p : Path) (k : ℕ) → 0 < k → is_name w ≡ true → option_map (before p) (names_at k bs) ≡ option_map (before (p ++ w ∷ [])) (names_at (k - 1) rest)
+  name_goes p zero some is = absurd (omega (arith, some))
+  name_goes p (suc k) some is = ap (λ o. option_map (before p) (o >>= λ n. option_map (onto n.0) (names_at k n.1))) (name_in true is)
+      ∙ by (names_at k rest) ∙ ap (λ j. option_map (before (p ++ w ∷ [])) (names_at j rest)) (let e : k ≡ suc k - 1 = omega arith in e)
+    where
+      by : (o : Option (Path × List ℕ)) → option_map (before p) (option_map (onto w) o) ≡ option_map (before (p ++ w ∷ [])) o
+      by None = refl
+      by (Some r) = ap (λ q. Some (q, r.1)) (sym (append_assoc p (w ∷ []) r.0))
+
+  -- it is none
+  pub names_end : (k : ℕ) → 0 < k → is_name w ≡ false → names_at k bs ≡ None
+  names_end zero some none = absurd (omega (arith, some))
+  names_end (suc k) some none = ap (λ o. o >>= λ n. option_map (onto n.0) (names_at k n.1)) (name_in false none)

@@ -1,5 +1,4 @@
 pub mod PathLaws
-pub mod NamesLaws
 pub mod AskedLaws
 pub mod SpelledLaws
 pub mod AnswerLaws

@@ -1,5 +1,5 @@
 -- An answer to an ask that only looks is told in one line.
-use Rattle.std.proofs.Common.{◌≡◌, ℕ, zero, suc, ◌+◌, ◌/◌, ◌%◌, ◌^◌, ◌<◌, ◌==◌, Bool, true, false, cond, List, [], ◌∷◌, ◌++◌, decimal, slice_index, refl, ◌∙◌, ap, arith}
+use Rattle.std.proofs.Common.{◌≡◌, ℕ, ◌+◌, ◌/◌, ◌%◌, ◌^◌, ◌<◌, ◌==◌, true, false, cond, List, [], ◌∷◌, ◌++◌, decimal, slice_index, refl, ◌∙◌, ap, arith}
 use Rattle.std.specs.List.{list_all, join_with_byte}
 use Rattle.std.proofs.lemmas.Bool.{and_parts}
 use Rattle.std.proofs.lemmas.Bool.Decides.{nat_tests}
@@ -17,6 +17,7 @@ use Rattle.shell_text.specs.Texts.{refusal_words, answer_text}
 use Rattle.shell_text.specs.Looked.{Looked, file_of, dir_here, part_of, next_file, next_dir, none_left, not_looked, not_heard, looked_words, looked_text, RefusalFits, LookedFits}
 use Rattle.shell_text.proofs.PathLaws.{bytes_are}
 use Rattle.shell_text.proofs.RefusalLaws.{digits_none, number_none}
+use Rattle.script_text.proofs.FeedLaws.{index_none}
 
 -- ---- words without a line feed
 
@@ -34,15 +35,6 @@ name_bytes_none (c ∷ cs) h =
 
 name_none : (n : Name) → is_name n ≡ true → line_feeds n ≡ 0
 name_none n h = name_bytes_none n (bytes_are n h).1
-
-first_none : (t : Bool) (n : ℕ) → cond t 1 0 + n ≡ 0 → (t ≡ false) × (n ≡ 0)
-first_none true n e = absurd (omega (arith, e))
-first_none false n e = (refl, omega (arith, e))
-
-index_none : (t : List ℕ) (d : ℕ) → line_feeds t ≡ 0 → (slice_index t d == 10) ≡ false
-index_none [] d h = refl
-index_none (c ∷ cs) zero h = (first_none (c == 10) (line_feeds cs) h).0
-index_none (c ∷ cs) (suc d) h = index_none cs d (first_none (c == 10) (line_feeds cs) h).1
 
 hex_none : (bytes : List ℕ) → line_feeds (encode_lower bytes) ≡ 0
 unfolding encode_with

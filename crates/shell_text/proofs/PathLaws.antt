@@ -1,5 +1,5 @@
 -- What a word is read as a path it spells, and the other way.
-use Rattle.std.proofs.Common.{◌≡◌, ℕ, ◌≤◌, Bool, true, false, not, cond, ◌&&◌, ◌==◌, nat_le, List, [], ◌∷◌, ◌++◌, length, refl, sym, ◌∙◌, ap, subst, arith, Some, None}
+use Rattle.std.proofs.Common.{◌≡◌, ℕ, ◌≤◌, Bool, true, false, not, cond, ◌&&◌, ◌==◌, nat_le, List, [], ◌∷◌, length, refl, sym, ◌∙◌, ap, subst, arith, Some, None}
 use Rattle.std.specs.List.{list_all, join_with_byte}
 use Rattle.std.proofs.lemmas.List.Folds.{list_all-append}
 use Rattle.std.proofs.lemmas.Bool.{and_parts, and_from, eqb-true, leb-true}
@@ -87,11 +87,7 @@ path_lacks w p h =
     let all = (and_parts (nat_le (length p) path_max) (list_all is_name p) h.0).1 in
     subst (λ v. lacks 32 v ≡ true) (sym h.1) (join_lacks p (weaker is_name (lacks 32) no_space p all))
 
--- ---- reading names one after another
-
--- one more name
-pub one_more : (p : Path) (n : Name) → list_all is_name p ≡ true → is_name n ≡ true → list_all is_name (p ++ n ∷ []) ≡ true
-one_more p n all h = list_all-append is_name p (n ∷ []) ∙ and_from (list_all is_name p) (list_all is_name (n ∷ [])) all (and_from (is_name n) true h refl)
+-- ---- what is read of some text
 
 pub some_text : (t : List ℕ) → (length t == 0) ≡ false → names_of t ≡ path_if (pieces 47 t)
 some_text [] h = absurd (cc)

@@ -1,7 +1,7 @@
 //! The fields of a frame's body that speak of a tree: each is read from the front of what is left.
 
 ghost use Rattle.std.specs.Prelude.{◌≡◌, ◌≤◌, MatchOption};
-ghost use Rattle.shell_text.specs.FileReading.{start_of, word_of, name_at, after_at, names_at, path_at};
+ghost use Rattle.shell_text.specs.FileReading.{start_of, word_of, after_at, names_at, path_at};
 
 use crate::names::parse_name;
 use byteorder::{ByteOrder, LittleEndian};
@@ -31,15 +31,6 @@ fn read_word<'a>(reader: &mut BodyReader<'a>) -> Option<&'a [u8]>
     reader.take(count)
 }
 
-/// A name.
-#[tactic(auto, unfolding(crate::specs::FileReading::name_at))]
-fn read_name(reader: &mut BodyReader<'_>) -> Option<Name>
-    ensures { MatchOption result (name_at reader.old ≡ None) (λ n. name_at reader.old ≡ Some (n, reader.new)) }
-{
-    let word = read_word(reader)?;
-    parse_name(word)
-}
-
 /// What a name may stand above: no bytes, or a name.
 #[tactic(auto, unfolding(crate::specs::FileReading::after_at))]
 pub fn read_after(reader: &mut BodyReader<'_>) -> Option<Name>
@@ -66,6 +57,7 @@ pub fn read_path(reader: &mut BodyReader<'_>) -> Option<Path>
 }
 
 /// So many names.
+#[tactic(auto, unfolding(crate::specs::FileReading::name_at))]
 fn read_names(reader: &mut BodyReader<'_>, count: usize) -> Option<Path>
     requires { count ≤ PATH_MAX }
     ensures { MatchOption result (names_at count reader.old ≡ None) (λ p. names_at count reader.old
@@ -74,9 +66,11 @@ fn read_names(reader: &mut BodyReader<'_>, count: usize) -> Option<Path>
     let mut path = Path::new();
     let mut more = count;
     while more > 0 {
-        let name = read_name(reader)?;
-        let _fits = path.push(name);
-        more -= 1;
+        let word = read_word(reader)?;
+        match path.push_bytes(word) {
+            Ok(()) => more -= 1,
+            Err(_) => return None,
+        }
     }
     Some(path)
 }

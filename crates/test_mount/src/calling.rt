@@ -1,10 +1,9 @@
 //! Calls one after the other over a disk that tells its world: what is put is read back, and what a crash leaves is
 //! mounted.
 
-ghost use Rattle.std.specs.Prelude.{◌≡◌, ◌⊎◌, take, false, OnOk, IfErr, IsTrue};
+ghost use Rattle.std.specs.Prelude.{◌≡◌, ◌⊎◌, take, false, OnOk, IfErr};
 ghost use Rattle.tsd_model.specs.Sessions.{Fits};
 ghost use Rattle.fs_trees.specs.Layouts.{tree_at, IsTidy};
-ghost use Rattle.fs_trees.specs.Names.{is_path};
 ghost use Rattle.fs_trees.specs.Outside.{OthersStay};
 ghost use Rattle.fs_trees.specs.Tree.{nothing};
 ghost use Rattle.fs_trees.specs.declared.ask.ShellAsk.{ShellAsk};
@@ -28,7 +27,6 @@ pub fn put_and_read_back<F: Files>(
 ) -> Result<(), FsRefusal>
     requires ready { IsClientReady (F.view files.old) (plain_view disk.old) }
     requires valid { IsValidNow (plain_view disk.old) }
-    requires named { IsTrue (is_path path.now) }
     ensures { OnOk result (into.new ≡ take 4096 bytes.now) }
 {
     match files.make(disk) {

@@ -1,9 +1,8 @@
 //! Lines of the shell, each with its answer, and what tests need of a site.
 
 use chain_fs::ChainFs;
-use fixtures_fs::{
-    NamedPath, Site, Tested, again, answer_to, begun, bytes_of, expanded, name_path,
-};
+use fixtures_fs::{Site, Tested, again, answer_to, begun, bytes_of, expanded, name_path};
+use fs_trees::Path;
 use inode_fs::InodeFs;
 use std::alloc::Global;
 use std::process::Abort;
@@ -32,7 +31,7 @@ pub fn mounted_again<F: Tested>(rt: &impl Abort, alloc: Global, site: Site<F>) -
 }
 
 /// The path that a word spells.
-pub fn path_of(rt: &impl Abort, word: &[u8]) -> NamedPath {
+pub fn path_of(rt: &impl Abort, word: &[u8]) -> Path {
     name_path(word).expect(rt, "a path")
 }
 

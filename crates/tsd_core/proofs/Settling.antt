@@ -1,6 +1,6 @@
 -- What is left to be reclaimed, over calls that keep the world.
-use Rattle.std.proofs.Common.{◌≡◌, ◌⊎◌, ℕ, ◌+◌, ◌-◌, ◌≤◌, false, ◌∙◌, sym, ap, subst, arith, inl, inr}
-use Rattle.tsd_core.proofs.Common.{fitted, World, View, leaves_both, weakened, joined, Image, Stands, world_of, IsMadeFor, Table, IsVolumeAt, IsVolumeReady, Volume, world_on, debt, owed, LeavesWorld, LeavesOwed, Works, Core, IsCoreReady, state_on, told_state, told_world, LeavesNoDebt}
+use Rattle.std.proofs.Common.{◌≡◌, ◌⊎◌, ℕ, ◌+◌, ◌-◌, ◌≤◌, false, ◌∙◌, sym, ap, subst, arith, inl, inr, Result, Ok, Err}
+use Rattle.tsd_core.proofs.Common.{OnOk, fitted, World, View, leaves_both, weakened, joined, Image, Stands, world_of, IsMadeFor, Table, IsVolumeAt, IsVolumeReady, Volume, world_on, debt, owed, LeavesWorld, LeavesOwed, Works, Core, IsCoreReady, state_on, told_state, told_world, LeavesNoDebt}
 
 pub debt_at : (vol : Volume) (v : View) → IsVolumeAt vol v → debt v.reads ≡ owed vol.tables
 debt_at vol v at = ap owed at.tables
@@ -35,3 +35,13 @@ told_still c d told grants = λ i. record { world = told i; sessions = fitted (t
 
 pub state_still : (c d : Core) (x y : Image) → world_of y ≡ world_of x → told_world d ≡ told_world c → d.grants ≡ c.grants → state_on d y ≡ state_on c x
 state_still c d x y world told grants = λ i. record { world = world i; sessions = fitted (told i) (grants i).sessions }
+
+-- ---- what holds of an Ok
+
+pub also_ok : {T E A B P : Type 0} (r : Result T E) → (A → B → P) → OnOk r A → OnOk r B → OnOk r P
+also_ok (Ok x) f a b = f a b
+also_ok (Err e) f a b = tt
+
+pub all_ok : {T E A B C P : Type 0} (r : Result T E) → (A → B → C → P) → OnOk r A → OnOk r B → OnOk r C → OnOk r P
+all_ok (Ok x) f a b c = f a b c
+all_ok (Err e) f a b c = tt

@@ -7,4 +7,5 @@ pub mod RangeLaws
 pub mod SessionLaws
 pub mod SizeLaws
 pub mod TakeLaws
+pub mod ValueLaws
 pub mod VerdictLaws

@@ -6,6 +6,7 @@ use Rattle.std.specs.Prelude.{filter}
 use Rattle.std.specs.List.{list_all}
 use Rattle.tsd_model.specs.Pairs.{is_pair, holds, pair_lt, is_below_first, is_rising, with_pair}
 use Rattle.tsd_model.proofs.PlaceLaws.{same_pair, not_both_ways, pair_ext}
+use Rattle.tsd_model.proofs.ValueLaws.{and_false}
 
 -- ---- tests
 
@@ -23,10 +24,6 @@ or_swap false b c = refl
 or_twice : (a b : Bool) → (a || (a || b)) ≡ (a || b)
 or_twice true b = refl
 or_twice false b = refl
-
-pub and_false : (b : Bool) → (b && false) ≡ false
-and_false true = refl
-and_false false = refl
 
 -- ---- which pairs are held
 

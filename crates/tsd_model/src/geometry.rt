@@ -12,6 +12,9 @@ pub const MAX_BLOCKS: u32 = 1_048_576;
 /// The greatest number of primary blocks.
 pub const MAX_PRIMARIES: u32 = 16;
 
+/// How many bytes a sector has.
+pub const SECTOR_BYTES: usize = 512;
+
 /// The greatest number of pointer slots.
 pub const MAX_SLOTS: u32 = 4_194_304;
 

@@ -19,7 +19,7 @@ pub mod replies;
 pub mod requests;
 
 pub use caps::{Cap, CapPair, Shown};
-pub use geometry::{Geometry, lawful};
+pub use geometry::{Geometry, SECTOR_BYTES, lawful};
 pub use lists::{BlockList, CapList, Data, ListFull};
 pub use memory::NoMemory;
 pub use records::{KeptCap, Record};

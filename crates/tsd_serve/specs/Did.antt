@@ -4,8 +4,8 @@ use Rattle.tsd_model.specs.declared.requests.PlaceKind.{PlaceKind}
 use Rattle.tsd_model.specs.declared.requests.Request.{Request}
 use Rattle.image_device.specs.Runs.{IsFirm, LeavesOnly}
 use Rattle.image_layout.specs.declared.fault.ImageFault.{ImageFault}
-use Rattle.image_world.specs.Behind.{LeavesBehind}
-use Rattle.recovery.specs.Opening.{IsForeign, IsUntouched, LeavesData, SparesDamaged, StandAlike}
+use Rattle.recovery.specs.Opening.{LeavesData, StandAlike}
+use Rattle.recovery.specs.Spared.{SparesImage as Spares}
 use Rattle.tsd_words.specs.declared.commands.CopyFs.{CopyFs}
 use Rattle.tsd_words.specs.declared.commands.Format.{Format}
 use Rattle.tsd_words.specs.declared.commands.Fresh.{Fresh}
@@ -41,14 +41,9 @@ use Rattle.shell_server.specs.Lines.{shell_spelling}
 use Rattle.image_shell.specs.Served.{IsOpeningAlone, IsShellJudged, OpensNoMore, ShellRan}
 use Rattle.tsd_serve.specs.Grouped.{OpenedInGroups}
 
--- What a command that opens an image leaves alone. Of one that stands for no world: where it fails one of the first
--- three tests, of the format gate, the journal and the header, nothing was written, and the disk reads as before. Where
--- it fails another, all that a repair could use is still there, whatever the status is, in the end and, where nothing
--- was loose at the start, after a crash at any moment. And of each image what lies behind it, where nothing was loose.
-pub record SparesImage (port : Moments) : Type 0 where
-  pub foreign : port.tells → IsForeign port.old.reads → IsUntouched port.old port.new
-  pub damaged : port.tells → SparesDamaged port.old port.new
-  pub behind : port.tells → IsFirm port.old → LeavesBehind port.old port.new
+-- What a command that opens an image leaves alone, where its port tells.
+abbrev pub SparesImage : Moments → Type 0
+SparesImage port = Spares port.tells port.old port.new
 
 -- What a command does that only looks at an image: where nothing is left to be done on it nothing is written, and else
 -- no more than an opening writes; and the data of all blocks, of free ones too, is as it was, after a crash at any

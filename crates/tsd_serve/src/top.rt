@@ -61,10 +61,10 @@ pub fn tsd<S: Source, P: Port>(
     // What is written before each reply has a bound, and what is written behind it; where the input was cut short,
     // nothing is done behind the last one but that.
     /// promise: With `run`, `serve` and `fresh` each reply is sent whole when so often was written since its request
-    /// came as is said of `serve_core`, and at most 400 writes come after it; after SourceFault, TooLong and Truncated
-    /// nothing is written but these. With `shell` and `files` the last is alone said, of the last answer. With each the
-    /// requests that were answered so are the first of those that came in, and all of them unless the device or the
-    /// sending failed.
+    /// came as is said of `serve_core_in`, and at most 400 writes come after it; after SourceFault, TooLong and
+    /// Truncated nothing is written but these. With `shell` and `files` the last is alone said, of the last answer.
+    /// With each the requests that were answered so are the first of those that came in, and all of them unless the
+    /// device or the sending failed.
     ensures prompt { P.told → AnswersPromptly (command_of (map string_bytes words.now.items)) result
         (taking S.told S.taken S.left_bytes S.ended source.old source.new) P.view port.old port.new }
     /// promise: With `group`, **round by round**: bytes came, and then all requests were answered by turns, and their

@@ -1,5 +1,5 @@
 -- From the tables that were loaded to a volume at its device.
-use Rattle.std.proofs.Common.{◌≡◌, ℕ, ◌&&◌, not, Bool, true, false, List, [], length, replicate, refl, sym, ◌∙◌, ap, subst, arith}
+use Rattle.std.proofs.Common.{◌≡◌, ℕ, ◌&&◌, not, Bool, false, List, [], length, replicate, sym, ◌∙◌, ap, subst, arith}
 use Rattle.std.proofs.Common.{Ok, Err, inl, inr}
 use Rattle.volume.proofs.Common.{cases_lt, get_or-replicate, get_or_past, length-replicate, IsFirm, View, Header, header_sector, sweep_flag, IsHeaderReading, Image, says_open, home, open_records, is_gate_open, LiveMap, Kept, is_gone, Hides, HasTables, header_on, tables_of, DoFit, AreStored, tables_with, IsVolumeAt, AreParts}
 use Rattle.intent_journal.proofs.Opened.{opened_none, home_of_empty}
@@ -13,6 +13,7 @@ use Rattle.image_world.specs.declared.fault.LoadFault.{LoadFault}
 use Rattle.image_world.specs.declared.fault.LoadFault.TheVariants as table_fault
 use Rattle.image_world.specs.Loading.{AnswersTables as AreLoading}
 use Rattle.volume.specs.Loading.{AnswersVolume, of_tables}
+use Rattle.tsd_model.proofs.ValueLaws.{and_true}
 
 -- ---- an image whose gates are closed is its own home
 at_home : (x : Image) → AreClosed x → home x ≡ x
@@ -62,10 +63,6 @@ none_gone n b = elim (cases_lt b n) [
 
 pub none_hidden : (m : LiveMap) (k : Kept) → m.unhidden ≡ m.live → ((b : ℕ) → is_gone k.gone b ≡ false) → Hides m (is_gone k.gone)
 none_hidden m k same none b = ap (λ bits. is_live bits b) same ∙ sym (ap (λ t. is_live m.live b && not t) (none b) ∙ and_true (is_live m.live b))
-  where
-    and_true : (t : Bool) → (t && true) ≡ t
-    and_true true = refl
-    and_true false = refl
 
 pub parts_fit : (h : Header) (t : ImageTables) (s : Bool) (marks : List Bool) (k : Kept) → DoFit h t → marks ≡ replicate h.geometry.blocks false → k ≡ record { counts = replicate h.geometry.blocks 0; gone = replicate h.geometry.blocks false; doomed = 0; pairs = 0 }
     → AreParts h t.pointers t.counts t.live t.caps s (length marks) k false

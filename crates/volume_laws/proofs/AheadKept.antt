@@ -10,6 +10,7 @@ use Rattle.volume_laws.proofs.Dropped.{less_slots, HoldsPair}
 use Rattle.volume_laws.proofs.Pointed.{with_slots, IsOpenTo, marked, raw_absent}
 use Rattle.volume_laws.proofs.StepWorlds.{graph_stepped}
 use Rattle.volume_laws.proofs.TableWorlds.{graph_laid_out, graph_raw, none_owed, told_live, told_held, settled_held}
+use Rattle.tsd_model.proofs.ValueLaws.{and_true}
 
 cleared : (ts : List Bool) (k : ℕ) → is_live (slice_set ts k false) k ≡ false
 cleared [] k = refl
@@ -36,11 +37,7 @@ pub gone_stepped : (t now : Tables) (s : OutStep) (k l : Kept) → IsStepNext t 
 gone_stepped t now s k l next is old new b out =
     new.told b ∙ (ap (λ (w : World). has_number (doomed w) b) (graph_stepped t now s.block s.targets s.freed is)
     ∙ (doomed_after_step (graph_in t) s.block s.targets (graph_laid_out t) next.may.lost s.freed next.may.step b
-    ∙ (ap (λ u. has_number (doomed (graph_in t)) b && not u) out ∙ (both (has_number (doomed (graph_in t)) b) ∙ sym (old.told b)))))
-  where
-    both : (u : Bool) → (u && true) ≡ u
-    both true = refl
-    both false = refl
+    ∙ (ap (λ u. has_number (doomed (graph_in t)) b && not u) out ∙ (and_true (has_number (doomed (graph_in t)) b) ∙ sym (old.told b)))))
 
 module _ (t now : Tables) (s : OutStep) (k l : Kept) (ready : Bool) (next : IsStepNext t s) (is : IsStepped t now s.block s.targets s.freed)
     (old : ready ≡ true → IsAheadOf (graph_in t) k) (done : ready ≡ true → (w : World) → IsStepping w s k → IsAheadOf (after_step w s) l) (same : ready ≡ false → l ≡ k) where
@@ -108,15 +105,11 @@ same_bits h p c l m s k same = λ i. record (tables_in h p c l s k) { live = sym
 
 -- ---- blocks more
 
-all_true : (s : Bool) → (s && true) ≡ s
-all_true true = refl
-all_true false = refl
-
 pub hides_none : (l : LiveMap) (gone : ℕ → Bool) → Hides l gone → ((b : ℕ) → gone b ≡ false) → HidesNone l
-hides_none l gone hides none = λ b. hides b ∙ (ap (λ s. is_live l.live b && not s) (none b) ∙ all_true (is_live l.live b))
+hides_none l gone hides none = λ b. hides b ∙ (ap (λ s. is_live l.live b && not s) (none b) ∙ and_true (is_live l.live b))
 
 pub none_hides : (l : LiveMap) (gone : ℕ → Bool) → HidesNone l → ((b : ℕ) → gone b ≡ false) → Hides l gone
-none_hides l gone hides none = λ b. hides b ∙ (sym (all_true (is_live l.live b)) ∙ ap (λ s. is_live l.live b && not s) (sym (none b)))
+none_hides l gone hides none = λ b. hides b ∙ (sym (and_true (is_live l.live b)) ∙ ap (λ s. is_live l.live b && not s) (sym (none b)))
 
 pub shown_more : (l m : LiveMap) (b : ℕ) → length l.live ≡ l.geometry.blocks → length l.unhidden ≡ l.geometry.blocks → b < l.geometry.blocks
     → m ≡ record l { live = slice_set l.live b true; unhidden = slice_set l.unhidden b true } → HidesNone l → HidesNone m

@@ -1,13 +1,11 @@
 -- A block that a step frees.
 use Rattle.std.proofs.Common.{◌≡◌, ◌≢◌, ℕ, ◌<◌, ◌≤◌, true, false, ◌==◌, [], ◌∷◌, refl, sym, ◌∙◌, ap, subst, arith, Ok}
-use Rattle.volume_laws.proofs.Common.{slice_set, and_parts, and_from, both_ways, nat_tests, get_or-set_other, length-set, holds, World, Geometry, live_below, put_at, header_sector, format_gate, bitmap_start, slots_start, IsHeaderReading, Image, says_open, Patch, put_elsewhere, stored_elsewhere, same_counts, IsStoredAt, sector_of, same_records, IsAlone, without_pointers, OutStep, AreSound, Tables, pairs_of, IsStepNext, graph_in, pairs_without, IsAllowed, Turns}
+use Rattle.volume_laws.proofs.Common.{slice_set, and_parts, and_from, both_ways, get_or-set_other, length-set, holds, World, Geometry, live_below, put_at, header_sector, format_gate, bitmap_start, slots_start, IsHeaderReading, Image, says_open, Patch, put_elsewhere, stored_elsewhere, same_counts, IsStoredAt, sector_of, same_records, IsAlone, without_pointers, OutStep, AreSound, Tables, pairs_of, IsStepNext, graph_in, pairs_without, IsAllowed, Turns}
 use Rattle.block_alloc.specs.LiveMap.{is_live}
 use Rattle.block_alloc.specs.Stored.{IsStored}
 use Rattle.volume_laws.proofs.StepWorlds.{without_parts}
 use Rattle.volume_laws.proofs.TableWorlds.{graph_laid_out}
-
-away : (s n : ℕ) → n ≢ s → (n == s) ≡ false
-away s n other = grind (arith, nat_tests)
+use Rattle.volume_laws.proofs.BlockLaws.{away}
 
 -- a step of reclamation is allowed
 pub next_allowed : (t : Tables) (s : OutStep) → IsStepNext t s → IsAllowed t s

@@ -4,9 +4,7 @@ use Rattle.volume_laws.proofs.Common.{filter, slice_set, slice_index, cases_eq, 
 use Rattle.block_alloc.specs.LiveMap.{is_live}
 use Rattle.image_world.proofs.GrowLaws.{block_more}
 use Rattle.volume_laws.proofs.Pointed.{one_at, none_at}
-
-away : (s n : ℕ) → n ≢ s → (n == s) ≡ false
-away s n other = grind (arith, nat_tests)
+use Rattle.volume_laws.proofs.BlockLaws.{away}
 
 -- ---- a free block
 -- no pair leads to it, so none from this source

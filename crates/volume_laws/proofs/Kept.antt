@@ -1,9 +1,10 @@
 -- Records that are changed.
-use Rattle.std.proofs.Common.{◌≡◌, ◌≢◌, ℕ, ◌+◌, ◌<◌, ◌≤◌, false, ◌==◌, inl, inr, List, [], ◌∷◌, length, refl, sym, ◌∙◌, ap, subst, arith, Ok}
-use Rattle.volume_laws.proofs.Common.{filter, slice_set, cases_Bool, nat_tests, length-set, Record, has_number, with_caps, put_at, header_sector, format_gate, caps_start, counts_start, IsHeaderReading, Image, says_open, Patch, put_elsewhere, stored_elsewhere, same_counts, same_bits, Store, kept, settle-of_records, swept-of_records, doomed_by_graph, graph-of_records, AreSound, Tables, left_of, world_with, zeros_of, owed, Turns, left_records}
+use Rattle.std.proofs.Common.{◌≡◌, ◌≢◌, ℕ, ◌+◌, ◌<◌, ◌≤◌, ◌==◌, inl, inr, List, [], ◌∷◌, length, refl, sym, ◌∙◌, ap, subst, arith, Ok}
+use Rattle.volume_laws.proofs.Common.{filter, slice_set, cases_Bool, length-set, Record, has_number, with_caps, put_at, header_sector, format_gate, caps_start, counts_start, IsHeaderReading, Image, says_open, Patch, put_elsewhere, stored_elsewhere, same_counts, same_bits, Store, kept, settle-of_records, swept-of_records, doomed_by_graph, graph-of_records, AreSound, Tables, left_of, world_with, zeros_of, owed, Turns, left_records}
 use Rattle.tsd_model.specs.declared.caps.CapPair.{CapPair}
 use Rattle.cap_store.specs.Stored.{IsStored}
 use Rattle.cap_store.specs.Changes.{KeepsStored}
+use Rattle.volume_laws.proofs.BlockLaws.{away}
 
 -- ---- worlds
 pub left_kept : (t : Tables) (rs : List Record) (c : ℕ → List ℕ) → left_of (record t { records = rs }) (world_with (record t { records = rs }) c) ≡ record (left_of t (world_with t c)) { records = rs }
@@ -36,9 +37,6 @@ sound_kept t rs long sound = record {
   ends = sound.ends;
   counted = sound.counted;
 }
-
-away : (s n : ℕ) → n ≢ s → (n == s) ≡ false
-away s n other = grind (arith, nat_tests)
 
 pub caps_turn : (t : Tables) (b : ℕ) (r : Record) (p : Patch) → AreSound t → caps_start ≤ p.sector → p.sector < counts_start
     → ((x : Image) → IsStored t.version t.records x → IsStored t.version (slice_set t.records b r) (put_at p.sector p.bytes x))

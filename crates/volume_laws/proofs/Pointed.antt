@@ -4,6 +4,7 @@ use Rattle.volume_laws.proofs.Common.{slice_set, slice_index, cases_eq, and_from
 use Rattle.std.specs.Prelude.{Option}
 use Rattle.volume_laws.proofs.BlockLaws.{length-with_patch}
 use Rattle.volume_laws.proofs.TableWorlds.{laid_out, graph_laid_out, same_doomed, none_owed, blank, told_live, told_absent, left_told}
+use Rattle.volume_laws.proofs.BlockLaws.{away}
 
 -- ---- one or none
 pub one_at : (b c : ℕ) → c ≡ b → ◌≡◌ {A = ℕ} (cond (b == c) 1 0) 1
@@ -101,9 +102,6 @@ owed_pointer t slots a b o pairs =
     omega (arith, now, blocks, more)
 
 -- ---- sectors
-away : (s n : ℕ) → n ≢ s → (n == s) ≡ false
-away s n other = grind (arith, nat_tests)
-
 -- two patches, of a sector of slots and of one of counts
 pub pointer_turn : (t : Tables) (slots : List (Option (ℕ × ℕ))) (counts : List ℕ) (p q : Patch) (batch : List Patch) → AreSound t → AreSound (record t { slots = slots; counts = counts })
     → batch ≡ with_patch q (with_patch p []) → (slots_start t.geometry ≤ p.sector) × (p.sector < data_start t.geometry) → (counts_start ≤ q.sector) × (q.sector < bitmap_start t.geometry)

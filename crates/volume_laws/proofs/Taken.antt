@@ -1,11 +1,12 @@
 -- Pairs of one block that are taken away, one after the other.
-use Rattle.std.proofs.Common.{◌≡◌, ℕ, ◌+◌, ◌<◌, ◌≤◌, ◌-◌, true, false, not, ◌&&◌, ◌==◌, Bool, List, [], ◌∷◌, ◌++◌, length, refl, sym, ◌∙◌, ap, subst, arith, take}
+use Rattle.std.proofs.Common.{◌≡◌, ℕ, ◌+◌, ◌<◌, ◌≤◌, ◌-◌, true, not, ◌&&◌, ◌==◌, List, [], ◌∷◌, ◌++◌, length, refl, sym, ◌∙◌, ap, subst, arith, take}
 use Rattle.volume_laws.proofs.Common.{slice_set, slice_index, and_from, take_more, length-take, holds, without_pair, World, has_number, put_at, counts_start, bitmap_start, format_gate, data_start, Image, Header, Patch, IsBatch, with_patch, overlaid, overlaid_with_patch, pairs, IsTable, Pointers, IsSlotSector, KeepsStored, Counts, KeepsCounts, holds-without_pointers, HasTables, Tables, pairs_of, world_with, zeros_of, Turns, AreHeld, MayTake, PairsAreTaken, pairs_without, with_slots_and_counts}
 use Rattle.std.specs.Prelude.{get_or}
 use Rattle.reclaim.proofs.HeldLaws.{has-at, not_before}
 use Rattle.volume_laws.proofs.BlockLaws.{length-with_patch}
 use Rattle.volume_laws.proofs.StepWorlds.{without_parts}
 use Rattle.volume_laws.proofs.Dropped.{IsDropped, dropped}
+use Rattle.tsd_model.proofs.ValueLaws.{and_false}
 
 -- ---- batches after one another
 module _ (t mid now : Tables) (ps : List Patch) (first : Turns t mid ps) where
@@ -47,15 +48,11 @@ next_pair t a b bs i held within is =
     ap (holds (pairs_without (pairs_of t) a (take i bs)) a) is
     ∙ (holds-pairs_without (record (world_with t (zeros_of t)) { pairs = pairs_of t }) a (take i bs) a (get_or bs i 0)
     ∙ and_from (holds (pairs_of t) a (get_or bs i 0)) (not ((a == a) && has_number (take i bs) (get_or bs i 0))) (held.held (get_or bs i 0) (has-at bs i within))
-    (ap (λ s. not ((a == a) && s)) (not_before bs i held.once within) ∙ ap not (none (a == a))))
-  where
-    none : (s : Bool) → (s && false) ≡ false
-    none true = refl
-    none false = refl
+    (ap (λ s. not ((a == a) && s)) (not_before bs i held.once within) ∙ ap not (and_false (a == a))))
 
 -- ---- the loop
 pub taken_none : (t : Tables) (p : Pointers) (c : Counts) (a : ℕ) (bs : List ℕ) (ps : List Patch) → ps ≡ [] → MayTake t p c a bs → PairsAreTaken t a [] (with_slots_and_counts t p c) ps
-taken_none t p c a bs ps none may = subst (λ (qs : List Patch). PairsAreTaken t a [] (with_slots_and_counts t p c) qs) (sym none) (subst (λ (u : Tables). PairsAreTaken t a [] u []) same (record {
+taken_none t p c a bs ps and_false may = subst (λ (qs : List Patch). PairsAreTaken t a [] (with_slots_and_counts t p c) qs) (sym and_false) (subst (λ (u : Tables). PairsAreTaken t a [] u []) same (record {
   pairs = refl;
   turns = record { sound = may.sound; size = refl; has = λ z had. had; contents = λ z n above. refl; gate = λ z. refl };
   few = omega arith;

@@ -1,9 +1,10 @@
 -- Records become those of version 2, with the header.
-use Rattle.std.proofs.Common.{◌≡◌, ◌≢◌, ℕ, ◌+◌, ◌≤◌, false, ◌==◌, inr, Bool, List, [], length, refl, sym, ◌∙◌, ap, subst, arith, Ok}
+use Rattle.std.proofs.Common.{◌≡◌, ◌≢◌, ℕ, ◌+◌, ◌≤◌, ◌==◌, inr, Bool, List, [], length, refl, sym, ◌∙◌, ap, subst, arith, Ok}
 use Rattle.std.specs.Prelude.{map}
-use Rattle.volume_laws.proofs.Common.{nat_tests, length-map, upgraded, upgraded_record, put_at, header_sector, format_gate, caps_start, IsHeaderReading, Image, says_open, Header, Patch, overlaid, put_here, put_elsewhere, Pointers, stored_elsewhere, Counts, same_counts, LiveMap, same_bits, Store, upgraded_store, AreKept, left_of, world_with, HasTables, AreSound, Tables, upgrade_change, owed, Turns, Volume, tables_in}
+use Rattle.volume_laws.proofs.Common.{length-map, upgraded, upgraded_record, put_at, header_sector, format_gate, caps_start, IsHeaderReading, Image, says_open, Header, Patch, overlaid, put_here, put_elsewhere, Pointers, stored_elsewhere, Counts, same_counts, LiveMap, same_bits, Store, upgraded_store, AreKept, left_of, world_with, HasTables, AreSound, Tables, upgrade_change, owed, Turns, Volume, tables_in}
 use Rattle.image_world.specs.Changes.{upgraded_tables}
 use Rattle.volume_laws.proofs.Ops.{any_bytes, IsOp}
+use Rattle.volume_laws.proofs.BlockLaws.{away}
 
 sound_upgraded : (t : Tables) → AreSound t → AreSound (upgraded_tables t)
 sound_upgraded t sound = record {
@@ -16,9 +17,6 @@ sound_upgraded t sound = record {
   ends = sound.ends;
   counted = sound.counted;
 }
-
-away : (s n : ℕ) → n ≢ s → (n == s) ≡ false
-away s n other = grind (arith, nat_tests)
 
 -- the batch of the header and both sectors of records
 pub upgrade_turn : (t : Tables) (batch : List Patch) (h first second : List ℕ) → AreSound t → IsHeaderReading h (Ok (record { version = 2; geometry = t.geometry }))

@@ -1,88 +1,44 @@
-use Rattle.std.proofs.Common.{◌++◌, ◌∙◌, ap, List, ℕ}
+use Rattle.std.proofs.Common.{inl, inr}
+use Rattle.tsd_words.specs.declared.status.Status.TheVariants as status
 use Rattle.image_audit.specs.Laws.{listings_from}
-use Rattle.image_world.specs.Behind.{behind, size_of_image}
-use Rattle.image_runs.proofs.Behind.{behind_said}
-use Rattle.image_runs.proofs.Looking.{kept_put, looked_put}
-use Rattle.image_runs.proofs.Opened.{untouched_put}
-use Rattle.audit_runs.specs.Audit.{IsAuditOf, listings_text}
-use Rattle.audit_runs.proofs.AnswerLaws.{audit_of, cut_from, silent_moments, told_moments, unaudited, unopened_ends}
+use Rattle.image_device.proofs.Moments.{weakened}
+use Rattle.image_runs.specs.Sending.{HasPut, IsEnding}
+use Rattle.image_runs.proofs.Looking.{looks_put}
+use Rattle.image_runs.proofs.Saying.{ends_put, faults_put, said_put, told_moments}
+use Rattle.audit_runs.specs.Audit.{HasAudited, IsAuditing, listings_text}
+use Rattle.audit_runs.proofs.AnswerLaws.{unaudited, unopened_ends}
 use Rattle.audit_runs.proofs.audit.audit_image.Goals as goal
 
-pub returns-in-Ok-put_listings-clause-said : goal.returns-in-Ok-put_listings-clause-said
-returns-in-Ok-put_listings-clause-said g c told =
+pub returns-in-Ok : goal.returns-in-Ok
+returns-in-Ok g c =
     let old = g.P.Device.view c.args.port.now in
+    let mid = g.P.Device.view c.find.new.dev in
+    let new = g.P.Device.view c.put_listings.new.port in
     let text = listings_text (listings_from 0 c.in-Ok.reached) in
-    (text, audit_of old.reads c.in-Ok.reached (c.in-Ok.ensures.found told), c.in-Ok-put_listings.ensures.sent told ∙ ap (λ (b : List ℕ). b ++ text) (c.find.ensures.sent told))
+    let put : HasPut g.P.Device.told text status.Done c.ended.result mid new = record { put = c.put_listings.result; puts = c.put_listings.ensures; ends = c.ended.ensures } in
+    let opens = c.find.ensures.opens in
+    let sound = g.met.P.Device.sound c.find.new.dev in
+    let looks = looks_put sound put opens.looks in
+    record {
+      ending = ends_put IsEnding put tt tt;
+      said = λ told. said_put (λ s. HasAudited s old.reads old.sent new.sent) told put (opens.sent told) (λ all. (text, c.in-Ok.ensures.found told, all)) (λ front. (text, c.in-Ok.ensures.found told, front));
+      untouched = looks.spares.foreign;
+      spared = looks.spares.damaged;
+      behind = looks.spares.behind;
+      any_moment = λ told firm. told_moments (IsAuditing old.reads old.sent) told sound put opens firm (λ f same. inl same) (λ f part. inr (text, c.in-Ok.ensures.found told, part));
+      only = looks.only;
+      kept = looks.kept;
+      faults = faults_put put tt (c.in-Ok.ensures.faults.1 (λ e. cc)) opens.works.put_faults;
+    }
 
-pub returns-in-Ok-put_listings-clause-any_moment : goal.returns-in-Ok-put_listings-clause-any_moment
-returns-in-Ok-put_listings-clause-any_moment g c told firm =
+pub returns-in-Err-clause-said : goal.returns-in-Err-clause-said
+returns-in-Err-clause-said g c told =
     let old = g.P.Device.view c.args.port.now in
-    told_moments old (g.P.Device.view c.find.new.dev) (g.P.Device.view c.put_listings.new.port) (listings_text (listings_from 0 c.in-Ok.reached)) (IsAuditOf old.reads) (g.met.P.Device.sound c.find.new.dev told)
-    (audit_of old.reads c.in-Ok.reached (c.in-Ok.ensures.found told)) (c.find.ensures.sent told) (c.find.ensures.any_moment told firm) (c.put_listings.ensures.any_moment told)
+    unaudited c.in-Err.why old.reads old.sent (g.P.Device.view c.find.new.dev).sent c.in-Err.ensures.stops (c.in-Err.ensures.judged told) (c.find.ensures.opens.sent told)
 
-pub returns-in-Ok-clause-said : goal.returns-in-Ok-clause-said
-returns-in-Ok-clause-said g c told =
-    let old = g.P.Device.view c.args.port.now in
-    let text = listings_text (listings_from 0 c.in-Ok.reached) in
-    (text, audit_of old.reads c.in-Ok.reached (c.in-Ok.ensures.found told), cut_from old.sent (g.P.Device.view c.find.new.dev).sent text (g.P.Device.view c.put_listings.new.port).sent (c.find.ensures.sent told) (c.in-Err-put_listings.ensures.part told))
+pub returns-in-Err-clause-any_moment : goal.returns-in-Err-clause-any_moment
+returns-in-Err-clause-any_moment g c told firm =
+    weakened (g.P.Device.view c.args.port.now) (g.P.Device.view c.find.new.dev) _ _ (c.find.ensures.opens.any_moment told firm) (λ x f left. (left.0, inl left.1))
 
-pub returns-in-Ok-clause-any_moment : goal.returns-in-Ok-clause-any_moment
-returns-in-Ok-clause-any_moment g c told firm =
-    let old = g.P.Device.view c.args.port.now in
-    told_moments old (g.P.Device.view c.find.new.dev) (g.P.Device.view c.put_listings.new.port) (listings_text (listings_from 0 c.in-Ok.reached)) (IsAuditOf old.reads) (g.met.P.Device.sound c.find.new.dev told)
-    (audit_of old.reads c.in-Ok.reached (c.in-Ok.ensures.found told)) (c.find.ensures.sent told) (c.find.ensures.any_moment told firm) (c.put_listings.ensures.any_moment told)
-
-pub returns-in-Ok-put_listings-clause-untouched : goal.returns-in-Ok-put_listings-clause-untouched
-returns-in-Ok-put_listings-clause-untouched g c told foreign =
-    untouched_put g.P.Device.told _ (g.P.Device.view c.args.port.now) (g.P.Device.view c.find.new.dev) (g.P.Device.view c.put_listings.new.port) c.put_listings.result told c.put_listings.ensures (c.find.ensures.untouched told foreign)
-
-pub returns-in-Ok-clause-untouched : goal.returns-in-Ok-clause-untouched
-returns-in-Ok-clause-untouched g c told foreign =
-    untouched_put g.P.Device.told _ (g.P.Device.view c.args.port.now) (g.P.Device.view c.find.new.dev) (g.P.Device.view c.put_listings.new.port) c.put_listings.result told c.put_listings.ensures (c.find.ensures.untouched told foreign)
-
-pub returns-clause-said : goal.returns-clause-said
-returns-clause-said g c told =
-    let old = g.P.Device.view c.args.port.now in
-    unaudited c.in-Err.why old.reads old.sent (g.P.Device.view c.find.new.dev).sent c.in-Err.ensures.stops (c.in-Err.ensures.judged told) (c.find.ensures.sent told)
-
-pub returns-clause-any_moment : goal.returns-clause-any_moment
-returns-clause-any_moment g c told firm =
-    let old = g.P.Device.view c.args.port.now in
-    silent_moments old (g.P.Device.view c.find.new.dev) (IsAuditOf old.reads) (c.find.ensures.any_moment told firm)
-
-pub returns-clause-ending : goal.returns-clause-ending
-returns-clause-ending g c = unopened_ends c.in-Err.why c.in-Err.ensures.stops
-
-pub returns-in-Ok-put_listings-clause-behind : goal.returns-in-Ok-put_listings-clause-behind
-returns-in-Ok-put_listings-clause-behind g c told firm =
-    let old = g.P.Device.view c.args.port.now in
-    behind_said (behind (size_of_image old.reads)) _ old (g.P.Device.view c.find.new.dev) (g.P.Device.view c.put_listings.new.port) (g.met.P.Device.sound c.find.new.dev told) (c.find.ensures.behind told firm) (c.put_listings.ensures.any_moment told)
-
-pub returns-in-Ok-clause-behind : goal.returns-in-Ok-clause-behind
-returns-in-Ok-clause-behind g c told firm =
-    let old = g.P.Device.view c.args.port.now in
-    behind_said (behind (size_of_image old.reads)) _ old (g.P.Device.view c.find.new.dev) (g.P.Device.view c.put_listings.new.port) (g.met.P.Device.sound c.find.new.dev told) (c.find.ensures.behind told firm) (c.put_listings.ensures.any_moment told)
-
-pub returns-in-Ok-put_listings-clause-only : goal.returns-in-Ok-put_listings-clause-only
-returns-in-Ok-put_listings-clause-only g c told =
-    looked_put g.P.Device.told _ (g.P.Device.view c.args.port.now) (g.P.Device.view c.find.new.dev) (g.P.Device.view c.put_listings.new.port) c.put_listings.result c.put_listings.ensures (c.find.ensures.only told)
-
-pub returns-in-Ok-clause-only : goal.returns-in-Ok-clause-only
-returns-in-Ok-clause-only g c told =
-    looked_put g.P.Device.told _ (g.P.Device.view c.args.port.now) (g.P.Device.view c.find.new.dev) (g.P.Device.view c.put_listings.new.port) c.put_listings.result c.put_listings.ensures (c.find.ensures.only told)
-
-pub returns-in-Ok-put_listings-clause-kept : goal.returns-in-Ok-put_listings-clause-kept
-returns-in-Ok-put_listings-clause-kept g c told firm =
-    kept_put g.P.Device.told _ (g.P.Device.view c.args.port.now) (g.P.Device.view c.find.new.dev) (g.P.Device.view c.put_listings.new.port) c.put_listings.result told
-    (g.met.P.Device.sound c.find.new.dev told) c.put_listings.ensures (c.find.ensures.kept told firm)
-
-pub returns-in-Ok-put_listings-clause-spared : goal.returns-in-Ok-put_listings-clause-spared
-returns-in-Ok-put_listings-clause-spared g c told bad = absurd (bad (c.in-Ok.ensures.found told).good)
-
-pub returns-in-Ok-clause-kept : goal.returns-in-Ok-clause-kept
-returns-in-Ok-clause-kept g c told firm =
-    kept_put g.P.Device.told _ (g.P.Device.view c.args.port.now) (g.P.Device.view c.find.new.dev) (g.P.Device.view c.put_listings.new.port) c.put_listings.result told
-    (g.met.P.Device.sound c.find.new.dev told) c.put_listings.ensures (c.find.ensures.kept told firm)
-
-pub returns-in-Ok-clause-spared : goal.returns-in-Ok-clause-spared
-returns-in-Ok-clause-spared g c told bad = absurd (bad (c.in-Ok.ensures.found told).good)
+pub returns-in-Err-clause-ending : goal.returns-in-Err-clause-ending
+returns-in-Err-clause-ending g c = unopened_ends c.in-Err.why c.in-Err.ensures.stops

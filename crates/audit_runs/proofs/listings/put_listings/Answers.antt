@@ -1,8 +1,7 @@
-use Rattle.std.proofs.Common.{◌≡◌, ◌∙◌, ◌++◌, ℕ, arith, rules, ap, sym, subst}
-use Rattle.image_device.specs.Counts.{Rose}
+use Rattle.std.proofs.Common.{◌∙◌, ◌++◌, append_assoc, rules, ap, sym}
 use Rattle.image_device.proofs.Outcomes.{on_err}
-use Rattle.audit_runs.specs.Putting.{text_from}
-use Rattle.audit_runs.proofs.PuttingLaws.{page_cut, page_leaves, page_sent, page_split, put_more}
+use Rattle.audit_runs.specs.Audit.{text_from}
+use Rattle.audit_runs.proofs.PuttingLaws.{page_cut, page_leaves, page_sent, put_more}
 use Rattle.audit_runs.proofs.listings.put_listings.Goals as goal
 
 pub loop-from-preserved : goal.loop-from-preserved
@@ -17,7 +16,7 @@ loop-from-preserved g c =
     let split = i.split ∙ ap (λ l. i.done ++ l) (c.put_page-from.ensures.text ∙ ap (λ l. l ++ rest) (sym c.as_slice.ensures.value)) in
     record {
       done = i.done ++ page;
-      split = page_split i.done page rest _ split;
+      split = split ∙ sym (append_assoc i.done page rest);
       within = c.put_page-from.ensures.inside;
       sent = λ told. page_sent v0 v v' i.done page rest _ split (i.sent told) (i.reads told) (i.loose told) (c.in_ok-put_all.ensures.sent told);
       reads = λ told. c.put_all.ensures.reads told ∙ i.reads told;

@@ -3,8 +3,7 @@ use Rattle.image_device.specs.View.{IsLeftInPut}
 use Rattle.image_device.specs.Runs.{LeavesOnly}
 use Rattle.image_device.specs.Calls.{Puts}
 use Rattle.image_audit.specs.Laws.{listings_from}
-use Rattle.audit_runs.specs.Audit.{listings_text}
-use Rattle.audit_runs.specs.Putting.{text_from}
+use Rattle.audit_runs.specs.Audit.{listings_text, text_from}
 use Rattle.audit_runs.proofs.listings.put_listings.Given as goal
 
 abbrev pub invariant-loop-from : goal.invariant-loop-from

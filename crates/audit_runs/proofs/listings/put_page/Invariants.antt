@@ -1,5 +1,5 @@
 use Rattle.std.proofs.Common.{◌≡◌, ◌+◌, ◌*◌, ◌≤◌, ◌++◌, length}
-use Rattle.audit_runs.specs.Putting.{text_from}
+use Rattle.audit_runs.specs.Audit.{text_from}
 use Rattle.audit_runs.proofs.listings.put_page.Given as goal
 
 abbrev pub invariant-loop-block : goal.invariant-loop-block

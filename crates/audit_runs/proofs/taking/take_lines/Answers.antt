@@ -1,8 +1,5 @@
-use Rattle.std.proofs.Common.{◌≡◌, ◌≤◌, ◌+◌, ◌-◌, ◌^◌, ◌<◌, ◌∙◌, ◌++◌, ◌∷◌, [], ℕ, List, Option, length, cond, length-append, refl, sym, ap, subst, arith, inl, inr}
-use Rattle.std.specs.Prelude.{Some, None}
-use Rattle.serving.specs.Ran.{taking}
+use Rattle.std.proofs.Common.{◌-◌, ◌^◌, ◌<◌, ◌∙◌, ◌++◌, ◌∷◌, [], ℕ, length, cond, length-append, refl, ap, arith}
 use Rattle.serving.proofs.Inputs.{came_first, came_then, handed_first}
-use Rattle.image_audit.specs.declared.listing.Listing.{Listing}
 use Rattle.audit_runs.specs.Lines.{listing_spelling}
 use Rattle.audit_runs.proofs.TakingLaws.{read_as, taken_none}
 use Rattle.audit_runs.proofs.taking.take_lines.Goals as goal
@@ -53,12 +50,10 @@ returns-in-End-clause-read g c =
     let i = c.loop-certificate.invariant in
     let was = i.goes in
     let found = c.in-End.ensures.found was.0 was.1 was.3 in
-    let limit = c.next.ensures.limit ∙ i.limit in
-    let short = found.2.0 in
     record {
       bytes = was.0 ++ found.0;
       came_in = came_then g.S.Source.told _ _ _ _ _ _ was.0 found.0 was.2 found.1;
-      taken = (omega (arith, short, limit), found.2.1, read_as _ (was.0 ++ found.0) was.1 c.loop-certificate.fault c.loop-certificate.certificate found.2.3 was.4);
+      taken = (omega (arith, found.2.0, c.next.ensures.limit ∙ i.limit), found.2.1, read_as _ (was.0 ++ found.0) was.1 c.loop-certificate.fault c.loop-certificate.certificate found.2.3 was.4);
     }
 
 pub returns-in-Fault-clause-read : goal.returns-in-Fault-clause-read
@@ -66,12 +61,10 @@ returns-in-Fault-clause-read g c =
     let i = c.loop-certificate.invariant in
     let was = i.goes in
     let found = c.in-Fault.ensures.found was.0 was.1 was.3 in
-    let limit = c.next.ensures.limit ∙ i.limit in
-    let short = found.2.0 in
     record {
       bytes = was.0 ++ found.0;
       came_in = came_then g.S.Source.told _ _ _ _ _ _ was.0 found.0 was.2 found.1;
-      taken = omega (arith, short, limit);
+      taken = omega (arith, found.2.0, c.next.ensures.limit ∙ i.limit);
     }
 
 pub returns-in-TooLong-clause-read : goal.returns-in-TooLong-clause-read
@@ -79,10 +72,8 @@ returns-in-TooLong-clause-read g c =
     let i = c.loop-certificate.invariant in
     let was = i.goes in
     let found = c.in-TooLong.ensures.found was.0 was.1 was.3 in
-    let limit = c.next.ensures.limit ∙ i.limit in
-    let long = found.2.0 in
     record {
       bytes = was.0 ++ found.0;
       came_in = came_then g.S.Source.told _ _ _ _ _ _ was.0 found.0 was.2 found.1;
-      taken = omega (arith, long, limit);
+      taken = omega (arith, found.2.0, c.next.ensures.limit ∙ i.limit);
     }

@@ -1,5 +1,5 @@
 use Rattle.std.proofs.Common.{sym, ◌∙◌}
-use Rattle.audit_runs.proofs.TakingLaws.{taken_next, refused_next, refused_before}
+use Rattle.audit_runs.proofs.TakingLaws.{taken_next, refused_next}
 use Rattle.audit_runs.proofs.taking.take_one.Goals as goal
 
 pub returns-in-Ok-clause-taken : goal.returns-in-Ok-clause-taken

@@ -1,10 +1,8 @@
-use Rattle.std.proofs.Common.{◌≡◌, ◌∙◌, List, ℕ}
 use Rattle.script_text.specs.Pieces.{all_lines}
 use Rattle.tsd_core.proofs.AtLaws.{like_at}
 use Rattle.volume_laws.specs.Volume.{told_by, world_on}
 use Rattle.audit_runs.specs.Verify.{IsVerdictOver, IsAnswerOf}
 use Rattle.audit_runs.proofs.AnswerLaws.{answer_on, answered_on, judged_on, unopened_unanswered}
-use Rattle.image_runs.proofs.Looking.{looked}
 use Rattle.audit_runs.proofs.verify.answer.Goals as goal
 
 pub returns-in-Ok-clause-answered : goal.returns-in-Ok-clause-answered
@@ -13,8 +11,8 @@ returns-in-Ok-clause-answered g c =
     let mid = g.D.Device.view c.open_volume.new.dev in
     let v = told_by c.in-Ok.volume in
     let line = c.read_and_verify.new.line in
-    answered_on c.read_and_verify.result _ (λ bytes. IsVerdictOver v (all_lines bytes) line) (λ bytes. g.D.Device.told → IsAnswerOf old.reads bytes line)
-    (λ bytes is told. answer_on old.reads v (world_on mid) bytes line (c.in-Ok.ensures.read told) (like_at c.in-Ok.volume mid (c.in-Ok.ensures.at told)) (c.in-Ok.ensures.done told) is)
+    answered_on c.read_and_verify.result _ (λ u bytes. IsVerdictOver v (all_lines bytes) line) (λ u bytes. g.D.Device.told → IsAnswerOf old.reads bytes line)
+    (λ u bytes is told. answer_on old.reads v (world_on mid) bytes line (c.in-Ok.ensures.read told) (like_at c.in-Ok.volume mid (c.in-Ok.ensures.at told)) (c.in-Ok.ensures.done told) is)
     c.read_and_verify.ensures.answered
 
 pub returns-in-Ok-clause-judged : goal.returns-in-Ok-clause-judged
@@ -22,13 +20,3 @@ returns-in-Ok-clause-judged g c told = judged_on c.read_and_verify.result (g.D.D
 
 pub returns-in-Err-clause-stops : goal.returns-in-Err-clause-stops
 returns-in-Err-clause-stops g c = unopened_unanswered c.in-Err.why c.in-Err.ensures.stops
-
-pub returns-in-Ok-clause-only : goal.returns-in-Ok-clause-only
-returns-in-Ok-clause-only g c told =
-    let view = g.D.Device.view in
-    looked (view c.args.dev.now) (view c.open_volume.new.dev) (c.open_volume.ensures.uses told) (c.open_volume.ensures.unwritten told)
-
-pub returns-in-Err-clause-only : goal.returns-in-Err-clause-only
-returns-in-Err-clause-only g c told =
-    let view = g.D.Device.view in
-    looked (view c.args.dev.now) (view c.open_volume.new.dev) (c.open_volume.ensures.uses told) (c.open_volume.ensures.unwritten told)

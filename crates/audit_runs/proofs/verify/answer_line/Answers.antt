@@ -1,4 +1,4 @@
-use Rattle.std.proofs.Common.{◌≡◌, inl, inr, subst, List, ℕ, Option, Some, None}
+use Rattle.std.proofs.Common.{inl, inr, subst}
 use Rattle.volume_laws.specs.Volume.{told_by}
 use Rattle.audit_runs.specs.Taking.{IsReadAs}
 use Rattle.audit_runs.proofs.verify.answer_line.Goals as goal

@@ -1,4 +1,4 @@
-use Rattle.std.proofs.Common.{◌≡◌, ◌<◌, ◌≤◌, Bool, true, false, [], length, refl, sym, subst, Ok, Err}
+use Rattle.std.proofs.Common.{◌≡◌, ◌<◌, ◌≤◌, true, false, [], length, refl, sym, subst, Ok, Err}
 use Rattle.chain_changes.proofs.Common.{free_count, need_of, done, Answers, looks_as, looks_refused, then_looks, Changes, ask_done, looks_change, OnlyLooks, tree_under, mounted_by, IsLastOf}
 use Rattle.fs_trees.specs.declared.ask.ShellAsk.TheVariants as ask
 use Rattle.fs_trees.specs.declared.ask.ShellKind.TheVariants as kind
@@ -8,9 +8,7 @@ use Rattle.chain_changes.proofs.AgainLaws.{may_ask_again, last_of_file}
 use Rattle.chain_changes.proofs.WritingLaws.{looks_ends, ends_again}
 use Rattle.chain_changes.proofs.appending.append.Goals.{In-Ok-last_part}
 use Rattle.chain_changes.proofs.appending.append.Goals as goal
-
-not_both : (b : Bool) → b ≡ true → b ≡ false → ⊥
-not_both b p q = cc
+use Rattle.tsd_model.proofs.ValueLaws.{clash}
 
 -- the last cluster was read, and nothing has changed
 looked : (g : _) (c : In-Ok-last_part g) → OnlyLooks g.K.Blocks.told (g.K.Blocks.view c.args.disk.now) (g.K.Blocks.view c.last_part.new.disk) (Ok c.in-Ok-last_part.last)
@@ -92,7 +90,7 @@ grow-requires g c =
     record {
       may = may_ask_again g.K.Blocks.told c.args.client.now (g.K.Blocks.view c.args.disk.now) (g.K.Blocks.view c.last_part.new.disk) c.in-Ok-last_part.last (looked g at) c.requires.may;
       last = λ t. (c.args.path.now, is_last g at t);
-      some = subst (λ y. 0 < length y) (sym c.as_slice.ensures.value) (some_bytes x (λ none. not_both c.is_empty.result (c.is_empty.ensures.1 none) c.if-is_empty.false));
+      some = subst (λ y. 0 < length y) (sym c.as_slice.ensures.value) (some_bytes x (λ none. clash c.is_empty.result (c.is_empty.ensures.1 none) c.if-is_empty.false));
       small = subst (λ y. length y ≤ 4096) (sym c.as_slice.ensures.value) c.as_slice.ensures.fits;
     }
 
@@ -107,4 +105,4 @@ returns g c =
     let ends = ends_again (λ (t : g.K.Blocks.told). (c.requires.may.valid t).valid) (looked g at)
     (λ t. subst (λ y. Answers {X = Unit {0}} f rd fin (ask.Append path y) r (λ _ answer. answer ≡ done)) c.as_slice.ensures.value (c.grow.ensures.answer t path (is_last g at t)))
     (subst (λ y. Changes {X = Unit {0}} g.K.Blocks.told f rd fin (ask.Append path y) r) c.as_slice.ensures.value (c.grow.ensures.changes path (is_last g at))) in
-    record { answer = ends.answer; changes = ends.changes; idle = λ none. absurd (not_both c.is_empty.result (c.is_empty.ensures.1 none) c.if-is_empty.false) }
+    record { answer = ends.answer; changes = ends.changes; idle = λ none. absurd (clash c.is_empty.result (c.is_empty.ensures.1 none) c.if-is_empty.false) }

@@ -41,7 +41,7 @@ replace-requires g c =
       may = may_ask_again g.K.Blocks.told c.args.client.now (g.K.Blocks.view c.args.disk.now) (g.K.Blocks.view c.look_up.new.disk) c.in-Ok.found e.looks c.requires.may;
       found = λ t. subst (IsLookupOf c.args.client.now (g.K.Blocks.view c.look_up.new.disk) c.in-Ok.found.1.now) c.in-Taken.is (e.found t);
       within = subst IsLookupWithin c.in-Taken.is e.within;
-      named = name_of_path c.args.path.now c.in-Ok.found.1.now e.path c.requires.named;
+      named = name_of_path c.args.path.now c.in-Ok.found.1.now e.path e.named;
     }
 
 pub returns-then-count-ge-NAMES_MAX : goal.returns-then-count-ge-NAMES_MAX
@@ -60,7 +60,7 @@ returns-then-count-ge-NAMES_MAX g c =
     let full : names_max ≤ c.in-Free.count = c.if-count-ge-NAMES_MAX.true in
     let primary : told → me.root < mid.world.geometry.primaries = λ t. subst (λ v. me.root < v.geometry.primaries) (sym (same t)) (subst (λ k. me.root < k.primaries) (sym (g.met.K.Blocks.sound c.args.disk.now t c.requires.may.ready.unspent).geometry) c.requires.may.ready.primary) in
     let may : MayAsk told me mid = may_ask_again told me first mid c.in-Ok.found e.looks c.requires.may in
-    let named = name_of_path path n e.path c.requires.named in
+    let named = name_of_path path n e.path e.named in
     let at = λ (t : told). subst (IsLookupOf me mid n) c.in-Free.is (e.found t) in
     let refuses : told → refused_on f first (ask.Put path body) ≡ Some no.DirFull = λ t.
     ap (λ p. refused_on f first (ask.Put p body)) e.path ∙ (sym (refused_since f first mid b (same t))
@@ -81,7 +81,7 @@ add-requires g c =
       found = λ t. subst (IsLookupOf c.args.client.now (g.K.Blocks.view c.look_up.new.disk) c.in-Ok.found.1.now) c.in-Free.is (e.found t);
       few = omega (arith, fewer);
       room = tested (length (entries_in page.cluster)) (cluster_of (dir_cluster page.cluster)).used (entries_room (block_len_of (dir_cluster page.cluster))) used test;
-      named = name_of_path c.args.path.now c.in-Ok.found.1.now e.path c.requires.named;
+      named = name_of_path c.args.path.now c.in-Ok.found.1.now e.path e.named;
     }
   where
     tested : (k u r : ℕ) → k ≡ u → nat_lt u r ≡ true → k < r
@@ -99,7 +99,7 @@ extend-requires g c =
       found = λ t. subst (IsLookupOf c.args.client.now (g.K.Blocks.view c.look_up.new.disk) c.in-Ok.found.1.now) c.in-Free.is (e.found t);
       few = omega (arith, fewer);
       full = tested (length (entries_in page.cluster)) (cluster_of (dir_cluster page.cluster)).used (entries_room (block_len_of (dir_cluster page.cluster))) used test;
-      named = name_of_path c.args.path.now c.in-Ok.found.1.now e.path c.requires.named;
+      named = name_of_path c.args.path.now c.in-Ok.found.1.now e.path e.named;
     }
   where
     tested : (k u r : ℕ) → k ≡ u → nat_lt u r ≡ false → r ≤ k

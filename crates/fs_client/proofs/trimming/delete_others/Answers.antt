@@ -4,6 +4,7 @@ use Rattle.fs_client.proofs.LookLaws.{looks_refused}
 use Rattle.fs_client.proofs.TrimLaws.{trims_by_looks, then_trims, delete_still, none_deleted}
 use Rattle.fs_client.proofs.GoingLaws.{page_held, on_page, page_apart}
 use Rattle.fs_client.proofs.trimming.delete_others.Goals as goal
+use Rattle.tsd_model.proofs.ValueLaws.{clash}
 
 pub loop-start-init : goal.loop-start-init
 loop-start-init g c =
@@ -120,10 +121,7 @@ loop-start-preserved g c =
   where
     named_by : (t : Bool) {u : Bool} → u ≡ t → (k : Bool) → k ≡ true → (u ≡ false → k ≡ false) → u ≡ true
     named_by true e k held gone = e
-    named_by false e k held gone = let off = gone e in absurd (both k held off)
-      where
-        both : (k : Bool) → k ≡ true → k ≡ false → ⊥
-        both k p q = cc
+    named_by false e k held gone = let off = gone e in absurd (clash k held off)
 
 pub returns : goal.returns
 returns g c =

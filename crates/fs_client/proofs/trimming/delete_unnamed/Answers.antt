@@ -1,12 +1,10 @@
-use Rattle.std.proofs.Common.{◌≡◌, Bool, true, false, sym, ◌∙◌, ap, Ok, Err}
+use Rattle.std.proofs.Common.{◌≡◌, true, false, sym, ◌∙◌, ap, Ok, Err}
 use Rattle.fs_client.proofs.Common.{is_live, has_number, holds}
 use Rattle.fs_client.proofs.LookLaws.{no_look}
 use Rattle.fs_client.proofs.DropLaws.{is_false, pair_gone, target_stays}
 use Rattle.fs_client.proofs.TrimLaws.{trims_by_looks, trims_by_step, trims_as, trims_refused}
 use Rattle.fs_client.proofs.trimming.delete_unnamed.Goals as goal
-
-both : (t : Bool) → t ≡ true → t ≡ false → ⊥
-both t p q = cc
+use Rattle.tsd_model.proofs.ValueLaws.{clash}
 
 pub returns-then-names : goal.returns-then-names
 returns-then-names g c =
@@ -19,7 +17,7 @@ returns-then-names g c =
       trims = trims_by_looks told me g.kept v v (Ok tt) may.valid (λ t. (may.trim t).under) (λ t. tt)
           (no_look told v may.unspent (λ t. g.met.K.Blocks.sound c.args.disk.now t may.unspent) may.valid);
       others = λ t b h off. h;
-      gone = λ t off. absurd (both (has_number names c.args.target) (sym c.names.ensures ∙ c.if-names.true) off);
+      gone = λ t off. absurd (clash (has_number names c.args.target) (sym c.names.ensures ∙ c.if-names.true) off);
     }
 
 pub drop_pointer-requires : goal.drop_pointer-requires
@@ -44,7 +42,7 @@ returns-in-Ok g c =
     let names = g.N.Names.blocks c.args.namer.now in
     let unnamed : has_number names b ≡ false = sym c.names.ensures ∙ c.if-names.false in
     let h = c.in-Ok.ensures in
-    let spared : told → holds g.kept.pairs a b ≡ false = λ t. is_false (holds g.kept.pairs a b) (λ e. both (has_number names b) ((may.trim t).all b e) unnamed) in
+    let spared : told → holds g.kept.pairs a b ≡ false = λ t. is_false (holds g.kept.pairs a b) (λ e. clash (has_number names b) ((may.trim t).all b e) unnamed) in
     let trims = trims_by_step told me g.kept v new a b (Ok c.in-Ok._gone) may.valid (λ t. (may.trim t).under) (λ t. (may.trim t).named) c.requires.1.1.1 spared (λ t. tt) h.steps in
     record {
       trims = trims_as told me g.kept v new c.in-Ok._gone tt trims;
@@ -65,7 +63,7 @@ returns-in-Err g c =
     let names = g.N.Names.blocks c.args.namer.now in
     let unnamed : has_number names b ≡ false = sym c.names.ensures ∙ c.if-names.false in
     let h = c.in-Err.ensures in
-    let spared : told → holds g.kept.pairs a b ≡ false = λ t. is_false (holds g.kept.pairs a b) (λ e. both (has_number names b) ((may.trim t).all b e) unnamed) in
+    let spared : told → holds g.kept.pairs a b ≡ false = λ t. is_false (holds g.kept.pairs a b) (λ e. clash (has_number names b) ((may.trim t).all b e) unnamed) in
     let trims = trims_by_step told me g.kept v new a b (Err c.in-Err.refusal) may.valid (λ t. (may.trim t).under) (λ t. (may.trim t).named) c.requires.1.1.1 spared h.only h.steps in
     record {
       trims = trims_refused told me g.kept v new c.in-Err.refusal trims;

@@ -23,7 +23,7 @@ returns-in-Some g c =
 pub names_after-requires : goal.names_after-requires
 names_after-requires g c =
     let set = c.requires.set in
-    record { ready = set.ready; valid = set.valid; named = c.requires.named; tree = λ t _. set.there t }
+    record { ready = set.ready; valid = set.valid; tree = λ t _. set.there t }
 
 pub returns-in-Ok : goal.returns-in-Ok
 returns-in-Ok g c =

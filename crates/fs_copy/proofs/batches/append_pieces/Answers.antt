@@ -11,7 +11,7 @@ bounds-as_slice-position g c = let value = ap length c.as_slice.ensures.value in
 pub append-requires : goal.append-requires
 append-requires g c =
     let target = append_target c.loop-position.invariant in
-    record { ready = target.ready; valid = target.valid; named = c.requires.named; tree = λ t _. target.there t }
+    record { ready = target.ready; valid = target.valid; tree = λ t _. target.there t }
 
 pub returns-in-Err : goal.returns-in-Err
 returns-in-Err g c =

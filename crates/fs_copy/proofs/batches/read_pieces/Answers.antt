@@ -11,7 +11,7 @@ loop-i-init g c = (none_read c.args.first c.requires.set (g.met.K.Blocks.sound c
 pub read_on-requires : goal.read_on-requires
 read_on-requires g c =
     let source = read_source c.loop-i.invariant.0 in
-    record { ready = source.ready; valid = source.valid; named = c.requires.named; tree = λ t _. source.there t; place = c.loop-i.invariant.1 }
+    record { ready = source.ready; valid = source.valid; tree = λ t _. source.there t; place = c.loop-i.invariant.1 }
 
 pub returns-in-Err : goal.returns-in-Err
 returns-in-Err g c =

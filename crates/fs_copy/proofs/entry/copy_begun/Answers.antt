@@ -5,7 +5,7 @@ use Rattle.fs_copy.proofs.entry.copy_begun.Goals as goal
 
 pub size_of-requires : goal.size_of-requires
 size_of-requires g c =
-    record { set = source_of c.requires.set; named = c.requires.named; file = c.requires.file; first = c.requires.first }
+    record { set = source_of c.requires.set; file = c.requires.file; first = c.requires.first }
 
 pub returns-in-Err : goal.returns-in-Err
 returns-in-Err g c =
@@ -15,7 +15,7 @@ returns-in-Err g c =
 pub copy_file-requires : goal.copy_file-requires
 copy_file-requires g c =
     let size = after_size {path = c.args.path.now} c.requires.set (g.met.K.Blocks.sound c.args.disk.now) c.requires.file c.in-Ok.ensures.same c.in-Ok.ensures.told c.in-Ok.ensures.looks in
-    record { set = size.look.set; named = c.requires.named; file = file_now size; first = first_now size c.requires.first; sized = size_now size }
+    record { set = size.look.set; file = file_now size; first = first_now size c.requires.first; sized = size_now size }
 
 pub returns-in-Ok-copy_file : goal.returns-in-Ok-copy_file
 returns-in-Ok-copy_file g c =

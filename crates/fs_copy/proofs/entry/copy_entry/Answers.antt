@@ -7,12 +7,12 @@ use Rattle.fs_copy.proofs.entry.copy_entry.Goals as goal
 pub read_part-requires : goal.read_part-requires
 read_part-requires g c =
     let set = c.requires.set in
-    record { ready = set.from_ready; valid = set.valid; named = c.requires.named; tree = λ t _. set.from_there t }
+    record { ready = set.from_ready; valid = set.valid; tree = λ t _. set.from_there t }
 
 pub copy_begun-requires : goal.copy_begun-requires
 copy_begun-requires g c =
     let first = after_first c.requires.set (g.met.K.Blocks.sound c.args.disk.now) c.requires.there c.in-Ok.ensures.same c.in-Ok.ensures.answer c.in-Ok.ensures.looks in
-    record { set = first.look.set; named = c.requires.named; file = first_file first; first = first_piece first }
+    record { set = first.look.set; file = first_file first; first = first_piece first }
 
 pub returns-in-Ok : goal.returns-in-Ok
 returns-in-Ok g c =
@@ -24,7 +24,7 @@ pub copy_dir-requires : goal.copy_dir-requires
 copy_dir-requires g c =
     let none = c.in-Err-IsDir.ensures in
     let dir = after_refusal c.requires.set c.requires.there none.answer (g.met.K.Blocks.sound c.args.disk.now) none.same c.in-Err-IsDir.field-0-is none.looks in
-    record { set = target_of dir.look.set; named = c.requires.named; hold = λ t. c.requires.hold t (dir.dir t) }
+    record { set = target_of dir.look.set; hold = λ t. c.requires.hold t (dir.dir t) }
 
 pub returns-in-Err-IsDir : goal.returns-in-Err-IsDir
 returns-in-Err-IsDir g c =

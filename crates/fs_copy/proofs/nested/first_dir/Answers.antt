@@ -1,8 +1,7 @@
-use Rattle.std.proofs.Common.{◌≡◌, true, [], ◌∷◌, length, ◌∙◌, refl, ap, arith}
-use Rattle.fs_copy.proofs.Common.{is_path}
-use Rattle.fs_copy.proofs.NestedLaws.{AfterNext, after_next, first_search, kind_looks, kind_lost, next_dir, next_file, next_looks, next_lost, next_never, next_none, next_source, next_there, path_is, root_lost, search_end, search_lost, search_never, search_source}
+use Rattle.std.proofs.Common.{◌≡◌, true, ◌++◌, [], ◌∷◌, length, ◌∙◌, refl, sym, ap, arith}
+use Rattle.fs_copy.proofs.NestedLaws.{AfterNext, after_next, first_search, kind_looks, kind_lost, next_dir, next_file, next_looks, next_lost, next_named, next_none, next_source, next_there, root_lost, search_end, search_lost, search_never, search_source}
 use Rattle.fs_copy.proofs.nested.first_dir.Given.{Over}
-use Rattle.fs_copy.proofs.nested.first_dir.Goals.{In-Ok, In-Some-path_of}
+use Rattle.fs_copy.proofs.nested.first_dir.Goals.{In-Ok, In-Ok-push}
 use Rattle.fs_copy.proofs.nested.first_dir.Goals as goal
 
 -- after the next name is told
@@ -11,8 +10,8 @@ next : (g : Over) (c : In-Ok g) → AfterNext g.K.Blocks.told (g.A.Files.view c.
 next g c = after_next c.loop-left.invariant c.new-root.ensures c.in-Ok.ensures.answer c.in-Ok.ensures.looks c.in-Ok.ensures.same
 
 -- the name's path
-path : (g : Over) (c : In-Some-path_of g) → (is_path c.in-Some-path_of.path ≡ true) × (c.in-Some.name ∷ [] ≡ c.in-Some-path_of.path)
-path g c = path_is c.in-Some.name c.in-Some-path_of.path c.path_of.result c.path_of.ensures c.in-Some-path_of.is
+path : (g : Over) (c : In-Ok-push g) → c.in-Some.name ∷ [] ≡ c.push.new.self
+path g c = sym (c.in-Ok-push.ensures.ok ∙ ap (λ p. p ++ c.in-Some.name ∷ []) c.new-path.ensures)
 
 pub loop-left-init : goal.loop-left-init
 loop-left-init g c = first_search c.requires.set (g.met.K.Blocks.sound c.args.disk.now) c.new-after.ensures refl
@@ -20,7 +19,7 @@ loop-left-init g c = first_search c.requires.set (g.met.K.Blocks.sound c.args.di
 pub name_after-requires : goal.name_after-requires
 name_after-requires g c =
     let source = search_source c.loop-left.invariant in
-    record { ready = source.ready; valid = source.valid; named = ap is_path c.new-root.ensures; tree = λ t _. source.there t }
+    record { ready = source.ready; valid = source.valid; tree = λ t _. source.there t }
 
 pub returns-in-Err : goal.returns-in-Err
 returns-in-Err g c =
@@ -33,17 +32,17 @@ returns-in-None g c =
     let after = next g (goal.at.returns-in-None g c).In-Ok in
     record { told = next_none after c.in-None.is; only = λ t. tt; looks = next_looks after; same = after.from_same }
 
-pub returns-in-None-path_of : goal.returns-in-None-path_of
-returns-in-None-path_of g c =
-    let after = next g (goal.at.returns-in-None-path_of g c).In-Ok in
-    let never = next_never after c.in-Some.is c.path_of.ensures c.in-None-path_of.is in
+pub returns-in-Err-push : goal.returns-in-Err-push
+returns-in-Err-push g c =
+    let after = next g (goal.at.returns-in-Err-push g c).In-Ok in
+    let never : g.K.Blocks.told → ⊥ = λ t. (let ok = c.in-Err-push.ensures.variant.1 (omega (arith, ap length c.new-path.ensures), next_named after c.in-Some.is t) in absurd (cc)) in
     record { told = λ t. tt; only = λ t ne. absurd (never t); looks = next_lost after never; same = after.from_same }
 
 pub is_dir_at-requires : goal.is_dir_at-requires
 is_dir_at-requires g c =
     let after = next g (goal.at.is_dir_at-requires g c).In-Ok in
-    let is = path g (goal.at.is_dir_at-requires g c).In-Some-path_of in
-    record { set = next_source after; named = is.0; there = next_there after c.in-Some.is is.1 }
+    let is = path g (goal.at.is_dir_at-requires g c).In-Ok-push in
+    record { set = next_source after; there = next_there after c.in-Some.is is }
 
 pub returns-in-Err-is_dir_at : goal.returns-in-Err-is_dir_at
 returns-in-Err-is_dir_at g c =
@@ -54,27 +53,27 @@ returns-in-Err-is_dir_at g c =
 pub returns-then-is_dir : goal.returns-then-is_dir
 returns-then-is_dir g c =
     let after = next g (goal.at.returns-then-is_dir g c).In-Ok in
-    let is = path g (goal.at.returns-then-is_dir g c).In-Some-path_of in
+    let is = path g (goal.at.returns-then-is_dir g c).In-Ok-push in
     let kind = c.in-Ok-is_dir_at.ensures in
     record {
-      told = next_dir after c.in-Some.is is.1 kind.looks kind.told c.if-is_dir.true;
+      told = next_dir after c.in-Some.is is kind.looks kind.told c.if-is_dir.true;
       only = λ t. tt;
-      looks = kind_looks after c.in-Some.is is.1 kind.looks kind.told;
+      looks = kind_looks after c.in-Some.is is kind.looks kind.told;
       same = kind.same ∙ after.from_same;
     }
 
 pub returns-in-None-pop : goal.returns-in-None-pop
 returns-in-None-pop g c =
-    let is = path g (goal.at.returns-in-None-pop g c).In-Some-path_of in
-    let never : ⊥ = (let some = c.in-None-pop.ensures.variant.1 (omega (arith, ap length is.1)) in absurd (cc)) in
+    let is = path g (goal.at.returns-in-None-pop g c).In-Ok-push in
+    let never : ⊥ = (let some = c.in-None-pop.ensures.variant.1 (omega (arith, ap length is)) in absurd (cc)) in
     absurd never
 
 pub loop-left-preserved : goal.loop-left-preserved
 loop-left-preserved g c =
     let after = next g (goal.at.loop-left-preserved g c).In-Ok in
-    let is = path g (goal.at.loop-left-preserved g c).In-Some-path_of in
+    let is = path g (goal.at.loop-left-preserved g c).In-Ok-push in
     let kind = c.in-Ok-is_dir_at.ensures in
-    next_file after c.in-Some.is is.1 kind.looks kind.told c.pop.new.self c.if-is_dir.false c.loop-left-test.true c.in-Some-pop.ensures.some kind.same
+    next_file after c.in-Some.is is kind.looks kind.told c.pop.new.self c.if-is_dir.false c.loop-left-test.true c.in-Some-pop.ensures.some kind.same
 
 pub returns : goal.returns
 returns g c =

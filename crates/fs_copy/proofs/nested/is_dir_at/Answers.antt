@@ -8,7 +8,7 @@ use Rattle.fs_copy.proofs.nested.is_dir_at.Goals as goal
 pub size-requires : goal.size-requires
 size-requires g c =
     let set = c.requires.set in
-    record { ready = set.ready; valid = set.valid; named = c.requires.named; tree = λ t _. set.there t }
+    record { ready = set.ready; valid = set.valid; tree = λ t _. set.there t }
 
 pub returns-in-Ok : goal.returns-in-Ok
 returns-in-Ok g c =

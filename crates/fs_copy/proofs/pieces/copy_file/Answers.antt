@@ -6,7 +6,7 @@ use Rattle.fs_copy.proofs.pieces.copy_file.Goals as goal
 pub put-requires : goal.put-requires
 put-requires g c =
     let set = c.requires.set in
-    record { ready = set.into_ready; valid = set.valid; named = c.requires.named; tree = λ t _. set.into_there t }
+    record { ready = set.into_ready; valid = set.valid; tree = λ t _. set.into_there t }
 
 pub returns-in-Err-clause-goes : goal.returns-in-Err-clause-goes
 returns-in-Err-clause-goes g c =
@@ -25,7 +25,7 @@ read_pieces-requires g c =
     let small : c.args.size < 2 ^ 64 = search rules in
     let all = places_fit c.args.size c.div_ceil-pieces.result c.div_ceil-pieces.ensures small in
     let min = c.min-count.ensures in
-    record { set = source_of (piece_set here); named = c.requires.named; file = piece_file here; few = omega (arith, min); fits = omega (arith, min, all, c.loop-i-test.true) }
+    record { set = source_of (piece_set here); file = piece_file here; few = omega (arith, min); fits = omega (arith, min, all, c.loop-i-test.true) }
 
 pub returns-in-Err-read_pieces : goal.returns-in-Err-read_pieces
 returns-in-Err-read_pieces g c =
@@ -41,7 +41,7 @@ returns-in-Err-read_pieces g c =
 pub append_pieces-requires : goal.append_pieces-requires
 append_pieces-requires g c =
     let look = after_look (piece_set c.loop-i.invariant) (g.met.K.Blocks.sound c.loop-i.disk) c.in-Ok-read_pieces.ensures.same c.in-Ok-read_pieces.ensures.looks in
-    record { set = target_of look.set; named = c.requires.named }
+    record { set = target_of look.set }
 
 pub returns-in-Err-append_pieces : goal.returns-in-Err-append_pieces
 returns-in-Err-append_pieces g c =

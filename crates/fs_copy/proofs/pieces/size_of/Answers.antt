@@ -19,7 +19,7 @@ returns-then-count-lt-DATA_MAX g c =
 pub size-requires : goal.size-requires
 size-requires g c =
     let set = c.requires.set in
-    record { ready = set.ready; valid = set.valid; named = c.requires.named; tree = λ t _. set.there t }
+    record { ready = set.ready; valid = set.valid; tree = λ t _. set.there t }
 
 pub returns : goal.returns
 returns g c =

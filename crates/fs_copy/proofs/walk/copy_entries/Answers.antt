@@ -12,7 +12,7 @@ loop-left-init g c =
 pub turn-requires : goal.turn-requires
 turn-requires g c =
     let here = c.loop-left.invariant.0 in
-    record { set = turn_set here; named = here.walked.named; dir = turn_dir here; ahead = turn_ahead here c.loop-left.ahead.items c.loop-left.invariant.1; hold = turn_hold here c.requires.hold }
+    record { set = turn_set here; dir = turn_dir here; ahead = turn_ahead here c.loop-left.ahead.items c.loop-left.invariant.1; hold = turn_hold here c.requires.hold }
 
 pub returns-in-Err : goal.returns-in-Err
 returns-in-Err g c =

@@ -1,21 +1,11 @@
-use Rattle.std.proofs.Common.{◌≡◌, true, sym, ◌∙◌, ap, arith}
-use Rattle.fs_copy.proofs.Common.{nat_tests, is_path, tree_under}
-use Rattle.fs_copy.proofs.TurnLaws.{Leaves, ahead_passed, at_entry, dir_entered, entry_fits, entry_hold, entry_never, entry_path, entry_refused, entry_there, file_passed, none_ahead}
+use Rattle.fs_copy.proofs.Common.{tree_under}
+use Rattle.fs_copy.proofs.TurnLaws.{Leaves, ahead_passed, at_entry, dir_entered, entry_fits, entry_hold, entry_never, entry_refused, entry_there, file_passed, none_ahead}
 use Rattle.fs_copy.proofs.walk.enter.Goals as goal
 
 pub returns-in-Err-clause-turns : goal.returns-in-Err-clause-turns
 returns-in-Err-clause-turns g c =
     let here = at_entry c.requires.set (g.met.K.Blocks.sound c.args.disk.now) c.requires.next in
-    entry_never here {q = c.push.new.self} {b = c.args.after.now} (λ t. (let fits = entry_fits here t in let ok = c.in-Err.ensures.variant.1 (omega (arith, fits)) in absurd (cc)))
-
-pub returns-then-not-is_path-clause-turns : goal.returns-then-not-is_path-clause-turns
-returns-then-not-is_path-clause-turns g c =
-    let here = at_entry c.requires.set (g.met.K.Blocks.sound c.args.disk.now) c.requires.next in
-    entry_never here {q = c.push.new.self} {b = c.args.after.now} (λ t. (
-    let yes : c.is_path.result ≡ true = c.is_path.ensures ∙ (ap is_path c.in-Ok.ensures.ok ∙ entry_path here c.requires.named t) in
-    let no_path = c.if-not-is_path.true in
-    absurd (grind (arith, nat_tests))
-    ))
+    entry_never here {q = c.push.new.self} {b = c.args.after.now} (λ t. (let ok = c.in-Err.ensures.variant.1 (entry_fits here t) in absurd (cc)))
 
 pub copy_entry-requires-clause-there : goal.copy_entry-requires-clause-there
 copy_entry-requires-clause-there g c =
@@ -35,17 +25,15 @@ returns-in-Err-copy_entry-clause-turns g c =
 pub returns-in-Some-clause-turns : goal.returns-in-Some-clause-turns
 returns-in-Some-clause-turns g c =
     let here = at_entry c.requires.set (g.met.K.Blocks.sound c.args.disk.now) c.requires.next in
-    let path : is_path c.push.new.self ≡ true = sym c.is_path.ensures ∙ (let yes = c.if-not-is_path.false in grind (arith, nat_tests)) in
     let copied = c.in-Ok-copy_entry.ensures in
     let left : Leaves c.push.new.self c.leave.new.path c.leave.new.after c.leave.result = record { on = c.leave.ensures.on; over = c.leave.ensures.over; there = c.leave.ensures.there } in
-    file_passed here c.in-Ok.ensures.ok path copied.told copied.goes c.counted.ensures left c.in-Some.is
+    file_passed here c.in-Ok.ensures.ok copied.told copied.goes c.counted.ensures left c.in-Some.is
 
 pub returns-in-None-clause-turns : goal.returns-in-None-clause-turns
 returns-in-None-clause-turns g c =
     let here = at_entry c.requires.set (g.met.K.Blocks.sound c.args.disk.now) c.requires.next in
-    let path : is_path c.push.new.self ≡ true = sym c.is_path.ensures ∙ (let yes = c.if-not-is_path.false in grind (arith, nat_tests)) in
     let copied = c.in-Ok-copy_entry.ensures in
-    dir_entered here c.in-Ok.ensures.ok path copied.told copied.goes c.counted.ensures c.new.ensures c.in-None.is
+    dir_entered here c.in-Ok.ensures.ok copied.told copied.goes c.counted.ensures c.new.ensures c.in-None.is
 
 pub returns-in-Some-clause-ahead : goal.returns-in-Some-clause-ahead
 returns-in-Some-clause-ahead g c =

@@ -1,11 +1,8 @@
 use Rattle.std.proofs.Common.{◌∙◌, ◌≡◌, ◌≤◌, Some, refl, sym, ap, subst}
+use Rattle.gathered_tasks.proofs.Common.{Geometry, IsBound, ReclaimsNothing, Request, batch_cost, once_cost, room_for, zeroed_cost}
 use Rattle.std.proofs.lemmas.Option.{IfSome_then}
-use Rattle.tsd_model.specs.declared.geometry.Geometry.{Geometry}
-use Rattle.tsd_model.specs.declared.requests.Request.{Request}
 use Rattle.volume_laws.proofs.QuestionLaws.{told_size}
-use Rattle.volume_laws.specs.Writes.{batch_cost, zeroed_cost}
 use Rattle.image_layout.specs.Ring.{bodies}
-use Rattle.gathered_tasks.specs.Bounds.{IsBound, ReclaimsNothing, once_cost, room_for}
 use Rattle.gathered_tasks.proofs.bound.writes_at_most.Goals as goal
 
 pub has_slot-requires-clause-size : goal.has_slot-requires-clause-size

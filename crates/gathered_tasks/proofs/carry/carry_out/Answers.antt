@@ -1,8 +1,5 @@
 use Rattle.std.proofs.Common.{◌≡◌, ◌∙◌, ◌≤◌, ◌+◌, ℕ, List, length, sym, ap, subst, arith}
-use Rattle.image_layout.specs.declared.offset.Patch.{Patch}
-use Rattle.tsd_core.specs.Core.{Core}
-use Rattle.gathered_tasks.specs.Bounds.{HasRoomFor, room_for}
-use Rattle.gathered_tasks.specs.Rooms.{gathered}
+use Rattle.gathered_tasks.proofs.Common.{Core, HasRoomFor, Patch, gathered, room_for}
 use Rattle.gathered_tasks.proofs.CarryLaws.{carried_failed, carried_then}
 use Rattle.gathered_tasks.proofs.carry.carry_out.Goals as goal
 
@@ -14,7 +11,7 @@ pub returns-in_err-settle : goal.returns-in_err-settle
 returns-in_err-settle g c =
     let view = g.D.Device.view in
     let m = c.settle.new in
-    let is = carried_failed g.D.Device.told (g.L.Placing.kind c.args.placement.now) c.args.request.now c.args.core.now m.core m.room.ring (gathered c.args.room.now) (gathered m.room) (view c.args.dev.now) (view m.dev) _ _ c.from_residual.result c.from_residual.ensures.1 c.in_err-settle.ensures.holds in
+    let is = carried_failed (g.L.Placing.kind c.args.placement.now) c.args.request.now _ c.from_residual.result c.from_residual.ensures.1 c.in_err-settle.ensures.holds in
     let still = c.in_err-settle.ensures.still in
     record {
       here = c.in_err-settle.ensures.here;
@@ -31,8 +28,7 @@ returns g c =
     let view = g.D.Device.view in
     let m = c.settle.new in
     let n = c.ask.new in
-    let is = carried_then g.D.Device.told c.args.core.now m.core n.core m.room.ring n.room.ring (gathered c.args.room.now) (gathered m.room) (gathered n.room) (view c.args.dev.now) (view m.dev) (view n.dev) _
-    c.in_ok-settle.ensures.holds (λ t. g.met.D.Device.sound m.dev t) (g.L.Placing.kind c.args.placement.now) c.args.request.now c.ask.result c.ask.ensures.carried in
+    let is = carried_then c.in_ok-settle.ensures.holds (λ t. g.met.D.Device.sound m.dev t) c.ask.ensures.carried in
     let q = c.args.request.now in
     let still = c.in_ok-settle.ensures.still in
     let has_then = λ (has : HasRoomFor c.args.core.now (gathered c.args.room.now) q). subst (λ (b : List Patch). HasRoomFor m.core b q) (sym (still has.reclaims.settled).1) (subst (λ (d : Core). HasRoomFor d (gathered c.args.room.now) q) (sym (still has.reclaims.settled).0) has) in

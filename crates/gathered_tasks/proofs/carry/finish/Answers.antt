@@ -1,8 +1,5 @@
 use Rattle.std.proofs.Common.{List, sym, subst}
-use Rattle.image_layout.specs.declared.offset.Patch.{Patch}
-use Rattle.tsd_core.specs.Core.{Core, IsCoreAt}
-use Rattle.gathered_tasks.specs.Held.{IsInMemory}
-use Rattle.gathered_tasks.specs.Rooms.{gathered}
+use Rattle.gathered_tasks.proofs.Common.{Core, IsCoreAt, IsInMemory, Patch, gathered}
 use Rattle.gathered_tasks.proofs.CarryLaws.{base_or_now, ended_at}
 use Rattle.gathered_tasks.proofs.carry.finish.Goals as goal
 

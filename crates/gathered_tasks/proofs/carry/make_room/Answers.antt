@@ -1,4 +1,4 @@
-use Rattle.gathered_tasks.specs.Rooms.{gathered}
+use Rattle.gathered_tasks.proofs.Common.{gathered}
 use Rattle.gathered_tasks.proofs.CarryLaws.{holds_still}
 use Rattle.gathered_tasks.proofs.carry.make_room.Goals as goal
 

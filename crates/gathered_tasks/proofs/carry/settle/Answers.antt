@@ -1,9 +1,5 @@
 use Rattle.std.proofs.Common.{◌≡◌, ◌∙◌, List, refl, sym, subst}
-use Rattle.std.specs.Prelude.{Ok, Err}
-use Rattle.image_layout.specs.declared.offset.Patch.{Patch}
-use Rattle.image_world.specs.Debt.{owed}
-use Rattle.tsd_core.specs.Core.{Core}
-use Rattle.gathered_tasks.specs.Rooms.{gathered}
+use Rattle.gathered_tasks.proofs.Common.{Core, Patch, gathered, owed}
 use Rattle.gathered_tasks.proofs.CarryLaws.{holds_failed, holds_still, holds_then}
 use Rattle.gathered_tasks.proofs.carry.settle.Goals as goal
 
@@ -27,22 +23,14 @@ loop-init g c = record {
 
 pub returns-in_err-settle_step-clause-holds : goal.returns-in_err-settle_step-clause-holds
 returns-in_err-settle_step-clause-holds g c =
-    let view = g.D.Device.view in
-    let m = c.settle_step.new in
-    holds_failed g.D.Device.told c.args.core.now m.core m.room.ring (gathered c.args.room.now) (gathered m.room) (view c.args.dev.now) (view m.dev) _ _ c.from_residual.result c.from_residual.ensures.1
-    (holds_then g.D.Device.told c.args.core.now c.loop.core m.core c.loop.room.ring m.room.ring (gathered c.args.room.now) (gathered c.loop.room) (gathered m.room) (view c.args.dev.now) (view c.loop.dev) (view m.dev) _
-    c.loop.invariant.holds (λ t. g.met.D.Device.sound c.loop.dev t) (Err c.in_err-settle_step.field-0.0) c.in_err-settle_step.ensures.holds)
+    holds_failed _ c.from_residual.result c.from_residual.ensures.1 (holds_then c.loop.invariant.holds (λ t. g.met.D.Device.sound c.loop.dev t) c.in_err-settle_step.ensures.holds)
 
 pub loop-preserved : goal.loop-preserved
-loop-preserved g c =
-    let view = g.D.Device.view in
-    let m = c.settle_step.new in
-    record {
-      here = c.in_ok-settle_step.ensures.here;
-      holds = holds_then g.D.Device.told c.args.core.now c.loop.core m.core c.loop.room.ring m.room.ring (gathered c.args.room.now) (gathered c.loop.room) (gathered m.room) (view c.args.dev.now) (view c.loop.dev) (view m.dev) _
-          c.loop.invariant.holds (λ t. g.met.D.Device.sound c.loop.dev t) (Ok tt) c.in_ok-settle_step.ensures.holds;
-      still = λ none. goes_still (λ (d : Core). owed d.volume.tables ≡ 0) none (c.loop.invariant.still none) (c.in_ok-settle_step.ensures.still);
-    }
+loop-preserved g c = record {
+  here = c.in_ok-settle_step.ensures.here;
+  holds = holds_then c.loop.invariant.holds (λ t. g.met.D.Device.sound c.loop.dev t) c.in_ok-settle_step.ensures.holds;
+  still = λ none. goes_still (λ (d : Core). owed d.volume.tables ≡ 0) none (c.loop.invariant.still none) (c.in_ok-settle_step.ensures.still);
+}
 
 pub returns-in_err-settle_step-clause-still : goal.returns-in_err-settle_step-clause-still
 returns-in_err-settle_step-clause-still g c settled =

@@ -1,8 +1,5 @@
 use Rattle.std.proofs.Common.{◌≡◌, true}
-use Rattle.image_world.specs.Debt.{owed}
-use Rattle.std.specs.Prelude.{is_some, Ok}
-use Rattle.gathered_tasks.specs.Carried.{HoldsOn}
-use Rattle.gathered_tasks.specs.Rooms.{gathered}
+use Rattle.gathered_tasks.proofs.Common.{HoldsOn, Ok, gathered, is_some, owed}
 use Rattle.gathered_tasks.proofs.carry.settle.Given as goal
 
 abbrev pub invariant-loop : goal.invariant-loop

@@ -1,4 +1,4 @@
-use Rattle.gathered_tasks.specs.Rooms.{gathered}
+use Rattle.gathered_tasks.proofs.Common.{gathered}
 use Rattle.gathered_tasks.proofs.hold.in_memory.Given as goal
 
 abbrev pub ghosts-in_slots : goal.ghosts-in_slots

@@ -1,7 +1,5 @@
 use Rattle.std.proofs.Common.{refl, sym, subst}
-use Rattle.fs_laws.specs.Apart.{AreApart}
-use Rattle.fs_port.specs.View.{IsDiskSound}
-use Rattle.fs_port.specs.Files.{FilesView}
+use Rattle.image_shell.proofs.Common.{AreApart, FilesView, IsDiskSound}
 use Rattle.image_copy.specs.Steps.{CopiesBetween}
 use Rattle.image_copy.proofs.BetweenLaws.{apart_then, copied_between, not_mounted}
 use Rattle.image_copy.proofs.between.copy_between.Goals as goal

@@ -1,11 +1,11 @@
 use Rattle.std.proofs.Common.{◌≡◌, ℕ, sym}
-use Rattle.gathered_tasks.specs.Blocks.{There}
+use Rattle.image_shell.proofs.Common.{There}
 use Rattle.image_copy.proofs.GatheredLaws.{gathered_as}
 use Rattle.image_copy.proofs.gathered.gather_copy.Goals as goal
 
 pub copy_between-requires-clause-valid : goal.copy_between-requires-clause-valid
 copy_between-requires-clause-valid g c told =
-    rw (c.new-blocks.ensures.room_now, c.new-blocks.ensures.dev_now, c.new-blocks.ensures.core_now) (record { valid = c.requires.valid told; fits = c.requires.fits told })
+    rw (c.new-blocks.ensures.room_now, c.new-blocks.ensures.dev_now, c.new-blocks.ensures.core_now) (record { valid = c.requires.start.valid told; fits = c.requires.start.fits told })
 
 pub returns-clause-gathered : goal.returns-clause-gathered
 returns-clause-gathered g c =

@@ -1,11 +1,7 @@
 use Rattle.std.proofs.Common.{ℕ, List, ◌++◌, ◌∙◌, ap, subst}
-use Rattle.image_device.specs.View.{IsLeftInPut}
-use Rattle.image_device.specs.Runs.{LeavesOnly}
-use Rattle.image_device.proofs.Parts.{part_put, part_then}
-use Rattle.image_world.specs.Behind.{behind, size_of_image}
 use Rattle.image_runs.specs.Sending.{ProperFrontWasSent}
-use Rattle.image_runs.proofs.Opened.{spared_put, untouched_put}
-use Rattle.image_copy.proofs.PutLaws.{ended_still, put_moments, silent_moments, unended_copied, unended_ends}
+use Rattle.image_shell.proofs.Common.{spared_put, untouched_put}
+use Rattle.image_copy.proofs.PutLaws.{behind_put, ended_still, put_moments, silent_moments, unended_copied, unended_ends}
 use Rattle.image_copy.proofs.image.copy_over_image.Goals as goal
 
 pub returns-in-Ok-put_all-clause-copied : goal.returns-in-Ok-put_all-clause-copied
@@ -31,17 +27,13 @@ returns-in-Err-put_all-clause-copied g c told =
 
 pub returns-in-Ok-put_all-clause-any_moment : goal.returns-in-Ok-put_all-clause-any_moment
 returns-in-Ok-put_all-clause-any_moment g c told firm =
-    let mid = g.P.Device.view c.carry_out.new.dev in
-    let new = g.P.Device.view c.put_all.new.port in
-    put_moments c.args.words.now (g.P.Device.view c.args.port.now) mid new c.in-Ok.end (c.in-Ok.ensures.read told).0 (c.in-Ok.ensures.ends told) (c.in-Ok.ensures.sent told) (c.in-Ok.ensures.any_moment told firm)
-    (subst (λ (t : List ℕ). LeavesOnly mid new (IsLeftInPut t mid)) (c.as_slice.ensures.value ∙ c.end_line.ensures) (c.put_all.ensures.any_moment told))
+    let view = g.P.Device.view in
+    put_moments c.args.words.now (view c.args.port.now) (view c.carry_out.new.dev) (view c.put_all.new.port) c.in-Ok.end _ (c.as_slice.ensures.value ∙ c.end_line.ensures) (c.in-Ok.ensures.read told).0 (c.in-Ok.ensures.ends told) (c.in-Ok.ensures.sent told) (c.in-Ok.ensures.any_moment told firm) (c.put_all.ensures.any_moment told)
 
 pub returns-in-Err-put_all-clause-any_moment : goal.returns-in-Err-put_all-clause-any_moment
 returns-in-Err-put_all-clause-any_moment g c told firm =
-    let mid = g.P.Device.view c.carry_out.new.dev in
-    let new = g.P.Device.view c.put_all.new.port in
-    put_moments c.args.words.now (g.P.Device.view c.args.port.now) mid new c.in-Ok.end (c.in-Ok.ensures.read told).0 (c.in-Ok.ensures.ends told) (c.in-Ok.ensures.sent told) (c.in-Ok.ensures.any_moment told firm)
-    (subst (λ (t : List ℕ). LeavesOnly mid new (IsLeftInPut t mid)) (c.as_slice.ensures.value ∙ c.end_line.ensures) (c.put_all.ensures.any_moment told))
+    let view = g.P.Device.view in
+    put_moments c.args.words.now (view c.args.port.now) (view c.carry_out.new.dev) (view c.put_all.new.port) c.in-Ok.end _ (c.as_slice.ensures.value ∙ c.end_line.ensures) (c.in-Ok.ensures.read told).0 (c.in-Ok.ensures.ends told) (c.in-Ok.ensures.sent told) (c.in-Ok.ensures.any_moment told firm) (c.put_all.ensures.any_moment told)
 
 pub returns-in-Err-clause-ending : goal.returns-in-Err-clause-ending
 returns-in-Err-clause-ending g c = unended_ends c.in-Err.why c.in-Err.ensures.stops
@@ -64,19 +56,13 @@ returns-in-Err-put_all-clause-untouched g c told foreign =
 
 pub returns-in-Ok-put_all-clause-behind : goal.returns-in-Ok-put_all-clause-behind
 returns-in-Ok-put_all-clause-behind g c told firm =
-    let old = g.P.Device.view c.args.port.now in
-    let mid = g.P.Device.view c.carry_out.new.dev in
-    let new = g.P.Device.view c.put_all.new.port in
-    part_then (behind (size_of_image old.reads)) old mid new (g.met.P.Device.sound c.carry_out.new.dev told) (c.in-Ok.ensures.behind told firm)
-    (part_put (behind (size_of_image old.reads)) c.as_slice.result.now mid new (c.in-Ok.ensures.ends told).at_ease.firm (c.put_all.ensures.any_moment told))
+    let view = g.P.Device.view in
+    behind_put (view c.args.port.now) (view c.carry_out.new.dev) (view c.put_all.new.port) c.as_slice.result.now (g.met.P.Device.sound c.carry_out.new.dev told) (c.in-Ok.ensures.ends told).at_ease.firm (c.in-Ok.ensures.behind told firm) (c.put_all.ensures.any_moment told)
 
 pub returns-in-Err-put_all-clause-behind : goal.returns-in-Err-put_all-clause-behind
 returns-in-Err-put_all-clause-behind g c told firm =
-    let old = g.P.Device.view c.args.port.now in
-    let mid = g.P.Device.view c.carry_out.new.dev in
-    let new = g.P.Device.view c.put_all.new.port in
-    part_then (behind (size_of_image old.reads)) old mid new (g.met.P.Device.sound c.carry_out.new.dev told) (c.in-Ok.ensures.behind told firm)
-    (part_put (behind (size_of_image old.reads)) c.as_slice.result.now mid new (c.in-Ok.ensures.ends told).at_ease.firm (c.put_all.ensures.any_moment told))
+    let view = g.P.Device.view in
+    behind_put (view c.args.port.now) (view c.carry_out.new.dev) (view c.put_all.new.port) c.as_slice.result.now (g.met.P.Device.sound c.carry_out.new.dev told) (c.in-Ok.ensures.ends told).at_ease.firm (c.in-Ok.ensures.behind told firm) (c.put_all.ensures.any_moment told)
 
 pub returns-in-Err-clause-behind : goal.returns-in-Err-clause-behind
 returns-in-Err-clause-behind g c = c.in-Err.ensures.behind

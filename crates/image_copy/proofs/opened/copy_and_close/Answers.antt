@@ -1,6 +1,5 @@
 use Rattle.std.proofs.Common.{ap}
-use Rattle.tsd_model.specs.Step.{State}
-use Rattle.core_blocks.proofs.BehindLaws.{behind_of_core}
+use Rattle.image_shell.proofs.Common.{State, behind_of_core}
 use Rattle.image_copy.proofs.OpenedLaws.{closed_on, not_closed}
 use Rattle.image_copy.proofs.opened.copy_and_close.Goals as goal
 

@@ -1,5 +1,4 @@
-use Rattle.std.proofs.Common.{◌≡◌, ℕ, ◌<◌, false}
-use Rattle.std.specs.Prelude.{IsTrue}
+use Rattle.std.proofs.Common.{◌≡◌, ℕ, ◌<◌, false, IsTrue}
 use Rattle.image_audit.specs.Entries.{is_listed}
 use Rattle.image_copy.proofs.shared.first_in_both.Given as goal
 

@@ -2,7 +2,6 @@ use Rattle.std.proofs.Common.{◌∙◌, ap}
 use Rattle.image_runs.proofs.Common.{World, like_at, told_by, world_on}
 use Rattle.image_runs.specs.Check.{told_of}
 use Rattle.image_runs.proofs.Saying.{told_like}
-use Rattle.image_runs.proofs.Looking.{looked}
 use Rattle.image_runs.proofs.check.judge.Goals as goal
 
 pub returns-in-Ok-clause-found : goal.returns-in-Ok-clause-found
@@ -13,6 +12,3 @@ returns-in-Ok-clause-found g c told =
           ∙ told_like c.args.telling (told_by c.in-Ok.volume) (world_on mid) (like_at c.in-Ok.volume mid (c.in-Ok.ensures.at told))
           ∙ ap (λ (w : World). told_of c.args.telling w) (c.in-Ok.ensures.done told),
     )
-
-pub returns-in-Ok-clause-only : goal.returns-in-Ok-clause-only
-returns-in-Ok-clause-only g c told = looked (g.D.Device.view c.args.dev.now) (g.D.Device.view c.open_volume.new.dev) (c.open_volume.ensures.uses told) (c.open_volume.ensures.unwritten told)

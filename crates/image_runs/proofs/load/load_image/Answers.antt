@@ -1,51 +1,38 @@
-use Rattle.std.proofs.Common.{inl, ℕ, List, ◌++◌, ◌∙◌, ap, subst}
-use Rattle.image_runs.proofs.Common.{IsLeftInPut, LeavesOnly, weakened, ProperFrontWasSent, behind, size_of_image}
-use Rattle.image_runs.proofs.Behind.{behind_said}
-use Rattle.image_runs.proofs.Opened.{untouched_put}
-use Rattle.image_runs.proofs.Saying.{cut_from}
-use Rattle.image_runs.proofs.Loaded.{line_is, line_moments, loaded_still, not_loaded}
+use Rattle.std.proofs.Common.{◌≢◌, inl, inr, List, ℕ, ◌∙◌, subst}
+use Rattle.tsd_words.specs.declared.status.Status.TheVariants as status
+use Rattle.image_runs.proofs.Common.{HasLoaded, IsLeftOfLoad, weakened}
+use Rattle.image_runs.specs.Sending.{HasPut, IsEnding}
+use Rattle.image_runs.proofs.Looking.{spares_put}
+use Rattle.image_runs.proofs.Loaded.{line_is, loaded_put, not_loaded}
+use Rattle.image_runs.proofs.Saying.{ends_put, faults_put, put_over, said_put}
 use Rattle.image_runs.proofs.load.load_image.Goals as goal
 
-pub returns-in-Ok-put_all-clause-loaded : goal.returns-in-Ok-put_all-clause-loaded
-returns-in-Ok-put_all-clause-loaded g c told =
+pub returns-in-Ok : goal.returns-in-Ok
+returns-in-Ok g c =
     let old = g.P.Device.view c.args.port.now in
     let mid = g.P.Device.view c.carry_out.new.dev in
+    let new = g.P.Device.view c.put_text.new.port in
     let kind = c.args.placement.now.kind in
-    let text = c.as_slice.ensures.value ∙ c.load_line.ensures ∙ line_is kind c.args.load.now.seed old.reads c.args.load.now.count c.in-Ok.summary (c.in-Ok.ensures.summary told) in (
-      loaded_still kind c.args.load.now.seed old.reads c.args.load.now.count mid (g.P.Device.view c.put_all.new.port) (c.in-Ok.ensures.loaded told) (c.put_all.ensures.reads told) (c.put_all.ensures.loose told),
-      c.in-Ok-put_all.ensures.sent told ∙ ap (λ (b : List ℕ). b ++ c.as_slice.result.now) (c.carry_out.ensures.sent told) ∙ ap (λ (t : List ℕ). old.sent ++ t) text,
-    )
-
-pub returns-in-Err-put_all-clause-loaded : goal.returns-in-Err-put_all-clause-loaded
-returns-in-Err-put_all-clause-loaded g c told =
-    let old = g.P.Device.view c.args.port.now in
-    let mid = g.P.Device.view c.carry_out.new.dev in
-    let new = g.P.Device.view c.put_all.new.port in
-    let kind = c.args.placement.now.kind in
-    let text = c.as_slice.ensures.value ∙ c.load_line.ensures ∙ line_is kind c.args.load.now.seed old.reads c.args.load.now.count c.in-Ok.summary (c.in-Ok.ensures.summary told) in (
-      loaded_still kind c.args.load.now.seed old.reads c.args.load.now.count mid new (c.in-Ok.ensures.loaded told) (c.put_all.ensures.reads told) (c.put_all.ensures.loose told),
-      subst (λ (t : List ℕ). ProperFrontWasSent old.sent t new.sent) text (cut_from old.sent mid.sent c.as_slice.result.now new.sent (c.carry_out.ensures.sent told) (c.in-Err-put_all.ensures.part told)),
-    )
-
-pub returns-in-Ok-put_all-clause-any_moment : goal.returns-in-Ok-put_all-clause-any_moment
-returns-in-Ok-put_all-clause-any_moment g c told firm =
-    let old = g.P.Device.view c.args.port.now in
-    let mid = g.P.Device.view c.carry_out.new.dev in
-    let new = g.P.Device.view c.put_all.new.port in
-    let kind = c.args.placement.now.kind in
-    let text = c.as_slice.ensures.value ∙ c.load_line.ensures ∙ line_is kind c.args.load.now.seed old.reads c.args.load.now.count c.in-Ok.summary (c.in-Ok.ensures.summary told) in
-    line_moments kind c.args.load.now.seed c.args.load.now.count old mid new (c.in-Ok.ensures.loaded told) (c.carry_out.ensures.sent told) (c.carry_out.ensures.any_moment told firm)
-    (subst (λ (t : List ℕ). LeavesOnly mid new (IsLeftInPut t mid)) text (c.put_all.ensures.any_moment told))
-
-pub returns-in-Err-put_all-clause-any_moment : goal.returns-in-Err-put_all-clause-any_moment
-returns-in-Err-put_all-clause-any_moment g c told firm =
-    let old = g.P.Device.view c.args.port.now in
-    let mid = g.P.Device.view c.carry_out.new.dev in
-    let new = g.P.Device.view c.put_all.new.port in
-    let kind = c.args.placement.now.kind in
-    let text = c.as_slice.ensures.value ∙ c.load_line.ensures ∙ line_is kind c.args.load.now.seed old.reads c.args.load.now.count c.in-Ok.summary (c.in-Ok.ensures.summary told) in
-    line_moments kind c.args.load.now.seed c.args.load.now.count old mid new (c.in-Ok.ensures.loaded told) (c.carry_out.ensures.sent told) (c.carry_out.ensures.any_moment told firm)
-    (subst (λ (t : List ℕ). LeavesOnly mid new (IsLeftInPut t mid)) text (c.put_all.ensures.any_moment told))
+    let seed = c.args.load.now.seed in
+    let count = c.args.load.now.count in
+    let spares = spares_put (g.met.P.Device.sound c.carry_out.new.dev) c.put_text.ensures c.carry_out.ensures.spares in
+    let put = λ (told : g.P.Device.told). subst (λ (t : List ℕ). HasPut g.P.Device.told t status.Done c.put_text.result mid new) (c.load_line.ensures ∙ line_is kind seed old.reads count c.in-Ok.summary (c.in-Ok.ensures.summary told)) c.put_text.ensures in
+    let none = ends_put (λ s. s ≢ status.NoMemory) c.put_text.ensures (λ e. cc) (λ e. cc) in
+    record {
+      ending = ends_put IsEnding c.put_text.ensures tt tt;
+      loaded = λ told.
+          let is = loaded_put told c.put_text.ensures (c.in-Ok.ensures.loaded told) in
+          said_put (λ s. HasLoaded s kind seed count old new) told (put told) (c.carry_out.ensures.sent told) (λ all. (is, all)) (λ front. (is, front));
+      untouched = spares.foreign;
+      spared = spares.damaged;
+      any_moment = λ told firm.
+          let is = c.in-Ok.ensures.loaded told in
+          put_over _ (IsLeftOfLoad kind seed count old) told (put told) is.firm (c.carry_out.ensures.sent told) (c.carry_out.ensures.any_moment told firm) (λ x f left. inl left) (λ f part. inr (is.load, part));
+      no_memory = λ told e. absurd (none e);
+      looked = λ told e. absurd (none e);
+      behind = spares.behind;
+      faults = faults_put c.put_text.ensures tt (c.in-Ok.ensures.faults.1 (λ e. cc)) c.carry_out.ensures.works.put_faults;
+    }
 
 pub returns-in-Err-clause-loaded : goal.returns-in-Err-clause-loaded
 returns-in-Err-clause-loaded g c told =
@@ -59,35 +46,5 @@ returns-in-Err-clause-any_moment g c told firm =
 pub returns-in-Err-clause-no_memory : goal.returns-in-Err-clause-no_memory
 returns-in-Err-clause-no_memory g c told = c.in-Err.ensures.no_memory told
 
-pub returns-in-Ok-put_all-clause-untouched : goal.returns-in-Ok-put_all-clause-untouched
-returns-in-Ok-put_all-clause-untouched g c told foreign =
-    untouched_put g.P.Device.told _ (g.P.Device.view c.args.port.now) (g.P.Device.view c.carry_out.new.dev) (g.P.Device.view c.put_all.new.port) c.put_all.result told c.put_all.ensures (c.carry_out.ensures.untouched told foreign)
-
-pub returns-in-Err-put_all-clause-untouched : goal.returns-in-Err-put_all-clause-untouched
-returns-in-Err-put_all-clause-untouched g c told foreign =
-    untouched_put g.P.Device.told _ (g.P.Device.view c.args.port.now) (g.P.Device.view c.carry_out.new.dev) (g.P.Device.view c.put_all.new.port) c.put_all.result told c.put_all.ensures (c.carry_out.ensures.untouched told foreign)
-
-pub returns-in-Ok-put_all-clause-behind : goal.returns-in-Ok-put_all-clause-behind
-returns-in-Ok-put_all-clause-behind g c told firm =
-    let old = g.P.Device.view c.args.port.now in
-    behind_said (behind (size_of_image old.reads)) _ old (g.P.Device.view c.carry_out.new.dev) (g.P.Device.view c.put_all.new.port) (g.met.P.Device.sound c.carry_out.new.dev told) (c.carry_out.ensures.behind told firm) (c.put_all.ensures.any_moment told)
-
-pub returns-in-Err-put_all-clause-behind : goal.returns-in-Err-put_all-clause-behind
-returns-in-Err-put_all-clause-behind g c told firm =
-    let old = g.P.Device.view c.args.port.now in
-    behind_said (behind (size_of_image old.reads)) _ old (g.P.Device.view c.carry_out.new.dev) (g.P.Device.view c.put_all.new.port) (g.met.P.Device.sound c.carry_out.new.dev told) (c.carry_out.ensures.behind told firm) (c.put_all.ensures.any_moment told)
-
-pub returns-in-Ok-put_all-clause-spared : goal.returns-in-Ok-put_all-clause-spared
-returns-in-Ok-put_all-clause-spared g c told bad = absurd (bad (c.in-Ok.ensures.loaded told).load.good)
-
-pub returns-in-Err-put_all-clause-spared : goal.returns-in-Err-put_all-clause-spared
-returns-in-Err-put_all-clause-spared g c told bad = absurd (bad (c.in-Ok.ensures.loaded told).load.good)
-
 pub returns-in-Err-clause-looked : goal.returns-in-Err-clause-looked
 returns-in-Err-clause-looked g c told = c.in-Err.ensures.looked told
-
-pub returns-in-Ok-put_all-clause-looked : goal.returns-in-Ok-put_all-clause-looked
-returns-in-Ok-put_all-clause-looked g c told e = absurd (cc)
-
-pub returns-in-Err-put_all-clause-looked : goal.returns-in-Err-put_all-clause-looked
-returns-in-Err-put_all-clause-looked g c told e = absurd (cc)

@@ -4,6 +4,7 @@ use Rattle.image_runs.proofs.Common.{OpenFault, Status, home, owed, IsJudged, Is
 use Rattle.tsd_words.specs.declared.status.Status.TheVariants as status
 use Rattle.image_runs.proofs.Behind.{behind_kept}
 use Rattle.image_runs.proofs.Opened.{flag_of, judged_of, unopened_of, device_of, device_only}
+use Rattle.image_runs.proofs.Looking.{opens_alone}
 use Rattle.image_runs.proofs.opening.open_volume.Goals as goal
 
 pub returns-in-Err-clause-read : goal.returns-in-Err-clause-read
@@ -39,11 +40,17 @@ pub returns-in-Err-clause-unwritten : goal.returns-in-Err-clause-unwritten
 returns-in-Err-clause-unwritten g c told quiet = omega (arith, (c.open_image.ensures.unwritten told quiet).most)
 
 pub returns-in-Ok-clause-behind : goal.returns-in-Ok-clause-behind
-returns-in-Ok-clause-behind g c told firm =
-    let old = g.D.Device.view c.args.dev.now in
-    behind_kept (size_of_image old.reads) old (g.D.Device.view c.open_image.new.dev) (c.open_image.ensures.data_kept told firm)
+returns-in-Ok-clause-behind g c told firm = behind_kept (size_of_image (g.D.Device.view c.args.dev.now).reads) (g.D.Device.view c.args.dev.now) (g.D.Device.view c.open_image.new.dev) (c.open_image.ensures.data_kept told firm)
 
 pub returns-in-Err-clause-behind : goal.returns-in-Err-clause-behind
-returns-in-Err-clause-behind g c told firm =
-    let old = g.D.Device.view c.args.dev.now in
-    behind_kept (size_of_image old.reads) old (g.D.Device.view c.open_image.new.dev) (c.open_image.ensures.data_kept told firm)
+returns-in-Err-clause-behind g c told firm = behind_kept (size_of_image (g.D.Device.view c.args.dev.now).reads) (g.D.Device.view c.args.dev.now) (g.D.Device.view c.open_image.new.dev) (c.open_image.ensures.data_kept told firm)
+
+pub returns-in-Ok-clause-opens : goal.returns-in-Ok-clause-opens
+returns-in-Ok-clause-opens g c =
+    let is = c.open_image.ensures in
+    opens_alone is.untouched is.spared is.data_kept is.uses is.unwritten is.sent is.any_moment is.works
+
+pub returns-in-Err-clause-opens : goal.returns-in-Err-clause-opens
+returns-in-Err-clause-opens g c =
+    let is = c.open_image.ensures in
+    opens_alone is.untouched is.spared is.data_kept is.uses is.unwritten is.sent is.any_moment is.works

@@ -1,9 +1,5 @@
 use Rattle.std.proofs.Common.{◌≡◌, ℕ, sym, ◌∙◌, ap}
-use Rattle.image_device.specs.Runs.{IsFirm}
-use Rattle.image_world.specs.Stands.{world_of}
-use Rattle.core_blocks.proofs.BehindLaws.{behind_called}
-use Rattle.tsd_core.specs.Core.{FitsReads}
-use Rattle.shell_server.specs.Kept.{AreReady}
+use Rattle.image_shell.proofs.Common.{AreReady, FitsReads, IsFirm, behind_called, world_of}
 use Rattle.image_shell.proofs.BeginLaws.{valid_now}
 use Rattle.image_shell.proofs.MountLaws.{mounted_by}
 use Rattle.image_shell.proofs.opened.mount_on.Goals as goal

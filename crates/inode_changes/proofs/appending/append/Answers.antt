@@ -6,6 +6,7 @@ use Rattle.inode_changes.proofs.SameLaws.{file_same, file_is}
 use Rattle.inode_changes.proofs.GrowLaws.{file_there, nothing_refuses}
 use Rattle.inode_changes.proofs.PlacedLaws.{room_for_old, old_is, read_so, lost_refuses, missing_refuses, dir_refuses}
 use Rattle.inode_changes.proofs.appending.append.Goals as goal
+use Rattle.tsd_model.proofs.ValueLaws.{clash}
 
 pub look_up-requires : goal.look_up-requires
 look_up-requires g c = record { may = c.requires.may; refusal = λ e. cc }
@@ -67,7 +68,7 @@ returns-then-is_directory g c =
     let path = c.args.path.now in
     let e = c.in-Ok.ensures in
     let f = c.in-Ok-read_inode.ensures in
-    let read = read_so c.requires.may (g.met.K.Blocks.sound c.args.disk.now) c.requires.named e.looks e.dir e.found e.none (sym c.in-Some.ensures) f.looks f.block f.says f.whole f.held in
+    let read = read_so c.requires.may (g.met.K.Blocks.sound c.args.disk.now) e.named e.looks e.dir e.found e.none (sym c.in-Some.ensures) f.looks f.block f.says f.whole f.held in
     record {
       answer = λ t.
           let same = (read.looks.looked t).0.world in
@@ -85,7 +86,7 @@ returns-then-is_empty g c =
     let path = c.args.path.now in
     let e = c.in-Ok.ensures in
     let f = c.in-Ok-read_inode.ensures in
-    let read = read_so c.requires.may (g.met.K.Blocks.sound c.args.disk.now) c.requires.named e.looks e.dir e.found e.none (sym c.in-Some.ensures) f.looks f.block f.says f.whole f.held in
+    let read = read_so c.requires.may (g.met.K.Blocks.sound c.args.disk.now) e.named e.looks e.dir e.found e.none (sym c.in-Some.ensures) f.looks f.block f.says f.whole f.held in
     let no_dir = sym c.is_directory.ensures ∙ c.if-is_directory.false in
     let empty : c.args.bytes.now ≡ [] = c.is_empty.ensures.0 c.if-is_empty.true in
     record {
@@ -98,9 +99,6 @@ returns-then-is_empty g c =
       idle = λ none. read.looks;
     }
 
-not_both : (b : Bool) → b ≡ true → b ≡ false → ⊥
-not_both b p q = cc
-
 some_bytes : (y : List ℕ) (r : Bool) → (y ≡ [] → r ≡ true) → r ≡ false → 1 ≤ length y
 some_bytes [] r h e = let never : true ≡ false = sym (h refl) ∙ e in absurd (cc)
 some_bytes (x ∷ y) r h e = omega arith
@@ -110,7 +108,7 @@ grow-requires g c =
     let lookup = c.in-Ok.lookup in
     let e = c.in-Ok.ensures in
     let f = c.in-Ok-read_inode.ensures in
-    let read = read_so c.requires.may (g.met.K.Blocks.sound c.args.disk.now) c.requires.named e.looks e.dir e.found e.none (sym c.in-Some.ensures) f.looks f.block f.says f.whole f.held in
+    let read = read_so c.requires.may (g.met.K.Blocks.sound c.args.disk.now) e.named e.looks e.dir e.found e.none (sym c.in-Some.ensures) f.looks f.block f.says f.whole f.held in
     record {
       unspent = f.looks.unspent.0;
       valid = λ t. (f.looks.looked t).0.valid;
@@ -126,9 +124,9 @@ pub returns : goal.returns
 returns g c =
     let e = c.in-Ok.ensures in
     let f = c.in-Ok-read_inode.ensures in
-    let read = read_so c.requires.may (g.met.K.Blocks.sound c.args.disk.now) c.requires.named e.looks e.dir e.found e.none (sym c.in-Some.ensures) f.looks f.block f.says f.whole f.held in
+    let read = read_so c.requires.may (g.met.K.Blocks.sound c.args.disk.now) e.named e.looks e.dir e.found e.none (sym c.in-Some.ensures) f.looks f.block f.says f.whole f.held in
     record {
       answer = λ t. answers_on read.looks t (c.grow.ensures.answer t c.args.path.now (read.grows t));
       changes = changes_on c.requires.may.valid read.looks (c.grow.ensures.changes c.args.path.now read.grows);
-      idle = λ none. absurd (not_both c.is_empty.result (c.is_empty.ensures.1 none) c.if-is_empty.false);
+      idle = λ none. absurd (clash c.is_empty.result (c.is_empty.ensures.1 none) c.if-is_empty.false);
     }

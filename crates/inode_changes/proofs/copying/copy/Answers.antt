@@ -61,7 +61,7 @@ returns-in-Err-check_entry g c =
     let f = c.in-Ok.ensures in
     let e = c.in-Ok-look_up.ensures in
     let looks = then_looks _ _ _ _ _ _ f.looks e.looks in
-    let copies = copies_so c.requires.may (g.met.K.Blocks.sound c.args.disk.now) c.requires.new_named f.looks f.found f.none e.looks e.found e.none c.in-None.is in
+    let copies = copies_so c.requires.may (g.met.K.Blocks.sound c.args.disk.now) e.named f.looks f.found f.none e.looks e.found e.none c.in-None.is in
     let h = c.in-Err-check_entry.ensures in
     record {
       answer = λ t. answers_on looks t (refuses {new = v} (λ ne.
@@ -80,7 +80,7 @@ copy_to-requires g c =
       dir = e.dir;
       short = e.short;
       room = c.in-Ok-check_entry.ensures.room;
-      copies = λ t. (c.args.path.now, c.args.new.now, copies_so c.requires.may (g.met.K.Blocks.sound c.args.disk.now) c.requires.new_named f.looks f.found f.none e.looks e.found e.none c.in-None.is t);
+      copies = λ t. (c.args.path.now, c.args.new.now, copies_so c.requires.may (g.met.K.Blocks.sound c.args.disk.now) e.named f.looks f.found f.none e.looks e.found e.none c.in-None.is t);
     }
 
 pub returns : goal.returns
@@ -88,7 +88,7 @@ returns g c =
     let f = c.in-Ok.ensures in
     let e = c.in-Ok-look_up.ensures in
     let looks = then_looks _ _ _ _ _ _ f.looks e.looks in
-    let copies = copies_so c.requires.may (g.met.K.Blocks.sound c.args.disk.now) c.requires.new_named f.looks f.found f.none e.looks e.found e.none c.in-None.is in
+    let copies = copies_so c.requires.may (g.met.K.Blocks.sound c.args.disk.now) e.named f.looks f.found f.none e.looks e.found e.none c.in-None.is in
     let h = c.copy_to.ensures in
     record {
       answer = λ t. answers_on looks t (h.answer t c.args.path.now c.args.new.now (copies t));

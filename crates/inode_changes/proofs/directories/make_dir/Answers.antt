@@ -40,14 +40,14 @@ add_directory-requires g c =
       valid = λ t. (e.looks.looked t).0.valid;
       dir = e.dir;
       short = e.short;
-      vacant = λ t. (c.args.path.now, vacant_so c.requires.may (g.met.K.Blocks.sound c.args.disk.now) c.requires.named e.looks e.found e.none c.in-None.is t);
+      vacant = λ t. (c.args.path.now, vacant_so c.requires.may (g.met.K.Blocks.sound c.args.disk.now) e.named e.looks e.found e.none c.in-None.is t);
     }
 
 pub returns-in-Ok-add_directory : goal.returns-in-Ok-add_directory
 returns-in-Ok-add_directory g c =
     let e = c.in-Ok.ensures in
     let h = c.in-Ok-add_directory.ensures in
-    let vacant = vacant_so c.requires.may (g.met.K.Blocks.sound c.args.disk.now) c.requires.named e.looks e.found e.none c.in-None.is in
+    let vacant = vacant_so c.requires.may (g.met.K.Blocks.sound c.args.disk.now) e.named e.looks e.found e.none c.in-None.is in
     record {
       answer = λ t. answers_on e.looks t (h.answer t c.args.path.now (vacant t));
       changes = changes_on c.requires.may.valid e.looks (h.changes c.args.path.now vacant);
@@ -57,7 +57,7 @@ pub returns-in-Err-add_directory : goal.returns-in-Err-add_directory
 returns-in-Err-add_directory g c =
     let e = c.in-Ok.ensures in
     let h = c.in-Err-add_directory.ensures in
-    let vacant = vacant_so c.requires.may (g.met.K.Blocks.sound c.args.disk.now) c.requires.named e.looks e.found e.none c.in-None.is in
+    let vacant = vacant_so c.requires.may (g.met.K.Blocks.sound c.args.disk.now) e.named e.looks e.found e.none c.in-None.is in
     record {
       answer = λ t. answers_on e.looks t (h.answer t c.args.path.now (vacant t));
       changes = changes_on c.requires.may.valid e.looks (h.changes c.args.path.now vacant);

@@ -50,7 +50,7 @@ store-requires g c =
       valid = λ t. (k.looks.looked t).0.valid;
       dir = e.dir;
       short = e.short;
-      puts = λ t. (c.args.path.now, puts_so c.requires.may (g.met.K.Blocks.sound c.args.disk.now) c.requires.named e.looks e.found e.none k.looks k.no_dir t);
+      puts = λ t. (c.args.path.now, puts_so c.requires.may (g.met.K.Blocks.sound c.args.disk.now) e.named e.looks e.found e.none k.looks k.no_dir t);
     }
 
 pub returns-in-Ok-store : goal.returns-in-Ok-store
@@ -59,7 +59,7 @@ returns-in-Ok-store g c =
     let k = c.in-Ok-check_old.ensures in
     let h = c.in-Ok-store.ensures in
     let looks = then_looks _ _ _ _ _ _ e.looks k.looks in
-    let puts = puts_so c.requires.may (g.met.K.Blocks.sound c.args.disk.now) c.requires.named e.looks e.found e.none k.looks k.no_dir in
+    let puts = puts_so c.requires.may (g.met.K.Blocks.sound c.args.disk.now) e.named e.looks e.found e.none k.looks k.no_dir in
     record {
       answer = λ t. answers_on looks t (h.answer t c.args.path.now (puts t));
       changes = changes_on c.requires.may.valid looks (h.changes c.args.path.now puts);
@@ -71,7 +71,7 @@ returns-in-Err-store g c =
     let k = c.in-Ok-check_old.ensures in
     let h = c.in-Err-store.ensures in
     let looks = then_looks _ _ _ _ _ _ e.looks k.looks in
-    let puts = puts_so c.requires.may (g.met.K.Blocks.sound c.args.disk.now) c.requires.named e.looks e.found e.none k.looks k.no_dir in
+    let puts = puts_so c.requires.may (g.met.K.Blocks.sound c.args.disk.now) e.named e.looks e.found e.none k.looks k.no_dir in
     record {
       answer = λ t. answers_on looks t (h.answer t c.args.path.now (puts t));
       changes = changes_on c.requires.may.valid looks (h.changes c.args.path.now puts);

@@ -11,6 +11,7 @@ returns-in-empty g c =
     let told = g.K.Blocks.told in
     let old = g.K.Blocks.view c.args.disk.now in
     record {
+      named = c.as_slice.ensures.named;
       dir = tt;
       short = tt;
       found = λ t. tt;
@@ -28,6 +29,7 @@ returns-in-Err g c =
     let xs = c.as_slice.result.now in
     let whole : c.args.path.now ≡ take (length xs - 1) xs ++ c.last-item.result ∷ [] = sym c.as_slice.ensures.value ∙ last_of xs c.last-item.result c.in-len1-up.len_at_least c.last-item.is in
     record {
+      named = c.as_slice.ensures.named;
       dir = tt;
       short = tt;
       found = λ t. tt;
@@ -45,6 +47,7 @@ returns-in-Ok g c =
     let whole : c.args.path.now ≡ take (length xs - 1) xs ++ c.last-item.result ∷ [] = sym c.as_slice.ensures.value ∙ last_of xs c.last-item.result c.in-len1-up.len_at_least c.last-item.is in
     let e = c.in-Ok.ensures in
     record {
+      named = c.as_slice.ensures.named;
       dir = e.dir;
       short = subst (λ n. length n ≤ 28) (sym c.as_slice-name.ensures.value) c.as_slice-name.ensures.fits;
       found = λ t. place_is c.args.client.now new c.args.path.now (take (length xs - 1) xs) c.last-item.result _ whole c.as_slice-name.ensures.value (e.found t) c.entry-old.ensures;

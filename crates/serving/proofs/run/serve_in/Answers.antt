@@ -4,7 +4,8 @@ use Rattle.image_device.proofs.Parts.{part_stays}
 use Rattle.tsd_words.specs.declared.status.Status.TheVariants as status
 use Rattle.serving.proofs.Aside.{aside_then}
 use Rattle.serving.proofs.Inputs.{came_first, came_then, handed_first, asked_stopped}
-use Rattle.serving.proofs.Steps.{served_of, ends_now, goes_first, goes_next, ends_stopped, ends_done, ends_close_fault, ends_longer, prompt_done, prompt_stopped, ran_of}
+use Rattle.serving.proofs.Steps.{served_of, ends_now, goes_first, goes_next, ends_stopped, ends_done, ends_close_fault, ends_longer, not_cut, prompt_done, prompt_stopped, ran_of}
+use Rattle.serving.proofs.Still.{still_first, still_next}
 use Rattle.serving.specs.Prompt.{IsOfPort}
 use Rattle.serving.specs.Ran.{taking, moments}
 use Rattle.serving.proofs.run.serve_in.Goals as goal
@@ -18,6 +19,7 @@ loop-server-init g c = record {
   lender = refl;
   aside = refl;
   aside_kept = λ told. part_stays (g.H.Server.aside c.args.server.now) (g.P.Device.view c.args.port.now) (g.met.P.Device.sound c.args.port.now told) (c.requires.at told).0;
+  still = λ told ends. still_first (g.P.Device.view c.args.port.now) (g.met.P.Device.sound c.args.port.now told) (c.requires.at told).0;
   ready = c.requires.ready;
   at = c.requires.at;
   once = omega (arith, c.requires.room.ends);
@@ -45,6 +47,9 @@ loop-server-preserved g c =
       lender = c.answer.ensures.lender ∙ i.lender;
       aside = c.answer.ensures.aside ∙ i.aside;
       aside_kept = λ told. aside_then (g.H.Server.aside c.args.server.now) (g.H.Server.aside c.loop-server.server) (g.P.Device.view c.args.port.now) (g.P.Device.view c.loop-server.port) (g.P.Device.view c.answer.new.port) (g.met.P.Device.sound c.loop-server.port told) i.aside (i.aside_kept told) (c.answer.ensures.aside_kept told);
+      still = λ told ends.
+          let a = c.in-Ok.ensures.answered told in
+          still_next g.H.Server.service g.met.H.Server.counted _ _ _ a.0 a.1 (g.P.Device.view c.args.port.now) (g.P.Device.view c.loop-server.port) (g.P.Device.view c.answer.new.port) (i.still told ends) (c.in-Ok.ensures.still told ends) a.2;
       ready = c.answer.ensures.ready (ok_not_err c.answer.result _ _ c.in-Ok.is);
       at = c.answer.ensures.at (ok_not_err c.answer.result _ _ c.in-Ok.is);
       once = omega (arith, i.once, c.in-Request.ensures.later refl);
@@ -193,3 +198,15 @@ pub returns-in-Err-close-clause-aside_kept : goal.returns-in-Err-close-clause-as
 returns-in-Err-close-clause-aside_kept g c told =
     let i = c.loop-server.invariant in
     aside_then (g.H.Server.aside c.args.server.now) (g.H.Server.aside c.loop-server.server) (g.P.Device.view c.args.port.now) (g.P.Device.view c.loop-server.port) (g.P.Device.view c.close.new.dev) (g.met.P.Device.sound c.loop-server.port told) i.aside (i.aside_kept told) (c.close.ensures.aside_kept told)
+
+pub returns-in-Err-clause-still : goal.returns-in-Err-clause-still
+returns-in-Err-clause-still g c told ends cut = absurd (not_cut c.in-Err.why c.in-Err.ensures.stops cut)
+
+pub returns-in-CutOff-clause-still : goal.returns-in-CutOff-clause-still
+returns-in-CutOff-clause-still g c told ends cut = c.loop-server.invariant.still told ends
+
+pub returns-in-Fault-clause-still : goal.returns-in-Fault-clause-still
+returns-in-Fault-clause-still g c told ends cut = c.loop-server.invariant.still told ends
+
+pub returns-in-TooLong-clause-still : goal.returns-in-TooLong-clause-still
+returns-in-TooLong-clause-still g c told ends cut = c.loop-server.invariant.still told ends

@@ -2,7 +2,7 @@ use Rattle.std.proofs.Common.{◌≡◌, ◌≤◌, ◌+◌, ℕ, List}
 use Rattle.image_device.specs.Runs.{LeavesPart}
 use Rattle.serving.specs.Goes.{Goes, Handed, ends_left, remaining}
 use Rattle.serving.specs.Handling.{FitsDevice}
-use Rattle.serving.specs.Prompt.{IsOfPort}
+use Rattle.serving.specs.Prompt.{EndsBySending, IsOfPort}
 use Rattle.serving.specs.Ran.{Came, IsAtEnd}
 use Rattle.serving.proofs.run.serve_in.Given as goal
 
@@ -16,6 +16,7 @@ invariant-loop-server g l =
       lender : g.H.Server.lender l.server ≡ g.H.Server.lender l.initial.server;
       aside : g.H.Server.aside l.server ≡ g.H.Server.aside l.initial.server;
       aside_kept : g.P.Device.told → LeavesPart (g.H.Server.aside l.initial.server) start (view l.port);
+      still : g.P.Device.told → g.H.Server.ends_by_sending → EndsBySending start (view l.port);
       ready : g.H.Server.is_ready l.server;
       at : g.P.Device.told → FitsDevice (g.H.Server.holds l.server) (view l.port);
       once : g.S.Source.ends l.source + ends_left l.intake ≤ g.S.Source.ends before + 1;

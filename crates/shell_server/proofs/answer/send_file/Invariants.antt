@@ -1,6 +1,5 @@
 use Rattle.std.proofs.Common.{◌≡◌, ℕ, ◌-◌, ◌<◌, List, ◌++◌, length, take, IfSome}
-use Rattle.shell_server.proofs.Common.{encode_lower, bytes, is_empty, data_head, shell_step, shell_state, IsSpeaking}
-use Rattle.shell_server.specs.Places.{disk_state}
+use Rattle.shell_server.proofs.Common.{encode_lower, bytes, is_empty, data_head, shell_step, shell_state, IsSpeaking, disk_state}
 use Rattle.fs_trees.specs.declared.ask.ShellAsk.TheVariants as ask
 use Rattle.shell_server.proofs.answer.send_file.Given as goal
 

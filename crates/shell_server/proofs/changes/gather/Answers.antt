@@ -1,5 +1,5 @@
 use Rattle.std.proofs.Common.{◌≡◌, ℕ, sym}
-use Rattle.gathered_tasks.specs.Blocks.{There}
+use Rattle.shell_server.proofs.Common.{There}
 use Rattle.shell_server.proofs.GatheredLaws.{gathered_as}
 use Rattle.shell_server.proofs.changes.gather.Goals as goal
 

@@ -1,6 +1,5 @@
 use Rattle.std.proofs.Common.{◌≡◌, List, ℕ, IfSome}
-use Rattle.shell_server.proofs.Common.{Name, listed, shell_step, shell_state, IsSpeaking}
-use Rattle.fs_walks.specs.Nexts.{AreBehind}
+use Rattle.shell_server.proofs.Common.{Name, listed, shell_step, shell_state, IsSpeaking, AreBehind}
 use Rattle.fs_trees.specs.declared.ask.ShellAsk.TheVariants as ask
 use Rattle.shell_server.proofs.LsLaws.{IsSaid}
 use Rattle.shell_server.proofs.listing.send_names.Given as goal

@@ -1,7 +1,6 @@
 use Rattle.std.proofs.Common.{IfSome, Some, sym, subst}
 use Rattle.fs_trees.specs.declared.ask.ShellAsk.TheVariants as ask
-use Rattle.fs_walks.specs.Nexts.{AreBehind, TellsNames}
-use Rattle.shell_server.proofs.Common.{ShellState, TellsNext, shell_state, shell_step}
+use Rattle.shell_server.proofs.Common.{ShellState, TellsNext, shell_state, shell_step, AreBehind}
 use Rattle.shell_server.proofs.AheadLaws.{looked_ahead, looked_for, read_first, taken_first}
 use Rattle.shell_server.proofs.look.next_on.Goals as goal
 
@@ -22,7 +21,7 @@ returns-in-Ok-clause-looked g c =
     let after = c.args.after.now in
     let read = c.names_on.new.into.items in
     let pop = c.pop_at-in-Ok in
-    looked_for g.D.Device.told g.K.Started.start q f (g.F.Files.view c.names_on.new.files) c.args.core.now c.names_on.new.core v (g.D.Device.view c.names_on.new.dev) (λ x. TellsNames after read) (TellsNext after) c.in-Ok.field-0 pop.result c.in-Ok.ensures
+    looked_for g.D.Device.told g.K.Started.start q (TellsNext after) c.in-Ok.field-0 pop.result c.in-Ok.ensures
     (λ told. (read_first after read pop.new.self.items pop.result (shell_step (shell_state f v.reads) q).answer pop.ensures.value pop.ensures.items (c.in-Ok.ensures.read told)).0)
 
 pub returns-in-Ok-clause-ahead : goal.returns-in-Ok-clause-ahead

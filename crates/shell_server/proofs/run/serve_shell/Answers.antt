@@ -12,3 +12,6 @@ returns-clause-at g c other told =
 
 pub returns-clause-spent : goal.returns-clause-spent
 returns-clause-spent g c failed = subst (λ (d : Core). d.volume.is_spent ≡ true) (sym (c.core-1.given.1 (sym c.serve.ensures.lender))) (c.serve.ensures.spent failed)
+
+pub returns-clause-still : goal.returns-clause-still
+returns-clause-still g c told cut = c.serve.ensures.still told tt cut

@@ -1,10 +1,9 @@
-use Rattle.std.proofs.Common.{◌≡◌, ◌<◌, ◌∙◌, ℕ, List, [], ◌∷◌, Option, length, take, ap, subst, arith}
+use Rattle.std.proofs.Common.{◌≡◌, ◌<◌, ◌∙◌, ℕ, List, [], ◌∷◌, Option, length, take, ap, arith}
 use Rattle.std.proofs.lemmas.Bool.Decides.{nat_tests}
 use Rattle.script_text.specs.Grammar.{held_max}
 use Rattle.script_text.specs.Pieces.{unended}
 use Rattle.image_audit.specs.declared.listing.Listing.{Listing}
 use Rattle.image_audit.specs.ListingReading.{listing_of}
-use Rattle.serving.specs.declared.protocol.Ending.{Ending}
 use Rattle.serving.specs.declared.protocol.Ending.TheVariants.{One}
 use Rattle.audit_runs.specs.Lines.{listing_ending}
 use Rattle.audit_runs.proofs.lines.ListingLinesProtocol.ending.Goals as goal

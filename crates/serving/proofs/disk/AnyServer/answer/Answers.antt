@@ -125,3 +125,6 @@ returns-in-Err-settle_some-clause-aside_kept g c told =
     aside_then (g.H.Handler.aside c.args.self.now) (g.H.Handler.aside c.apply.new.self) v0 v2 v3 (g.met.P.Device.sound c.put_reply.new.port told) c.apply.ensures.aside
     (aside_put (g.H.Handler.aside c.args.self.now) _ v0 v1 v2 (g.met.P.Device.sound c.apply.new.dev told) (c.in-Ok.ensures.at told).0 (c.apply.ensures.aside_kept told) (c.put_reply.ensures.any_moment told))
     (c.settle_some.ensures.aside_kept told)
+
+pub returns-in-Ok-settle_some-clause-still : goal.returns-in-Ok-settle_some-clause-still
+returns-in-Ok-settle_some-clause-still g c told ends = absurd ends

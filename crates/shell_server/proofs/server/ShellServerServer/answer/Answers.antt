@@ -18,3 +18,6 @@ returns-clause-aside g c = ap behind c.answer_file.ensures.served.behind.size
 
 pub returns-clause-aside_kept : goal.returns-clause-aside_kept
 returns-clause-aside_kept g c = c.answer_file.ensures.served.behind.any_moment
+
+pub returns-clause-still : goal.returns-clause-still
+returns-clause-still g c told all = c.answer_file.ensures.served.still told

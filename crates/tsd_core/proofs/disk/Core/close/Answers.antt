@@ -1,5 +1,5 @@
 use Rattle.std.proofs.Common.{◌≡◌, [], sym, ◌∙◌, ap, subst, arith}
-use Rattle.tsd_core.proofs.Common.{Ok, Err, OnOk, IsErrAnd, on_ok, IsVolumeAt, IsVolumeReady, Volume, told_by, world_on, owed, due, IsPaid, either_same, Core, IsCoreAt, told_world, HasSameData, KeepsData, data_then, LeavesOnly, LeavesPart, behind, Failed, View, Geometry}
+use Rattle.tsd_core.proofs.Common.{Ok, Err, IsErrAnd, on_ok, IsVolumeAt, IsVolumeReady, Volume, told_by, world_on, owed, due, IsPaid, either_same, Core, IsCoreAt, told_world, HasSameData, KeepsData, data_then, LeavesOnly, LeavesPart, behind, Failed, View, Geometry}
 use Rattle.std.specs.Prelude.{Result}
 use Rattle.volume_laws.proofs.QuietLaws.{quiet_at}
 use Rattle.tsd_core.proofs.AtLaws.{at_volume}
@@ -7,10 +7,7 @@ use Rattle.tsd_core.proofs.Operations.{then_ok}
 use Rattle.tsd_core.proofs.Settling.{owes_no_more, owing_joined, ready_still, state_still, told_still, worlds_joined}
 use Rattle.tsd_core.proofs.BehindLaws.{leaves_behind}
 use Rattle.tsd_core.proofs.disk.Core.close.Goals as goal
-
-all_ok : {T E A B C P : Type 0} (r : Result T E) → (A → B → C → P) → OnOk r A → OnOk r B → OnOk r C → OnOk r P
-all_ok (Ok x) f a b c = f a b c
-all_ok (Err e) f a b c = tt
+use Rattle.tsd_core.proofs.Settling.{all_ok}
 
 pub returns-in_err-settle_all-clause-debt : goal.returns-in_err-settle_all-clause-debt
 returns-in_err-settle_all-clause-debt g c = λ told.

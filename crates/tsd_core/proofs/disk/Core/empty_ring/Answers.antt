@@ -1,14 +1,11 @@
 use Rattle.std.proofs.Common.{◌≡◌, [], ◌+◌, ◌≤◌, ◌∙◌, sym, ap, subst}
-use Rattle.tsd_core.proofs.Common.{Ok, Err, OnOk, Volume, IsVolumeReady, either_same, told_by, world_on, Core, IsCoreAt, told_world, LeavesPart, behind, owed, checkpoint_writes}
+use Rattle.tsd_core.proofs.Common.{Volume, IsVolumeReady, either_same, told_by, world_on, Core, IsCoreAt, told_world, LeavesPart, behind, owed, checkpoint_writes}
 use Rattle.std.specs.Prelude.{Result}
 use Rattle.tsd_core.proofs.Settling.{ready_still, state_still, told_still}
 use Rattle.tsd_core.proofs.Operations.{then_ok}
 use Rattle.tsd_core.proofs.BehindLaws.{leaves_behind}
 use Rattle.tsd_core.proofs.disk.Core.empty_ring.Goals as goal
-
-also_ok : {T E A B P : Type 0} (r : Result T E) → (A → B → P) → OnOk r A → OnOk r B → OnOk r P
-also_ok (Ok x) f a b = f a b
-also_ok (Err e) f a b = tt
+use Rattle.tsd_core.proofs.Settling.{also_ok}
 
 pub returns-clause-ready : goal.returns-clause-ready
 returns-clause-ready g c =

@@ -1,18 +1,11 @@
 use Rattle.std.proofs.Common.{◌≡◌, [], ◌+◌, ◌<◌, ◌≤◌, ◌∙◌, sym, ap, subst, arith}
-use Rattle.tsd_core.proofs.Common.{Ok, Err, IfOk, OnOk, either_same, told_by, world_on, Core, IsCoreAt, told_world, LeavesPart, behind, owed, checkpoint_writes, batch_cost}
+use Rattle.tsd_core.proofs.Common.{IfOk, OnOk, either_same, told_by, world_on, Core, IsCoreAt, told_world, LeavesPart, behind, owed, checkpoint_writes, batch_cost}
 use Rattle.std.specs.Prelude.{Result, Bool, true, false}
 use Rattle.tsd_core.proofs.Settling.{ready_still, state_still, told_still}
 use Rattle.tsd_core.proofs.Operations.{then_ok}
 use Rattle.tsd_core.proofs.BehindLaws.{leaves_behind}
 use Rattle.tsd_core.proofs.disk.Core.settle_one.Goals as goal
-
-also_ok : {T E A B P : Type 0} (r : Result T E) → (A → B → P) → OnOk r A → OnOk r B → OnOk r P
-also_ok (Ok x) f a b = f a b
-also_ok (Err e) f a b = tt
-
-all_ok : {T E A B C P : Type 0} (r : Result T E) → (A → B → C → P) → OnOk r A → OnOk r B → OnOk r C → OnOk r P
-all_ok (Ok x) f a b c = f a b c
-all_ok (Err e) f a b c = tt
+use Rattle.tsd_core.proofs.Settling.{also_ok, all_ok}
 
 pub returns-clause-ready : goal.returns-clause-ready
 returns-clause-ready g c =
