@@ -6,7 +6,8 @@ ghost use Rattle.image_audit.specs.Listing.{IsListing};
 ghost use Rattle.image_audit.specs.ListingReading.{listing_in, listing_of};
 
 use crate::entry::Entry;
-use crate::words::Words;
+use crate::words::{name_in, parent_in};
+use script_text::Words;
 
 /// What a line of a certificate says: a block, and its entry.
 #[derive(Clone, Copy, Debug, PartialEq, Eq)]
@@ -33,12 +34,12 @@ pub fn parse_listing(line: &[u8]) -> Option<Listing>
 fn read_listing(mut words: Words) -> Option<Listing>
     ensures { result ≡ listing_in words.entry }
 {
-    words.name(b"block".as_slice())?;
+    name_in(&mut words, b"block".as_slice())?;
     let block = words.number()?;
-    words.name(b"depth".as_slice())?;
+    name_in(&mut words, b"depth".as_slice())?;
     let depth = words.number()?;
-    words.name(b"parent".as_slice())?;
-    let parent = words.parent()?;
+    name_in(&mut words, b"parent".as_slice())?;
+    let parent = parent_in(&mut words)?;
     if !words.is_empty() {
         return None;
     }

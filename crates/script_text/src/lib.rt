@@ -40,3 +40,4 @@ pub use parse::parse_line;
 pub use replies::{print_reply, replies_part};
 pub use requests::print_request;
 pub use short::{ShortLine, put_short_line};
+pub use words::Words;

@@ -8,8 +8,9 @@ ghost use Rattle.shell_text.specs.Grammar.{IsShellLine};
 ghost use Rattle.shell_text.specs.Reading.{put_of, append_of, cat_of, ls_of, rm_of, make_dir_of, copy_of, of_inodes};
 ghost use Rattle.shell_text.specs.Reading.{named, asked, ask_of};
 
-use crate::words::ShellWords;
+use crate::words::{bytes_in, path_in};
 use fs_trees::{ShellAsk, ShellKind};
+use script_text::Words;
 use script_text::parse::LINE_MAX;
 
 /// The ask that a line spells for a layout, and Bad where it spells none. The line comes without its line feed.
@@ -36,14 +37,14 @@ fn read_line(kind: ShellKind, line: &[u8]) -> ShellAsk
     if line.len() > LINE_MAX {
         return ShellAsk::Bad;
     }
-    match asked(kind, ShellWords::of(line)) {
+    match asked(kind, Words::of(line)) {
         Some(ask) => ask,
         None => ShellAsk::Bad,
     }
 }
 
 #[tactic(auto, unfolding(crate::specs::Reading::asked))]
-fn asked(kind: ShellKind, mut words: ShellWords) -> Option<ShellAsk>
+fn asked(kind: ShellKind, mut words: Words) -> Option<ShellAsk>
     ensures { result ≡ asked kind words.entry }
 {
     let name = words.next()?;
@@ -52,7 +53,7 @@ fn asked(kind: ShellKind, mut words: ShellWords) -> Option<ShellAsk>
 
 /// The ask by its first word.
 #[tactic(auto, unfolding(crate::specs::Reading::named))]
-fn named(kind: ShellKind, name: &[u8], words: ShellWords) -> Option<ShellAsk>
+fn named(kind: ShellKind, name: &[u8], words: Words) -> Option<ShellAsk>
     ensures { result ≡ named kind name.now words.entry }
 {
     if name == b"mkfs".as_slice() {
@@ -79,62 +80,62 @@ fn named(kind: ShellKind, name: &[u8], words: ShellWords) -> Option<ShellAsk>
 }
 
 /// The ask, where no word is left.
-fn done(words: ShellWords, ask: ShellAsk) -> Option<ShellAsk>
+fn done(words: Words, ask: ShellAsk) -> Option<ShellAsk>
     ensures { result ≡ ends words.entry ask }
 {
     if words.is_empty() { Some(ask) } else { None }
 }
 
 #[tactic(auto, unfolding(crate::specs::Reading::put_of))]
-fn put(mut words: ShellWords) -> Option<ShellAsk>
+fn put(mut words: Words) -> Option<ShellAsk>
     ensures { result ≡ put_of words.entry }
 {
-    let path = words.path()?;
-    let bytes = words.bytes()?;
+    let path = path_in(&mut words)?;
+    let bytes = bytes_in(&mut words)?;
     done(words, ShellAsk::Put { path, bytes })
 }
 
 #[tactic(auto, unfolding(crate::specs::Reading::append_of))]
-fn append(mut words: ShellWords) -> Option<ShellAsk>
+fn append(mut words: Words) -> Option<ShellAsk>
     ensures { result ≡ append_of words.entry }
 {
-    let path = words.path()?;
-    let bytes = words.bytes()?;
+    let path = path_in(&mut words)?;
+    let bytes = bytes_in(&mut words)?;
     done(words, ShellAsk::Append { path, bytes })
 }
 
 #[tactic(auto, unfolding(crate::specs::Reading::cat_of))]
-fn cat(mut words: ShellWords) -> Option<ShellAsk>
+fn cat(mut words: Words) -> Option<ShellAsk>
     ensures { result ≡ cat_of words.entry }
 {
-    let path = words.path()?;
+    let path = path_in(&mut words)?;
     done(words, ShellAsk::Cat { path })
 }
 
 #[tactic(auto, unfolding(crate::specs::Reading::ls_of))]
-fn ls(mut words: ShellWords) -> Option<ShellAsk>
+fn ls(mut words: Words) -> Option<ShellAsk>
     ensures { result ≡ ls_of words.entry }
 {
-    let path = words.path()?;
+    let path = path_in(&mut words)?;
     done(words, ShellAsk::Ls { path })
 }
 
 #[tactic(auto, unfolding(crate::specs::Reading::rm_of))]
-fn rm(mut words: ShellWords) -> Option<ShellAsk>
+fn rm(mut words: Words) -> Option<ShellAsk>
     ensures { result ≡ rm_of words.entry }
 {
-    let path = words.path()?;
+    let path = path_in(&mut words)?;
     done(words, ShellAsk::Rm { path })
 }
 
 /// A new directory: inodes alone have those.
 #[tactic(auto, unfolding(crate::specs::Reading::make_dir_of))]
-fn make_dir(kind: ShellKind, mut words: ShellWords) -> Option<ShellAsk>
+fn make_dir(kind: ShellKind, mut words: Words) -> Option<ShellAsk>
     ensures { result ≡ of_inodes kind make_dir_of words.entry }
 {
     match kind {
         ShellKind::Inode => {
-            let path = words.path()?;
+            let path = path_in(&mut words)?;
             done(words, ShellAsk::MakeDir { path })
         }
         ShellKind::Chain => None,
@@ -143,13 +144,13 @@ fn make_dir(kind: ShellKind, mut words: ShellWords) -> Option<ShellAsk>
 
 /// A copy: inodes alone have those.
 #[tactic(auto, unfolding(crate::specs::Reading::copy_of))]
-fn copy(kind: ShellKind, mut words: ShellWords) -> Option<ShellAsk>
+fn copy(kind: ShellKind, mut words: Words) -> Option<ShellAsk>
     ensures { result ≡ of_inodes kind copy_of words.entry }
 {
     match kind {
         ShellKind::Inode => {
-            let path = words.path()?;
-            let new = words.path()?;
+            let path = path_in(&mut words)?;
+            let new = path_in(&mut words)?;
             done(words, ShellAsk::Copy { path, new })
         }
         ShellKind::Chain => None,
